@@ -1,0 +1,14 @@
+-- Tests joined, taken apart. Assumes nothing.
+use mathlib.Core.Path.{_≡_, refl}
+use mathlib.Core.Bool.{Bool, true, false, _&&_, false≢true}
+
+pub both : (a b : Bool) → (a && b) ≡ true → (a ≡ true) × (b ≡ true)
+both true b e = (refl, e)
+both false b e = absurd (false≢true e)
+
+-- two tests that pass together are the same
+pub alike : (a b : Bool) → (a ≡ true → b ≡ true) → (b ≡ true → a ≡ true) → a ≡ b
+alike true true f g = refl
+alike true false f g = absurd (false≢true (f refl))
+alike false true f g = g refl
+alike false false f g = refl

@@ -1,0 +1,8 @@
+-- Document 01's answers. Assumes nothing.
+use mathlib.Core.List.{List}
+use Prim.Native.Nat.{ℕ}
+
+-- success with the values that it returns, or a number of the table "Answers other than success" with those that stand beside it
+pub data Answer : Type 0 where
+  success : List ℕ → Answer
+  refusal : ℕ → List ℕ → Answer

@@ -1,0 +1,5 @@
+pub mod Quoted
+pub mod Texts
+pub mod Numbers
+pub mod Buffers
+pub mod Answers

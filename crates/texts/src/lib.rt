@@ -1,0 +1,4 @@
+// Byte texts and lent buffers: what every layer above asks of them. Each function takes any arguments.
+pub mod buffers;
+pub mod numbers;
+pub mod texts;
