@@ -1,0 +1,7 @@
+pub mod Windows
+pub mod Sheets
+pub mod Tables
+pub mod Ways
+pub mod On
+pub mod Means
+pub mod Judging

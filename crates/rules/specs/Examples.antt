@@ -1,0 +1,75 @@
+-- Document 01's starred examples as one table, shown true of the definitions by one computation. Assumes nothing.
+use mathlib.Core.Path.{_≡_, refl}
+use mathlib.Core.List.{List, [], _∷_, _++_, map}
+use Prim.Native.Nat.{ℕ, _-_}
+use Prim.Native.String.{String}
+use lib.ListN.{length, set, replicate}
+use Rattle.texts.specs.Quoted.{Text, bytes}
+use Rattle.texts.specs.Texts.{every, any, same, between, are, among, valueOf, value, number, _isOneOf_, _beginsOneOf_}
+use Rattle.texts.specs.Answers.{Answer, success, refusal}
+use Rattle.rules.specs.Sheet.{slotOf, cellText, cellOk, cellOf, textOf, slotOk, _⟨_⟩}
+use Rattle.rules.specs.Forms.{person, document, leap, monthDays, gregorian, date}
+use Rattle.rules.specs.Rules.{classOf, given, firstBlank, rules, testOf, fieldOf, keeps, firstBroken}
+use Rattle.rules.specs.Verdicts.{judged, checked}
+
+infix 20 _≔_
+-- the text of a field
+abbrev Change : Type 0
+Change = ℕ × Text
+
+_≔_ : ℕ → String → Change
+f ≔ q = (f, bytes q)
+
+-- the texts of a sheet's slots with some changed, and the sheet of texts
+changed : List Text → List Change → List Text
+changed ts [] = ts
+changed ts (c ∷ cs) = changed (set ts (slotOf (c .0)) (c .1)) cs
+
+sheetOf : List Text → List ℕ
+sheetOf [] = []
+sheetOf (t ∷ ts) = length t ∷ (t ++ replicate (25 - length t) 0) ++ sheetOf ts
+
+s : List Text
+s =
+    changed (replicate 15 [])
+    ((14 ≔ "004525987")
+    ∷ (15 ≔ "40102810845370000004")
+    ∷ (17 ≔ "03100643000000014800")
+    ∷ (22 ≔ "0")
+    ∷ (60 ≔ "7701569743")
+    ∷ (61 ≔ "6730054024")
+    ∷ (101 ≔ "01")
+    ∷ (102 ≔ "770301001")
+    ∷ (103 ≔ "772801001")
+    ∷ (104 ≔ "18201061201010000510")
+    ∷ (105 ≔ "0") ∷ (106 ≔ "0") ∷ (107 ≔ "0") ∷ (108 ≔ "0") ∷ (109 ≔ "0")
+    ∷ [])
+
+-- "accepted", with the class; the field and the rule
+accepted : String → Answer
+accepted q = success (bytes q)
+
+broken : ℕ → ℕ → Answer
+broken f r = refusal 8 (f ∷ r ∷ [])
+
+-- "Differences from S", and the answer
+table : List (List Change × Answer)
+table =
+    ([], accepted "A")
+    ∷ ((102 ≔ "0") ∷ [], accepted "A")
+    ∷ ((101 ≔ "08") ∷ (102 ≔ "0") ∷ [], broken 102 27)
+    ∷ ((101 ≔ "02") ∷ [], broken 101 10)
+    ∷ ((101 ≔ "31") ∷ [], broken 17 20)
+    ∷ ((17 ≔ "03212643000000014800") ∷ (101 ≔ "31") ∷ (22 ≔ "1234") ∷ [], broken 22 21)
+    ∷ ((101 ≔ "13") ∷ (60 ≔ "12345") ∷ [], broken 60 24)
+    ∷ ((101 ≔ "24") ∷ (60 ≔ "0") ∷ (102 ≔ "0") ∷ (108 ≔ "14;11223344595") ∷ [], accepted "A")
+    ∷ ((101 ≔ "24") ∷ (60 ≔ "0") ∷ (102 ≔ "0") ∷ (108 ≔ "0") ∷ [], broken 108 25)
+    ∷ ((14 ≔ "044525000") ∷ (15 ≔ "") ∷ (17 ≔ "40503810000004000000") ∷ [], accepted "B")
+    ∷ ((14 ≔ "044525000") ∷ (15 ≔ "") ∷ (17 ≔ "40503810000000000000") ∷ [], broken 101 4)
+    ∷ ((101 ≔ "06") ∷ (107 ≔ "10000000") ∷ (106 ≔ "00") ∷ (108 ≔ "00") ∷ (109 ≔ "00") ∷ [], accepted "A")
+    ∷ ((101 ≔ "06") ∷ (107 ≔ "10000000") ∷ (106 ≔ "00") ∷ (108 ≔ "00") ∷ (109 ≔ "0") ∷ [], broken 109 34)
+    ∷ []
+
+examples : map (λ (e : List Change × Answer). checked (sheetOf (changed s (e .0)))) table ≡ map (λ (e : List Change × Answer). e .1) table
+unfolding _≔_ changed sheetOf s accepted broken table every any same between are among valueOf value number _isOneOf_ _beginsOneOf_ slotOf cellText cellOk cellOf textOf slotOk _⟨_⟩ person document leap monthDays gregorian date classOf given firstBlank rules testOf fieldOf keeps firstBroken judged checked
+examples = refl

@@ -1,0 +1,244 @@
+-- Classes and rules 1 to 34 (document 01, "Rules"), judged knowing sheets only. Assumes nothing.
+use mathlib.Core.Bool.{Bool, true, false, not, cond, _&&_, _||_}
+use mathlib.Core.List.{List, [], _∷_, _++_, map}
+use Prim.Native.Nat.{ℕ}
+use Prim.Native.String.{String}
+use lib.Dec.{eqb}
+use lib.ListN.{getD}
+use Rattle.texts.specs.Quoted.{Text}
+use Rattle.texts.specs.Texts.{every, between, blank, _is_, _isOneOf_, _begins_, _beginsOneOf_, digits, digitsNotZero}
+use Rattle.rules.specs.Sheet.{fieldIn, slotOf, textOf, _⟨_⟩}
+use Rattle.rules.specs.Forms.{_⇒_, uin, foreignCode, inn10, inn12, inn, kpp, statuses, customsGroup, letterPair, person, document, date}
+use Rattle.rules.specs.declared.Class.{Class}
+use Rattle.rules.specs.declared.Class.the-variants.{A, B, O}
+
+abbrev pub Sheet : Type 0
+Sheet = List ℕ
+
+-- ---- for every sheet
+
+abbrev pub rule1 : Sheet → Bool
+rule1 s = digits 9 (s ⟨ 14 ⟩)
+
+abbrev pub rule2 : Sheet → Bool
+rule2 s = blank (s ⟨ 15 ⟩) || digits 20 (s ⟨ 15 ⟩)
+
+abbrev pub rule3 : Sheet → Bool
+rule3 s = digits 20 (s ⟨ 17 ⟩)
+
+-- "With 1 to 3 kept, a sheet has a class"
+abbrev pub classA : Sheet → Bool
+classA s =
+    s ⟨ 15 ⟩ begins "40102"
+    && s ⟨ 17 ⟩ beginsOneOf "03100 03212 03222 03232 03242 03252 03262 03272 03214 03224 03234 03244"
+
+abbrev pub classB : Sheet → Bool
+classB s =
+    between (s ⟨ 14 ⟩) 6 9 isOneOf "000 001 002 003 004 005"
+    && (s ⟨ 17 ⟩ begins "40204" || (s ⟨ 17 ⟩ beginsOneOf "40503 40603 40703" && between (s ⟨ 17 ⟩) 13 14 is "4"))
+
+unfoldable pub classOf : Sheet → Class
+classOf s = cond (classA s) A (cond (classB s) B O)
+
+-- "A budget payment is a sheet of class A or B"
+abbrev pub budget : Sheet → Bool
+budget s = classA s || classB s
+
+abbrev pub rule4 : Sheet → Bool
+rule4 s = not (budget s) ⇒ blank (s ⟨ 101 ⟩)
+
+-- ---- "the rest is for A and B"
+
+abbrev pub rule5 : Sheet → Bool
+rule5 s = classA s ⇒ between (s ⟨ 17 ⟩) 5 8 is "643"
+
+-- the slots of "22, 60, 61, 101 to 109"
+abbrev pub needed : List ℕ
+needed = map slotOf (22 ∷ 60 ∷ 61 ∷ 101 ∷ 102 ∷ 103 ∷ 104 ∷ 105 ∷ 106 ∷ 107 ∷ 108 ∷ 109 ∷ [])
+
+unfoldable pub given : Sheet → ℕ → Bool
+given s k = not (blank (textOf s k))
+
+abbrev pub rule6 : Sheet → Bool
+rule6 s = every (given s) needed
+
+abbrev pub rule7 : Sheet → Bool
+rule7 s = (s ⟨ 22 ⟩ is "0" || uin (s ⟨ 22 ⟩)) || (digitsNotZero 4 (s ⟨ 22 ⟩) && s ⟨ 17 ⟩ begins "03212")
+
+abbrev pub rule8 : Sheet → Bool
+rule8 s = (s ⟨ 60 ⟩ is "0" || foreignCode (s ⟨ 60 ⟩)) || inn (s ⟨ 60 ⟩)
+
+abbrev pub rule9 : Sheet → Bool
+rule9 s = inn10 (s ⟨ 61 ⟩)
+
+abbrev pub status : Sheet → String → Bool
+status s q = s ⟨ 101 ⟩ isOneOf q
+
+abbrev pub rule10 : Sheet → Bool
+rule10 s = status s statuses
+
+abbrev pub rule11 : Sheet → Bool
+rule11 s = s ⟨ 102 ⟩ is "0" || kpp (s ⟨ 102 ⟩)
+
+abbrev pub rule12 : Sheet → Bool
+rule12 s = kpp (s ⟨ 103 ⟩)
+
+abbrev pub rule13 : Sheet → Bool
+rule13 s = s ⟨ 104 ⟩ is "0" || digitsNotZero 20 (s ⟨ 104 ⟩)
+
+abbrev pub rule14 : Sheet → Bool
+rule14 s = s ⟨ 105 ⟩ is "0" || digitsNotZero 8 (s ⟨ 105 ⟩)
+
+abbrev pub rule15 : Sheet → Bool
+rule15 s = (s ⟨ 106 ⟩ is "0" || s ⟨ 106 ⟩ is "00") || letterPair (s ⟨ 106 ⟩)
+
+abbrev pub rule16 : Sheet → Bool
+rule16 s = s ⟨ 107 ⟩ is "0" || digits 8 (s ⟨ 107 ⟩)
+
+abbrev pub rule17 : Sheet → Bool
+rule17 s = document (s ⟨ 108 ⟩)
+
+abbrev pub rule18 : Sheet → Bool
+rule18 s = (s ⟨ 109 ⟩ is "0" || s ⟨ 109 ⟩ is "00") || date (s ⟨ 109 ⟩)
+
+abbrev pub rule19 : Sheet → Bool
+rule19 s = classA s && status s "01 04 06 07 13 16 17 28 30 32" ⇒ s ⟨ 17 ⟩ begins "03100"
+
+abbrev pub rule20 : Sheet → Bool
+rule20 s = classA s && status s "31" ⇒ s ⟨ 17 ⟩ begins "03212"
+
+abbrev pub rule21 : Sheet → Bool
+rule21 s = status s "31 33" ⇒ uin (s ⟨ 22 ⟩)
+
+abbrev pub rule22 : Sheet → Bool
+rule22 s = s ⟨ 17 ⟩ begins "03212" ⇒ not (s ⟨ 22 ⟩ is "0")
+
+abbrev pub rule23 : Sheet → Bool
+rule23 s =
+    (status s "01 32" ⇒ inn (s ⟨ 60 ⟩))
+    && ((status s "06 07" ⇒ inn10 (s ⟨ 60 ⟩)) && ((status s "17" ⇒ inn12 (s ⟨ 60 ⟩)) && (status s "30" ⇒ s ⟨ 60 ⟩ is "0")))
+
+abbrev pub rule24 : Sheet → Bool
+rule24 s = status s "13" ⇒ inn (s ⟨ 60 ⟩) || uin (s ⟨ 22 ⟩)
+
+abbrev pub rule25 : Sheet → Bool
+rule25 s =
+    status s "03 19 20 24"
+    ⇒ person (s ⟨ 108 ⟩) || (s ⟨ 108 ⟩ is "0" && (inn12 (s ⟨ 60 ⟩) || uin (s ⟨ 22 ⟩)))
+
+abbrev pub rule26 : Sheet → Bool
+rule26 s = status s "31 33" ⇒ s ⟨ 108 ⟩ is "0"
+
+abbrev pub rule27 : Sheet → Bool
+rule27 s =
+    (digits 12 (s ⟨ 60 ⟩) ⇒ s ⟨ 102 ⟩ is "0")
+    && ((digits 5 (s ⟨ 60 ⟩) ⇒ not (s ⟨ 102 ⟩ is "0")) && (digits 10 (s ⟨ 60 ⟩) ⇒ not (s ⟨ 102 ⟩ is "0") || status s "01"))
+
+abbrev pub rule28 : Sheet → Bool
+rule28 s = s ⟨ 17 ⟩ begins "03100" ⇒ not (s ⟨ 104 ⟩ is "0")
+
+abbrev pub customs : Sheet → Bool
+customs s = status s customsGroup
+
+abbrev pub rule29 : Sheet → Bool
+rule29 s = not (customs s) ⇒ s ⟨ 106 ⟩ is "0"
+
+abbrev pub rule30 : Sheet → Bool
+rule30 s = (customs s ⇒ digits 8 (s ⟨ 107 ⟩)) && (not (customs s) ⇒ s ⟨ 107 ⟩ is "0")
+
+abbrev pub rule31 : Sheet → Bool
+rule31 s = not (customs s) ⇒ s ⟨ 109 ⟩ is "0"
+
+abbrev pub rule32 : Sheet → Bool
+rule32 s = letterPair (s ⟨ 106 ⟩) ⇒ not (s ⟨ 108 ⟩ is "0")
+
+abbrev pub rule33 : Sheet → Bool
+rule33 s = s ⟨ 106 ⟩ is "00" ⇒ s ⟨ 108 ⟩ is "00"
+
+abbrev pub rule34 : Sheet → Bool
+rule34 s = (s ⟨ 109 ⟩ is "00" ⇒ s ⟨ 106 ⟩ is "00") && (s ⟨ 106 ⟩ is "00" ⇒ s ⟨ 109 ⟩ is "00")
+
+-- ---- the rules as data: number, "the field in brackets", test
+
+pub record Rule : Type 0 where
+  pub number : ℕ
+  pub field : Sheet → ℕ
+  pub test : Sheet → Bool
+
+abbrev pub rule : ℕ → ℕ → (Sheet → Bool) → Rule
+rule n f t = record { number = n; field = λ s. f; test = t }
+
+-- rule 6 names "the first blank one"
+unfoldable pub firstBlank : Sheet → List ℕ → ℕ
+firstBlank s [] = 0
+firstBlank s (k ∷ ks) = cond (given s k) (firstBlank s ks) (fieldIn k)
+
+abbrev pub general : List Rule
+general = rule 1 14 rule1 ∷ rule 2 15 rule2 ∷ rule 3 17 rule3 ∷ rule 4 101 rule4 ∷ []
+
+abbrev pub special : List Rule
+special =
+    rule 5 17 rule5
+    ∷ record { number = 6; field = λ s. firstBlank s needed; test = rule6 }
+    ∷ rule 7 22 rule7
+    ∷ rule 8 60 rule8
+    ∷ rule 9 61 rule9
+    ∷ rule 10 101 rule10
+    ∷ rule 11 102 rule11
+    ∷ rule 12 103 rule12
+    ∷ rule 13 104 rule13
+    ∷ rule 14 105 rule14
+    ∷ rule 15 106 rule15
+    ∷ rule 16 107 rule16
+    ∷ rule 17 108 rule17
+    ∷ rule 18 109 rule18
+    ∷ rule 19 17 rule19
+    ∷ rule 20 17 rule20
+    ∷ rule 21 22 rule21
+    ∷ rule 22 22 rule22
+    ∷ rule 23 60 rule23
+    ∷ rule 24 60 rule24
+    ∷ rule 25 108 rule25
+    ∷ rule 26 108 rule26
+    ∷ rule 27 102 rule27
+    ∷ rule 28 104 rule28
+    ∷ rule 29 106 rule29
+    ∷ rule 30 107 rule30
+    ∷ rule 31 109 rule31
+    ∷ rule 32 108 rule32
+    ∷ rule 33 108 rule33
+    ∷ rule 34 109 rule34
+    ∷ []
+
+abbrev pub forBudget : Rule → Rule
+forBudget r = record { number = r .number; field = r .field; test = λ s. budget s ⇒ r .test s }
+
+unfoldable pub rules : List Rule
+rules = general ++ map forBudget special
+
+-- "Tested in number order"
+abbrev pub order : List ℕ
+order =
+    1 ∷ 2 ∷ 3 ∷ 4 ∷ 5 ∷ 6 ∷ 7 ∷ 8 ∷ 9 ∷ 10 ∷ 11 ∷ 12 ∷ 13 ∷ 14 ∷ 15 ∷ 16 ∷ 17 ∷ 18 ∷ 19 ∷ 20 ∷ 21 ∷ 22 ∷ 23 ∷ 24 ∷ 25
+    ∷ 26 ∷ 27 ∷ 28 ∷ 29 ∷ 30 ∷ 31 ∷ 32 ∷ 33 ∷ 34 ∷ []
+
+-- the test and the field of the rule with a number
+unfoldable pub testOf : List Rule → ℕ → Sheet → Bool
+testOf [] n s = true
+testOf (r ∷ rs) n s = cond (eqb n (r .number)) (r .test s) (testOf rs n s)
+
+unfoldable pub fieldOf : List Rule → ℕ → Sheet → ℕ
+fieldOf [] n s = 0
+fieldOf (r ∷ rs) n s = cond (eqb n (r .number)) (r .field s) (fieldOf rs n s)
+
+-- a sheet keeps the rule with a number; it keeps all rules
+unfoldable pub keeps : Sheet → ℕ → Bool
+keeps s n = testOf rules n s
+
+unfoldable pub keepsAll : Sheet → Bool
+keepsAll s = every (keeps s) order
+
+-- the first broken one of some rules, 0 where none is
+unfoldable pub firstBroken : Sheet → List ℕ → ℕ
+firstBroken s [] = 0
+firstBroken s (n ∷ ns) = cond (keeps s n) (firstBroken s ns) n

@@ -1,0 +1,52 @@
+-- What checking a sheet answers. Assumes nothing.
+use mathlib.Core.Bool.{Bool, true, false, cond}
+use mathlib.Core.Path.{_≡_}
+use mathlib.Core.Logic.{_↔_}
+use mathlib.Core.List.{List, [], _∷_, _++_}
+use Prim.Native.Nat.{ℕ}
+use lib.Dec.{eqb}
+use Rattle.texts.specs.Quoted.{bytes}
+use Rattle.texts.specs.Texts.{every}
+use Rattle.texts.specs.Answers.{Answer, success, refusal}
+use Rattle.rules.specs.Sheet.{wellFormed}
+use Rattle.rules.specs.Rules.{Sheet, classOf, rules, order, fieldOf, keeps, keepsAll, firstBroken}
+use Rattle.rules.specs.declared.Class.{Class}
+use Rattle.rules.specs.declared.Class.the-variants.{A, B, O}
+use Rattle.rules.specs.declared.Verdict.{Verdict}
+use Rattle.rules.specs.declared.Verdict.the-variants.{Malformed, Broken, Accepted}
+
+-- "Acceptance returns the class"
+abbrev pub className : Class → List ℕ
+className A = bytes "A"
+className B = bytes "B"
+className O = bytes "O"
+
+-- document 01's number and values for each case of a verdict
+unfoldable pub verdictAnswer : Verdict → Answer
+verdictAnswer Malformed = refusal 1 []
+verdictAnswer (Broken f r) = refusal 8 (f .0 ∷ r .0 ∷ [])
+verdictAnswer (Accepted c) = success (className c)
+
+-- "the first broken one is named with the field in brackets"
+unfoldable pub judged : Sheet → ℕ → Answer
+judged s n = cond (eqb n 0) (success (className (classOf s))) (refusal 8 (fieldOf rules n s ∷ n ∷ []))
+
+unfoldable pub checked : Sheet → Answer
+checked s = cond (wellFormed s) (judged s (firstBroken s order)) (refusal 1 [])
+
+-- the promise of `check`, and what it means
+pub record Checked (s : Sheet) (v : Verdict) : Type 0 where
+  pub answer : verdictAnswer v ≡ checked s
+  -- "A well-formed sheet is accepted exactly when it keeps the rules"
+  pub accepted : wellFormed s ≡ true → (v ≡ Accepted (classOf s)) ↔ (keepsAll s ≡ true)
+  -- "else the answer is the first broken rule and its field": it is broken, and those before it in the order are kept
+  pub named :
+      wellFormed s ≡ true
+      → (keepsAll s ≡ true → ⊥)
+      → (before : List ℕ) × (n : ℕ) × (after : List ℕ)
+      × (order ≡ before ++ (n ∷ after))
+      × (every (keeps s) before ≡ true)
+      × (keeps s n ≡ false)
+      × (v ≡ Broken (record { 0 = fieldOf rules n s }) (record { 0 = n }))
+  -- "Malformed"
+  pub malformed : (v ≡ Malformed) ↔ (wellFormed s ≡ false)
