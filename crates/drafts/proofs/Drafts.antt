@@ -1,0 +1,222 @@
+-- What the functions of drafts come to, by each way out of them. Assumes nothing.
+use mathlib.Core.Path.{_≡_, refl, sym, ap, _∙_}
+use mathlib.Core.Logic.{⊎-elim}
+use mathlib.Core.Bool.{Bool, true, false, not}
+use mathlib.Core.List.{List, [], _∷_, _++_, List·Memᴰ, List·Memᴰ·append-cases, List·Memᴰ·eq-of-singleton, List·Memᴰ·not-nil}
+use Prim.Native.Nat.{ℕ, _+_, _-_, _*_, _<_, _≤_}
+use native.Mathlib.Nat.{zero-add}
+use native.Mathlib.Numerals.{add-one}
+use native.Mathlib.Omega.{arith}
+use borrow.Author.Tests.{lt-ltb, le-ltb, eq-eqb, ne-eqb, not-true, not-false}
+use borrow.Author.Needs.{needs}
+use mir.Syntax.{w8}
+use mir.Val.{Fits}
+use lib.ListN.{length, getD, replicate}
+use Rattle.texts.specs.Numbers.{bytes4}
+use Rattle.texts.specs.Buffers.{put, putAt, zeroed}
+use Rattle.texts.proofs.Puts.{put-fits, length-put, put-put, put-none, put-next, put-whole}
+use Rattle.rules.specs.Sheet.{slotOf}
+use Rattle.rules.specs.declared.sheet.Field.{Field}
+use Rattle.drafts.specs.Tests.{_⇒_}
+use Rattle.drafts.specs.Message.{Bytes, fieldOf, revisionOf, messageText, readTests, readable, readingOf, readAnswer}
+use Rattle.drafts.specs.Draft.{slotSize, draftSize, standing, slotIn, slotCell, slotBytes, draftFormed, freshDraft, beginTests, beginningOf, begunFrom, slotStanding, standingOf, clashes, word, postTests, postingOf, stored, postedTo, postAnswer, cells, sheetOf, copyTests, copyingOf, copiedTo, copyAnswer}
+use Rattle.drafts.specs.History.{postedFrom, postedAll}
+use Rattle.drafts.specs.Promises.{Reads, Left, Freshens, Posts, Copies}
+use Rattle.drafts.specs.declared.revision.Revision.{Revision}
+use Rattle.drafts.specs.declared.revision.Standing.{Standing}
+use Rattle.drafts.specs.declared.revision.Standing.the-variants.{Newer, Same, Older, Clash}
+use Rattle.drafts.specs.declared.message.Refusal.{Refusal}
+use Rattle.drafts.specs.declared.message.Reading.{Reading}
+use Rattle.drafts.specs.declared.message.Reading.the-variants.{Message, Refused}
+use Rattle.drafts.specs.declared.draft.Begun.the-variants as begun
+use Rattle.drafts.specs.declared.draft.Posted.{Posted}
+use Rattle.drafts.specs.declared.draft.Posted.the-variants as posted
+use Rattle.drafts.specs.declared.draft.Copied.{Copied}
+use Rattle.drafts.specs.declared.draft.Copied.the-variants as copied
+use Rattle.drafts.proofs.Tables.{none-of, succeeded, refused}
+use Rattle.drafts.proofs.Messages.{readable-means, read-found, text-short}
+use Rattle.drafts.proofs.Ending.{post-read}
+use Rattle.drafts.proofs.Perms.{held-by}
+use Rattle.drafts.proofs.Sheets.{length-cell, length-cells, sheet-text, sheet-formed}
+use Rattle.drafts.proofs.Slots.{drop-zeros, length-slot, slot-le, formed-means}
+
+-- ---- the ways out of `against`
+
+module _ (r h : ℕ) (b : Bool) where
+  pub stand-newer : h < r → Newer ≡ standing r h b
+  stand-newer u = simp (lt-ltb h r u)
+
+  pub stand-older : r ≤ h → r < h → Older ≡ standing r h b
+  stand-older l u = simp (le-ltb h r l, lt-ltb r h u)
+
+  pub stand-same : r ≤ h → h ≤ r → b ≡ true → Same ≡ standing r h b
+  stand-same l u e = simp (le-ltb h r l, le-ltb r h u, e)
+
+  pub stand-clash : r ≤ h → h ≤ r → b ≡ false → Clash ≡ standing r h b
+  stand-clash l u e = simp (le-ltb h r l, le-ltb r h u, e)
+
+-- ---- the bytes of a slot
+
+put-zeros : (s : List ℕ) (n k : ℕ) → length s ≡ n → put (replicate (n + k) 0) 0 s ≡ s ++ replicate k 0
+unfolding put
+put-zeros s n k e = rw (zero-add, e, drop-zeros n k)
+
+pub slot-made : (r : ℕ) (t d x y : List ℕ) → length t ≤ 25 → d ≡ bytes4 r
+    → x ≡ putAt (replicate slotSize 0) 0 (getD d 0 0 ∷ getD d 1 0 ∷ getD d 2 0 ∷ getD d 3 0 ∷ length t ∷ []) → y ≡ putAt x 5 t → y ≡ slotBytes r t
+unfolding slotBytes
+slot-made r t d x y l ed ex ey =
+    let z : List ℕ = replicate slotSize 0 in
+    let s : List ℕ = getD d 0 0 ∷ getD d 1 0 ∷ getD d 2 0 ∷ getD d 3 0 ∷ length t ∷ [] in
+    let fx : x ≡ put z 0 s = ex ∙ put-fits z 0 s (omega arith) in
+    let lx : length x ≡ slotSize = ap length fx ∙ length-put z 0 s (omega arith) in
+    let fy : y ≡ put z 0 (s ++ t) = ey ∙ put-fits x 5 t (omega arith) ∙ ap (λ (w : List ℕ). put w 5 t) fx ∙ put-put z 0 s t 5 refl (omega arith) in
+    let n : slotSize ≡ 5 + length t + (25 - length t) = omega arith in
+    let m : length (s ++ t) ≡ 5 + length t = omega arith in
+    fy ∙ ap (λ (k : ℕ). put (replicate k 0) 0 (s ++ t)) n ∙ put-zeros (s ++ t) (5 + length t) (25 - length t) m ∙ rw ed
+
+-- ---- fresh
+
+pub fresh-not : (d : List ℕ) → (length d ≡ draftSize → ⊥) → Freshens d (begun.Refused (record { 0 = 1 })) d
+unfolding beginningOf begunFrom beginTests
+fresh-not d e = record { answer = simp (ne-eqb (length d) draftSize e); draft = simp (ne-eqb (length d) draftSize e); start = λ z. absurd (e z) }
+
+pub fresh-made : (d e : List ℕ) → length d ≡ draftSize → e ≡ zeroed d → Freshens d begun.Made e
+unfolding beginningOf begunFrom beginTests freshDraft zeroed postedAll
+fresh-made d e z p =
+    let q : e ≡ replicate draftSize 0 = p ∙ rw z in
+    record {
+      answer = simp (eq-eqb (length d) draftSize z);
+      draft = q ∙ simp (eq-eqb (length d) draftSize z);
+      start = λ _. record { draft = q; strings = λ m h. absurd (List·Memᴰ·not-nil h) };
+    }
+
+-- ---- post
+
+posted-more : (m d : List ℕ) (ms : List (List ℕ)) → postedFrom d (ms ++ (m ∷ [])) ≡ postedTo (postedFrom d ms) m
+posted-more m d [] = refl
+posted-more m d (l ∷ ms) = posted-more m (postedTo d l) ms
+
+left-more : (d m e : List ℕ) → Bytes m → e ≡ postedTo d m → (ms : List (List ℕ)) → Left ms d → Left (ms ++ (m ∷ [])) e
+unfolding postedAll
+left-more d m e b q ms L = record {
+  draft = q ∙ ap (λ (x : List ℕ). postedTo x m) (L .draft) ∙ sym (posted-more m freshDraft ms);
+  strings = λ a h.
+      ⊎-elim (λ (k : List·Memᴰ a ms). L .strings a k) (λ (k : List·Memᴰ a (m ∷ [])). rw (List·Memᴰ·eq-of-singleton k) b) (List·Memᴰ·append-cases ms h);
+}
+
+-- the promise of `post`, from its two equations
+pub posts-by : (d m : List ℕ) (r : Posted) (e : List ℕ) → Bytes m → postAnswer r ≡ postingOf d m → e ≡ postedTo d m → Posts d m r e
+posts-by d m r e b p q = record { answer = p; draft = q; after = left-more d m e b q; held = λ ms L. held-by (ms ++ (m ∷ [])) e (left-more d m e b q ms L) }
+
+module _ (d m : List ℕ) (h : (k : ℕ) → Fits w8 (getD m k 0)) (b : Bool) (eb : b ≡ draftFormed d) where
+  post : (r : Posted) (e : List ℕ) → postAnswer r ≡ postingOf d m → e ≡ postedTo d m → Posts d m r e
+  post r e p q = posts-by d m r e (λ k. h k .fits) p q
+
+  pub post-malformed : not b ≡ true → Posts d m (posted.Refused (record { 0 = 1 })) d
+  unfolding postingOf postedTo postTests
+  post-malformed n =
+      let w : draftFormed d ≡ false = sym eb ∙ not-true b n in
+      post _ d (rw w) (rw w)
+
+  module _ (nb : not b ≡ false) (rd : Reading) (R : Reads m rd) where
+    formed : draftFormed d ≡ true
+    formed = sym eb ∙ not-false b nb
+
+    pub post-unread : (n : Refusal) → rd ≡ Refused n → Posts d m (posted.Refused n) d
+    unfolding postingOf postedTo postTests readingOf
+    post-unread n e =
+        let p = refused (fieldOf m ∷ revisionOf m ∷ []) (word (standingOf d m)) (n .0) (readTests m) ((clashes (standingOf d m) ⇒ 6) ∷ []) (ap readAnswer (sym e) ∙ R .answer) in
+        post _ d (rw formed (p .1)) (rw (formed, p .0))
+
+    module _ (f : Field) (v : Revision) (er : rd ≡ Message f v) (t : List ℕ) (et : t ≡ messageText m) where
+      found : (readable m ≡ true) × (f .0 ≡ fieldOf m) × (v .number ≡ revisionOf m)
+      found = read-found m f v (ap readAnswer (sym er) ∙ R .answer)
+
+      pub post-short : length t ≤ 25
+      post-short = rw et (text-short m (found .0))
+
+      module _ (k : ℕ) (ek : k ≡ slotOf (f .0)) (s : List ℕ) (es : s ≡ slotIn d k) (st : Standing) (est : st ≡ slotStanding s (v .number) t) where
+        slot-is : k ≡ slotOf (fieldOf m)
+        slot-is = ek ∙ ap slotOf (found .1)
+
+        stood : st ≡ standingOf d m
+        unfolding standingOf
+        stood = est ∙ rw (es, slot-is, found .2, et)
+
+        pub post-newer : (e : List ℕ) → st ≡ Newer → e ≡ putAt d (k * slotSize) (slotBytes (v .number) t) → Posts d m posted.Newer e
+        unfolding stored
+        post-newer e q w =
+            let p = post-read d m Newer formed (found .0) (sym q ∙ stood) in
+            let R = readable-means m (found .0) in
+            let n : k ≡ 15 → ⊥ = λ x. R .listed (sym slot-is ∙ x) in
+            let l = length-slot (v .number) t post-short in
+            let z = formed-means d formed .sized in
+            let y : e ≡ put d (k * slotSize) (slotBytes (v .number) t) = w ∙ put-fits d (k * slotSize) (slotBytes (v .number) t) (omega (arith, slot-le (f .0), n)) in
+            post _ e (p .0) (y ∙ rw (slot-is, found .2, et) (p .1))
+
+        pub post-same : st ≡ Same → Posts d m posted.Same d
+        post-same q = let p = post-read d m Same formed (found .0) (sym q ∙ stood) in post _ d (p .0) (p .1)
+
+        pub post-older : st ≡ Older → Posts d m posted.Older d
+        post-older q = let p = post-read d m Older formed (found .0) (sym q ∙ stood) in post _ d (p .0) (p .1)
+
+        pub post-clash : st ≡ Clash → Posts d m (posted.Refused (record { 0 = 6 })) d
+        post-clash q = let p = post-read d m Clash formed (found .0) (sym q ∙ stood) in post _ d (p .0) (p .1)
+
+-- ---- copy
+
+-- the promise of `copy`, from its two equations
+copies-by : (d s : List ℕ) (r : Copied) (e : List ℕ) → copyAnswer r ≡ copyingOf d s → e ≡ copiedTo d s → Copies d s r e
+unfolding copyingOf copiedTo copyTests
+copies-by d s r e p q = record {
+  answer = p;
+  sheet = q;
+  made =
+      λ o.
+      let z = succeeded [] [] (copyTests d s) (ap copyAnswer (sym o) ∙ p) .0 in
+      let w : draftFormed d ≡ true = not-false _ (none-of (copyTests d s) z .0) in
+      let u : e ≡ sheetOf d = q ∙ rw z in
+      rw u (sheet-formed d w, sheet-text d (formed-means d w .sized));
+}
+
+module _ (d s : List ℕ) (b : Bool) (eb : b ≡ draftFormed d) where
+  pub copy-malformed : not b ≡ true → Copies d s (copied.Refused (record { 0 = 1 })) s
+  unfolding copyingOf copiedTo copyTests
+  copy-malformed n =
+      let w : draftFormed d ≡ false = sym eb ∙ not-true b n in
+      copies-by d s _ s (rw w) (rw w)
+
+  module _ (nb : not b ≡ false) where
+    whole : draftFormed d ≡ true
+    whole = sym eb ∙ not-false b nb
+
+    pub copy-size : (length s ≡ 390 → ⊥) → Copies d s (copied.Refused (record { 0 = 7 })) s
+    unfolding copyingOf copiedTo copyTests
+    copy-size n = copies-by d s _ s (simp (whole, ne-eqb _ _ n)) (simp (whole, ne-eqb _ _ n))
+
+    pub copy-none : s ≡ put s 0 (cells d 0)
+    unfolding cells
+    copy-none = sym (put-none s)
+
+    module _ (z : length s ≡ 390) (x : List ℕ) (n : ℕ) (ex : x ≡ put s 0 (cells d n)) where
+      pub copy-more : (u c y : List ℕ) (w : ℕ) → n < 15 → u ≡ slotIn d n → c ≡ slotCell u → w ≡ n → y ≡ putAt x (w * 26) c → y ≡ put s 0 (cells d (n + 1))
+      unfolding cells
+      copy-more u c y w h eu ec ew ey =
+          let l = formed-means d whole .sized in
+          let lc : length c ≡ 26 = rw (ec, eu) (length-cell d l n h) in
+          let p : putAt x (n * 26) c ≡ put s 0 (cells d n ++ c) = put-next s (cells d n) c x (n * 26) (length-cells d l n (omega arith)) (omega arith) ex in
+          ey ∙ rw (ew, p, add-one, ec, eu)
+
+      pub copy-made : n ≤ 15 → 15 ≤ n → Copies d s copied.Made x
+      unfolding copyingOf copiedTo copyTests sheetOf
+      copy-made h g =
+          let e : n ≡ 15 = omega arith in
+          let l = formed-means d whole .sized in
+          let p : put s 0 (cells d 15) ≡ cells d 15 = put-whole s (cells d 15) (length-cells d l 15 (omega arith) ∙ sym z) in
+          copies-by d s copied.Made x (simp (whole, eq-eqb _ _ z)) (ex ∙ rw (e, p) (simp (whole, eq-eqb _ _ z)))
+
+pub ruleset begins = (needs, stand-newer, stand-older, stand-same, stand-clash, slot-made, fresh-not, fresh-made)
+
+pub ruleset posts = (needs, post-malformed, post-unread, post-short, post-newer, post-same, post-older, post-clash)
+
+pub ruleset copies = (needs, copy-malformed, copy-size, copy-none, copy-more, copy-made)

@@ -1,0 +1,352 @@
+-- What each slot holds after a list of postings: the highest revision given to it, with the text of the first message that has
+-- this revision. Assumes nothing.
+use mathlib.Core.Path.{_≡_, refl, sym, ap, _∙_, subst}
+use mathlib.Core.Logic.{_⊎_, inl, inr, ⊎-elim}
+use mathlib.Core.Bool.{Bool, true, false, cond, not, _&&_, true≢false}
+use mathlib.Core.List.{List, [], _∷_, _++_, List·Memᴰ, List·Memᴰ·head, List·Memᴰ·tail, List·Memᴰ·cases-cons, List·Memᴰ·not-nil, Memᴰ·append-right}
+use Prim.Native.Nat.{ℕ, zero, suc, _+_, _-_, _*_, _^_, _<_, _≤_, max}
+use native.Mathlib.Omega.{arith}
+use borrow.Author.Tests.{lt-ltb, le-ltb, ltb-true, ltb-false, eq-eqb, ne-eqb, eqb-true, eqb-false}
+use lib.Dec.{eqb, ltb, eqb·suc-zero}
+use lib.ListN.{length, take, drop, replicate, length-replicate, replicate-append-replicate}
+use lib.Seq.{take-at}
+use Rattle.texts.specs.Texts.{between, every, are, same}
+use Rattle.texts.proofs.Bools.{both}
+use Rattle.rules.specs.Sheet.{slotOf, cellText, cellOk}
+use Rattle.drafts.specs.Tests.{_⇒_, answerBy, bufferBy}
+use Rattle.drafts.specs.Message.{Bytes, fieldOf, revisionOf, messageText, readTests, readable}
+use Rattle.drafts.specs.Draft.{slotSize, draftSize, slotIn, slotRevision, slotCell, slotText, slotBytes, slotFormed, draftFormed, freshDraft, standing, slotStanding, standingOf, clashes, word, kept, postTests, postingOf, stored, postedTo}
+use Rattle.drafts.specs.History.{postedFrom, postedAll, names, given, highest, firstText, emptySlot, endSlot, Ends, none, won, AllBytes}
+use Rattle.drafts.specs.declared.revision.Standing.{Standing}
+use Rattle.drafts.specs.declared.revision.Standing.the-variants.{Newer, Same, Older, Clash}
+use Rattle.drafts.proofs.Tables.{fails, more}
+use Rattle.drafts.proofs.Messages.{readable-means, text-short}
+use Rattle.drafts.proofs.Slots.{drop-zeros, length-slot, slot-revision, slot-formed, slot-part, length-put-slot, slot-same, slot-other, Formed, formed-by, slot-le}
+
+pub tested : (b : Bool) → (b ≡ true) ⊎ (b ≡ false)
+tested true = inl refl
+tested false = inr refl
+
+-- ---- the revision that a message gives a slot
+
+module _ (i : ℕ) (m : List ℕ) where
+  pub names-read : names i m ≡ true → readable m ≡ true
+  unfolding names
+  names-read t = both (readable m) (eqb (slotOf (fieldOf m)) i) t .0
+
+  pub names-slot : names i m ≡ true → slotOf (fieldOf m) ≡ i
+  unfolding names
+  names-slot t = eqb-true _ _ (both (readable m) (eqb (slotOf (fieldOf m)) i) t .1)
+
+  names-not : names i m ≡ false → readable m ≡ true → i ≡ slotOf (fieldOf m) → ⊥
+  unfolding names
+  names-not t z e = true≢false (sym (rw (z, eq-eqb (slotOf (fieldOf m)) i (sym e))) ∙ t)
+
+  pub given-named : names i m ≡ true → given i m ≡ revisionOf m
+  unfolding given
+  given-named t = rw t
+
+  given-other : names i m ≡ false → given i m ≡ 0
+  unfolding given
+  given-other t = rw t
+
+  pub gives : 0 < given i m → names i m ≡ true
+  gives h = ⊎-elim (λ (t : names i m ≡ true). t) (λ (t : names i m ≡ false). absurd (omega (arith, given-other t))) (tested (names i m))
+
+  named-gives : names i m ≡ true → 0 < given i m
+  named-gives t = let R = readable-means m (names-read t) in let z = R .revised in omega (arith, given-named t)
+
+  given-fits : Bytes m → given i m < 2 ^ 32
+  given-fits b =
+      ⊎-elim (λ (t : names i m ≡ true). omega (arith, given-named t, b 4, b 5, b 6, b 7)) (λ (t : names i m ≡ false). omega (arith, given-other t)) (tested (names i m))
+
+-- ---- one posting
+
+cond-map : {A B : Type 0} (f : A → B) (b : Bool) (x y : A) → f (cond b x y) ≡ cond b (f x) (f y)
+cond-map f true x y = refl
+cond-map f false x y = refl
+
+-- only a newer message changes the draft
+stand-kept : (r h : ℕ) (b : Bool) (new old : List ℕ) → bufferBy ((clashes (standing r h b) ⇒ 6) ∷ []) (kept (standing r h b) new old) old ≡ cond (ltb h r) new old
+stand-kept r h b new old = by (ltb h r) (ltb r h) b
+  where
+    by : (x y b : Bool) → let st = cond x Newer (cond y Older (cond b Same Clash)) in bufferBy ((clashes st ⇒ 6) ∷ []) (kept st new old) old ≡ cond x new old
+    by true y b = refl
+    by false true b = refl
+    by false false true = refl
+    by false false false = refl
+
+-- a readable message against a well-formed draft: what is left to test is the clash
+pub post-read : (d m : List ℕ) (st : Standing) → draftFormed d ≡ true → readable m ≡ true → st ≡ standingOf d m
+    → (answerBy ((clashes st ⇒ 6) ∷ []) (word st) ≡ postingOf d m) × (bufferBy ((clashes st ⇒ 6) ∷ []) (kept st (stored d m) d) d ≡ postedTo d m)
+unfolding readable postingOf postedTo postTests
+post-read d m st w z e =
+    let p = more ((clashes st ⇒ 6) ∷ []) (word st) (readTests m) z in
+    (rw (w, ← e) (sym (p .1)), rw (w, ← e, p .0))
+
+module _ (d m : List ℕ) where
+  posted-unread : readable m ≡ false → postedTo d m ≡ d
+  unfolding readable postedTo postTests
+  posted-unread z = rw (fails (readTests m) ((clashes (standingOf d m) ⇒ 6) ∷ []) z) (unchanged (not (draftFormed d)))
+    where
+      unchanged : (b : Bool) → cond (not b && false) (kept (standingOf d m) (stored d m) d) d ≡ d
+      unchanged true = refl
+      unchanged false = refl
+
+  posted-read : Formed d → readable m ≡ true
+      → postedTo d m ≡ cond (ltb (slotRevision (slotIn d (slotOf (fieldOf m)))) (revisionOf m)) (stored d m) d
+  unfolding standingOf slotStanding
+  posted-read f z = sym (post-read d m (standingOf d m) (formed-by d f) z refl .1)
+      ∙ stand-kept (revisionOf m) (slotRevision (slotIn d (slotOf (fieldOf m)))) (same (slotText (slotIn d (slotOf (fieldOf m)))) (messageText m)) (stored d m) d
+
+  module _ (f : Formed d) (z : readable m ≡ true) where
+    slot-below : slotOf (fieldOf m) < 15
+    slot-below = let n = readable-means m z .listed in omega (arith, slot-le (fieldOf m))
+
+    long : length (slotBytes (revisionOf m) (messageText m)) ≡ slotSize
+    long = length-slot (revisionOf m) (messageText m) (text-short m z)
+
+    stored-own : slotIn (stored d m) (slotOf (fieldOf m)) ≡ slotBytes (revisionOf m) (messageText m)
+    unfolding stored
+    stored-own = slot-same d (f .sized) _ long (slotOf (fieldOf m)) slot-below
+
+    stored-other : (i : ℕ) → (i ≡ slotOf (fieldOf m) → ⊥) → slotIn (stored d m) i ≡ slotIn d i
+    unfolding stored
+    stored-other i n = slot-other d (f .sized) _ long (slotOf (fieldOf m)) slot-below i n
+
+    length-stored : length (stored d m) ≡ draftSize
+    unfolding stored
+    length-stored = length-put-slot d (f .sized) _ long (slotOf (fieldOf m)) slot-below
+
+  posted-sized : Formed d → length (postedTo d m) ≡ draftSize
+  posted-sized f =
+      ⊎-elim
+      (λ (z : readable m ≡ true). rw (posted-read f z, cond-map length, length-stored f z, f .sized) (alike (ltb (slotRevision (slotIn d (slotOf (fieldOf m)))) (revisionOf m))))
+      (λ (z : readable m ≡ false). rw (posted-unread z) (f .sized))
+      (tested (readable m))
+    where
+      alike : (b : Bool) → cond b draftSize draftSize ≡ draftSize
+      alike true = refl
+      alike false = refl
+
+  -- what one posting does to slot i
+  module _ (f : Formed d) (i : ℕ) where
+    pub Step : Type 0
+    Step = slotIn (postedTo d m) i ≡ cond (ltb (slotRevision (slotIn d i)) (given i m)) (slotBytes (given i m) (messageText m)) (slotIn d i)
+
+    step-named : names i m ≡ true → Step
+    unfolding Step
+    step-named t =
+        let z = names-read i m t in
+        let e = names-slot i m t in
+        rw (posted-read f z, given-named i m t, cond-map (λ (x : List ℕ). slotIn x i), ← e, stored-own f z)
+
+    step-other : names i m ≡ false → Step
+    unfolding Step
+    step-other t =
+        rw (given-other i m t, le-ltb (slotRevision (slotIn d i)) 0 (omega arith))
+        (⊎-elim
+        (λ (z : readable m ≡ true).
+        rw (posted-read f z, cond-map (λ (x : List ℕ). slotIn x i), stored-other f z i (names-not i m t z)) (alike (ltb (slotRevision (slotIn d (slotOf (fieldOf m)))) (revisionOf m))))
+        (λ (z : readable m ≡ false). rw (posted-unread z))
+        (tested (readable m)))
+      where
+        alike : (b : Bool) → cond b (slotIn d i) (slotIn d i) ≡ slotIn d i
+        alike true = refl
+        alike false = refl
+
+    step : slotIn (postedTo d m) i ≡ cond (ltb (slotRevision (slotIn d i)) (given i m)) (slotBytes (given i m) (messageText m)) (slotIn d i)
+    unfolding Step
+    step = ⊎-elim step-named step-other (tested (names i m))
+
+  posted-formed : Formed d → Bytes m → Formed (postedTo d m)
+  posted-formed f b = record {
+    sized = posted-sized f;
+    slot =
+        λ i l.
+        rw (step f i)
+        (⊎-elim
+        (λ (t : ltb (slotRevision (slotIn d i)) (given i m) ≡ true).
+        let p : 0 < given i m = omega (arith, ltb-true (slotRevision (slotIn d i)) (given i m) t) in
+        rw t (slot-formed (given i m) (messageText m) (given-fits i m b) (λ e. omega arith) (text-short m (names-read i m (gives i m p)))))
+        (λ (t : ltb (slotRevision (slotIn d i)) (given i m) ≡ false). rw t (f .slot i l))
+        (tested (ltb (slotRevision (slotIn d i)) (given i m))));
+  }
+
+-- ---- the list
+
+-- by whether the slot's revision r is below what the first message gives, b, and below the highest of the others, t
+module _ (r b t : ℕ) (v s : List ℕ) (F : ℕ → List ℕ) where
+  raised : r < b → cond (ltb b t) (slotBytes t (F t)) (slotBytes b v) ≡ cond (ltb r (max b t)) (slotBytes (max b t) (cond (eqb b (max b t)) v (F (max b t)))) s
+  raised h =
+      ⊎-elim
+      (λ (k : ltb b t ≡ true).
+      let g : b < t = ltb-true b t k in
+      let e : max b t ≡ t = omega arith in
+      rw (e, k, lt-ltb r t (omega arith), ne-eqb b t (λ q. omega arith)))
+      (λ (k : ltb b t ≡ false).
+      let g : t ≤ b = ltb-false b t k in
+      let e : max b t ≡ b = omega arith in
+      rw (e, k, lt-ltb r b h, eq-eqb b b refl))
+      (tested (ltb b t))
+
+  unraised : b ≤ r → cond (ltb r t) (slotBytes t (F t)) s ≡ cond (ltb r (max b t)) (slotBytes (max b t) (cond (eqb b (max b t)) v (F (max b t)))) s
+  unraised h =
+      ⊎-elim
+      (λ (k : ltb r t ≡ true).
+      let g : r < t = ltb-true r t k in
+      let e : max b t ≡ t = omega arith in
+      rw (e, k, ne-eqb b t (λ q. omega arith)))
+      (λ (k : ltb r t ≡ false).
+      let g : t ≤ r = ltb-false r t k in
+      rw (k, le-ltb r (max b t) (omega arith)))
+      (tested (ltb r t))
+
+bytes-tail : (m : List ℕ) (ms : List (List ℕ)) → AllBytes (m ∷ ms) → AllBytes ms
+bytes-tail m ms b a h = b a (List·Memᴰ·tail h)
+
+pub from-formed : (d : List ℕ) (ms : List (List ℕ)) → Formed d → AllBytes ms → Formed (postedFrom d ms)
+from-formed d [] f b = f
+from-formed d (m ∷ ms) f b = from-formed (postedTo d m) ms (posted-formed d m f (b m (List·Memᴰ·head refl))) (bytes-tail m ms b)
+
+-- slot i after a list of postings, from any draft
+module _ (i : ℕ) where
+  ended : (d : List ℕ) (ms : List (List ℕ)) → Formed d → AllBytes ms
+      → slotIn (postedFrom d ms) i ≡ cond (ltb (slotRevision (slotIn d i)) (highest i ms)) (slotBytes (highest i ms) (firstText i (highest i ms) ms)) (slotIn d i)
+  ended d [] f b = rw (le-ltb (slotRevision (slotIn d i)) 0 (omega arith))
+  ended d (m ∷ ms) f b =
+      let bm = b m (List·Memᴰ·head refl) in
+      let s = step d m f i in
+      let F : ℕ → List ℕ = λ (r : ℕ). firstText i r ms in
+      ended (postedTo d m) ms (posted-formed d m f bm) (bytes-tail m ms b)
+      ∙ ⊎-elim
+      (λ (h : ltb (slotRevision (slotIn d i)) (given i m) ≡ true).
+      rw (s, h, slot-revision (given i m) (messageText m) (given-fits i m bm))
+      (raised (slotRevision (slotIn d i)) (given i m) (highest i ms) (messageText m) (slotIn d i) F (ltb-true _ _ h)))
+      (λ (h : ltb (slotRevision (slotIn d i)) (given i m) ≡ false).
+      rw (s, h)
+      (unraised (slotRevision (slotIn d i)) (given i m) (highest i ms) (messageText m) (slotIn d i) F (ltb-false _ _ h)))
+      (tested (ltb (slotRevision (slotIn d i)) (given i m)))
+
+-- ---- from a fresh draft
+
+take-zeros : (n k : ℕ) → take {A = ℕ} n (replicate (n + k) 0) ≡ replicate n 0
+take-zeros n k = rw (← replicate-append-replicate {A = ℕ} n k 0) (take-at {A = ℕ} (replicate n 0) (replicate k 0) n (length-replicate {A = ℕ} n 0))
+
+fresh-slot : (i : ℕ) → i < 15 → slotIn freshDraft i ≡ emptySlot
+unfolding freshDraft emptySlot
+fresh-slot i h =
+    let e : draftSize ≡ i * slotSize + (slotSize + (draftSize - slotSize - i * slotSize)) = omega arith in
+    slot-part (replicate draftSize 0) i
+    ∙ ap (λ (n : ℕ). take {A = ℕ} slotSize (drop (i * slotSize) (replicate n 0))) e
+    ∙ ap (take slotSize) (drop-zeros (i * slotSize) (slotSize + (draftSize - slotSize - i * slotSize)))
+    ∙ take-zeros slotSize (draftSize - slotSize - i * slotSize)
+
+empty-formed : slotFormed emptySlot ≡ true
+unfolding emptySlot slotFormed slotText slotCell cellOk cellText between every are
+empty-formed = refl
+
+empty-revision : slotRevision emptySlot ≡ 0
+unfolding emptySlot
+empty-revision = refl
+
+fresh-sized : length freshDraft ≡ draftSize
+unfolding freshDraft
+fresh-sized = refl
+
+fresh-formed : Formed freshDraft
+fresh-formed = record { sized = fresh-sized; slot = λ i l. rw (fresh-slot i l) empty-formed }
+
+last : (H : ℕ) (t s : List ℕ) → cond (ltb 0 H) (slotBytes H t) s ≡ cond (eqb H 0) s (slotBytes H t)
+last zero t s = refl
+last (suc n) t s = rw (lt-ltb 0 (suc n) (omega arith), eqb·suc-zero n)
+
+module _ (ms : List (List ℕ)) (b : AllBytes ms) where
+  -- every draft that posting reaches is well formed
+  pub all-formed : Formed (postedAll ms)
+  unfolding postedAll
+  all-formed = from-formed freshDraft ms fresh-formed b
+
+  pub all-slot : (i : ℕ) → i < 15 → slotIn (postedAll ms) i ≡ endSlot i ms
+  unfolding postedAll endSlot
+  all-slot i l = ended i freshDraft ms fresh-formed b ∙ rw (fresh-slot i l, empty-revision) (last (highest i ms) (firstText i (highest i ms) ms) emptySlot)
+
+-- ---- the message that wins
+
+pub record Top (i : ℕ) (ms : List (List ℕ)) : Type 0 where
+  pub before : List (List ℕ)
+  pub after : List (List ℕ)
+  pub m : List ℕ
+  pub split : ms ≡ before ++ m ∷ after
+  pub top : given i m ≡ highest i ms
+  pub lower : (a : List ℕ) → List·Memᴰ a before → given i a < highest i ms
+  pub first : firstText i (highest i ms) ms ≡ messageText m
+
+bound : (i : ℕ) (ms : List (List ℕ)) (a : List ℕ) → List·Memᴰ a ms → given i a ≤ highest i ms
+bound i [] a h = absurd (List·Memᴰ·not-nil h)
+bound i (m ∷ ms) a h =
+    let ih = bound i ms a in
+    ⊎-elim (λ (e : a ≡ m). omega (arith, ap (given i) e)) (λ (k : List·Memᴰ a ms). omega (arith, ih k)) (List·Memᴰ·cases-cons h)
+
+top-tail : (i : ℕ) (m : List ℕ) (ms : List (List ℕ)) → given i m < highest i ms → Top i ms → Top i (m ∷ ms)
+top-tail i m ms g w =
+    let e : max (given i m) (highest i ms) ≡ highest i ms = omega arith in
+    record {
+      before = m ∷ w .before;
+      after = w .after;
+      m = w .m;
+      split = ap (λ (x : List (List ℕ)). m ∷ x) (w .split);
+      top = w .top ∙ sym e;
+      lower =
+          λ a q.
+          ⊎-elim
+          (λ (p : a ≡ m). omega (arith, ap (given i) p))
+          (λ (p : List·Memᴰ a (w .before)). omega (arith, w .lower a p))
+          (List·Memᴰ·cases-cons q);
+      first = rw (e, ne-eqb (given i m) (highest i ms) (λ q. omega arith)) (w .first);
+    }
+
+top-head : (i : ℕ) (m : List ℕ) (ms : List (List ℕ)) → highest i ms ≤ given i m → Top i (m ∷ ms)
+top-head i m ms g =
+    let e : max (given i m) (highest i ms) ≡ given i m = omega arith in
+    record {
+      before = [];
+      after = ms;
+      m = m;
+      split = refl;
+      top = sym e;
+      lower = λ a q. absurd (List·Memᴰ·not-nil q);
+      first = rw (e, eq-eqb (given i m) (given i m) refl);
+    }
+
+pub top-at : (i : ℕ) (ms : List (List ℕ)) → 0 < highest i ms → Top i ms
+top-at i [] h = absurd (omega arith)
+top-at i (m ∷ ms) h =
+    let ih = top-at i ms in
+    ⊎-elim
+    (λ (k : ltb (given i m) (highest i ms) ≡ true). let g = ltb-true _ _ k in top-tail i m ms g (ih (omega arith)))
+    (λ (k : ltb (given i m) (highest i ms) ≡ false). top-head i m ms (ltb-false _ _ k))
+    (tested (ltb (given i m) (highest i ms)))
+
+none-named : (i : ℕ) (ms : List (List ℕ)) → highest i ms ≡ 0 → (a : List ℕ) → List·Memᴰ a ms → names i a ≡ false
+none-named i ms z a h =
+    ⊎-elim (λ (t : names i a ≡ true). absurd (omega (arith, named-gives i a t, bound i ms a h))) (λ (t : names i a ≡ false). t) (tested (names i a))
+
+won-by : (i : ℕ) (ms : List (List ℕ)) → 0 < highest i ms → Top i ms → Ends i ms (slotBytes (highest i ms) (firstText i (highest i ms) ms))
+won-by i ms p w =
+    let n : names i (w .m) ≡ true = gives i (w .m) (omega (arith, w .top)) in
+    let r : highest i ms ≡ revisionOf (w .m) = sym (w .top) ∙ given-named i (w .m) n in
+    won (w .before) (w .after) (w .m) (w .split) n
+    (λ a q t. omega (arith, w .lower a q, r, given-named i a t))
+    (λ a q t. omega (arith, bound i ms a (subst (List·Memᴰ a) (sym (w .split)) (Memᴰ·append-right (w .before) (List·Memᴰ·tail q))), r, given-named i a t))
+    (rw (w .first, r))
+
+pub ends-right : (i : ℕ) (ms : List (List ℕ)) → Ends i ms (endSlot i ms)
+unfolding endSlot
+ends-right i ms =
+    ⊎-elim
+    (λ (t : eqb (highest i ms) 0 ≡ true). rw t (none (none-named i ms (eqb-true _ _ t)) refl))
+    (λ (t : eqb (highest i ms) 0 ≡ false).
+    let z : highest i ms ≡ 0 → ⊥ = eqb-false (highest i ms) 0 t in
+    rw t (won-by i ms (omega arith) (top-at i ms (omega arith))))
+    (tested (eqb (highest i ms) 0))

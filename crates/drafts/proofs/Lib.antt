@@ -1,0 +1,8 @@
+pub mod Tables
+pub mod Messages
+pub mod Slots
+pub mod Ending
+pub mod Perms
+pub mod Sheets
+pub mod Drafts
+pub mod Examples

@@ -1,0 +1,6 @@
+use Rattle.drafts.proofs.Drafts.{posts}
+use Rattle.drafts.proofs.draft.post.Statement.{statement}
+use Rattle.drafts.proofs.draft.post.Tie as tie
+
+pub post-spec : {M : Type 1} → statement M
+post-spec = tie.close (tie.spec (λ c κs. search posts) (λ c. search posts) (λ c. search posts) (λ c κs. search posts) (λ c. search posts) (λ c. search posts) (λ c κs. search posts) (λ c κs. search posts) (λ c κs. search posts) (λ c κs. search posts) (λ c. search posts) (λ c κs. search posts) (λ c. search posts) (λ c. search posts) (λ c. search posts) (λ c. search posts) (λ c. search posts) (λ c. search posts) (λ c. search posts) (λ c. search posts) (λ c. search posts) (λ c. search posts) (λ c. search posts) (λ c. search posts) (λ c. search posts))

@@ -1,0 +1,146 @@
+-- The draft (document 01, "Draft and sheet"). Assumes nothing.
+use mathlib.Core.Bool.{Bool, true, false, cond, not, _&&_}
+use mathlib.Core.List.{List, [], _∷_, _++_}
+use Prim.Native.Nat.{ℕ, zero, suc, _+_, _-_, _*_}
+use lib.Dec.{eqb, ltb}
+use lib.ListN.{length, getD, replicate}
+use Rattle.texts.specs.Quoted.{Text, bytes}
+use Rattle.texts.specs.Texts.{between, same, blank}
+use Rattle.texts.specs.Numbers.{be4, bytes4}
+use Rattle.texts.specs.Buffers.{put}
+use Rattle.texts.specs.Answers.{Answer, success, refusal}
+use Rattle.rules.specs.Sheet.{slotOf, cellText, cellOk}
+use Rattle.drafts.specs.Tests.{Test, _⇒_, answerBy, bufferBy}
+use Rattle.drafts.specs.Message.{fieldOf, revisionOf, messageText, readTests}
+use Rattle.drafts.specs.declared.revision.Standing.{Standing}
+use Rattle.drafts.specs.declared.revision.Standing.the-variants.{Newer, Same, Older, Clash}
+use Rattle.drafts.specs.declared.draft.Begun.{Begun}
+use Rattle.drafts.specs.declared.draft.Begun.the-variants as begun
+use Rattle.drafts.specs.declared.draft.Posted.{Posted}
+use Rattle.drafts.specs.declared.draft.Posted.the-variants as posted
+use Rattle.drafts.specs.declared.draft.Copied.{Copied}
+use Rattle.drafts.specs.declared.draft.Copied.the-variants as copied
+
+-- "A draft has 450 bytes, slot i at 30 × i"
+abbrev pub slotSize : ℕ
+slotSize = 30
+
+abbrev pub draftSize : ℕ
+draftSize = 450
+
+unfoldable pub slotIn : List ℕ → ℕ → List ℕ
+slotIn d i = between d (i * slotSize) (i * slotSize + slotSize)
+
+-- a slot: "revision (4, big-endian, 0 = never given), text length (1), text padded with zero bytes to 25"
+abbrev pub slotRevision : List ℕ → ℕ
+slotRevision s = be4 (getD s 0 0) (getD s 1 0) (getD s 2 0) (getD s 3 0)
+
+unfoldable pub slotCell : List ℕ → List ℕ
+slotCell s = between s 4 slotSize
+
+unfoldable pub slotText : List ℕ → Text
+slotText s = cellText (slotCell s)
+
+unfoldable pub slotBytes : ℕ → Text → List ℕ
+slotBytes r t = bytes4 r ++ (length t ∷ (t ++ replicate (25 - length t) 0))
+
+-- "Malformed: another size, a length above 25, a nonzero pad byte; in a draft also revision 0 with a text"
+unfoldable pub slotFormed : List ℕ → Bool
+slotFormed s = cellOk (slotCell s) && not (eqb (slotRevision s) 0 && not (blank (slotText s)))
+
+-- the first n slots
+unfoldable pub slotsFormed : List ℕ → ℕ → Bool
+slotsFormed d zero = true
+slotsFormed d (suc n) = slotsFormed d n && slotFormed (slotIn d n)
+
+unfoldable pub draftFormed : List ℕ → Bool
+draftFormed d = eqb (length d) draftSize && slotsFormed d 15
+
+-- "Fresh: all zero"; "for fresh, size not 450"
+unfoldable pub freshDraft : List ℕ
+freshDraft = replicate draftSize 0
+
+unfoldable pub beginTests : List ℕ → List Test
+beginTests d = (not (eqb (length d) draftSize) ⇒ 1) ∷ []
+
+unfoldable pub beginningOf : List ℕ → Answer
+beginningOf d = answerBy (beginTests d) []
+
+unfoldable pub begunFrom : List ℕ → List ℕ
+begunFrom d = bufferBy (beginTests d) freshDraft d
+
+abbrev pub beginAnswer : Begun → Answer
+beginAnswer begun.Made = success []
+beginAnswer (begun.Refused n) = refusal (n .0) []
+
+-- "Posting a message, by its revision against the slot's: higher, stored, "newer"; equal with the same text, "same";
+-- lower, "older""; a clash is "equal revision, other text"
+abbrev pub standing : ℕ → ℕ → Bool → Standing
+standing r h alike = cond (ltb h r) Newer (cond (ltb r h) Older (cond alike Same Clash))
+
+unfoldable pub slotStanding : List ℕ → ℕ → Text → Standing
+slotStanding s r t = standing r (slotRevision s) (same (slotText s) t)
+
+-- how a message stands to the slot of its field
+unfoldable pub standingOf : List ℕ → List ℕ → Standing
+standingOf d m = slotStanding (slotIn d (slotOf (fieldOf m))) (revisionOf m) (messageText m)
+
+abbrev pub clashes : Standing → Bool
+clashes Newer = false
+clashes Same = false
+clashes Older = false
+clashes Clash = true
+
+abbrev pub word : Standing → Text
+word Newer = bytes "newer"
+word Same = bytes "same"
+word Older = bytes "older"
+word Clash = []
+
+-- "the last two change nothing"
+abbrev pub kept : Standing → List ℕ → List ℕ → List ℕ
+kept Newer new old = new
+kept Same new old = old
+kept Older new old = old
+kept Clash new old = old
+
+unfoldable pub postTests : List ℕ → List ℕ → List Test
+postTests d m = (not (draftFormed d) ⇒ 1) ∷ (readTests m ++ ((clashes (standingOf d m) ⇒ 6) ∷ []))
+
+unfoldable pub postingOf : List ℕ → List ℕ → Answer
+postingOf d m = answerBy (postTests d m) (word (standingOf d m))
+
+-- the draft with the message in its field's slot
+unfoldable pub stored : List ℕ → List ℕ → List ℕ
+stored d m = put d (slotOf (fieldOf m) * slotSize) (slotBytes (revisionOf m) (messageText m))
+
+unfoldable pub postedTo : List ℕ → List ℕ → List ℕ
+postedTo d m = bufferBy (postTests d m) (kept (standingOf d m) (stored d m) d) d
+
+abbrev pub postAnswer : Posted → Answer
+postAnswer posted.Newer = success (bytes "newer")
+postAnswer posted.Same = success (bytes "same")
+postAnswer posted.Older = success (bytes "older")
+postAnswer (posted.Refused n) = refusal (n .0) []
+
+-- "Copying a draft to a sheet drops the revisions; what it gives is the draft's sheet": the first n cells, and all 15
+unfoldable pub cells : List ℕ → ℕ → List ℕ
+cells d zero = []
+cells d (suc n) = cells d n ++ slotCell (slotIn d n)
+
+unfoldable pub sheetOf : List ℕ → List ℕ
+sheetOf d = cells d 15
+
+-- "draft or sheet malformed", "output: a sheet not of 390"
+unfoldable pub copyTests : List ℕ → List ℕ → List Test
+copyTests d s = (not (draftFormed d) ⇒ 1) ∷ (not (eqb (length s) 390) ⇒ 7) ∷ []
+
+unfoldable pub copyingOf : List ℕ → List ℕ → Answer
+copyingOf d s = answerBy (copyTests d s) []
+
+unfoldable pub copiedTo : List ℕ → List ℕ → List ℕ
+copiedTo d s = bufferBy (copyTests d s) (sheetOf d) s
+
+abbrev pub copyAnswer : Copied → Answer
+copyAnswer copied.Made = success []
+copyAnswer (copied.Refused n) = refusal (n .0) []

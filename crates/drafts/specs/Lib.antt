@@ -1,0 +1,5 @@
+pub mod Tests
+pub mod Message
+pub mod Draft
+pub mod History
+pub mod Promises

@@ -1,0 +1,95 @@
+-- Messages (document 01, "Fields and messages", "Writer and program"). Assumes nothing.
+use mathlib.Core.Bool.{Bool, not}
+use mathlib.Core.List.{List, [], _∷_, _++_}
+use Prim.Native.Nat.{ℕ, _+_, _<_}
+use lib.Dec.{eqb, ltb}
+use lib.ListN.{length, getD, drop}
+use Rattle.texts.specs.Quoted.{Text}
+use Rattle.texts.specs.Numbers.{be2, be4, bytes4}
+use Rattle.texts.specs.Buffers.{put}
+use Rattle.texts.specs.Answers.{Answer, success, refusal}
+use Rattle.rules.specs.Sheet.{slotOf}
+use Rattle.drafts.specs.Tests.{Test, _⇒_, passes, answerBy, bufferBy}
+use Rattle.drafts.specs.declared.message.Reading.{Reading}
+use Rattle.drafts.specs.declared.message.Reading.the-variants as reading
+use Rattle.drafts.specs.declared.message.Written.{Written}
+use Rattle.drafts.specs.declared.message.Written.the-variants as written
+
+-- a byte string
+abbrev pub Bytes : List ℕ → Type 0
+Bytes m = (k : ℕ) → getD m k 0 < 256
+
+-- "two bytes L, big-endian, the length of what follows, 6 to 31; version byte 1; field number in one byte; revision in
+-- four bytes, big-endian, not 0; the text, L - 6 bytes"
+abbrev pub lengthOf : List ℕ → ℕ
+lengthOf m = be2 (getD m 0 0) (getD m 1 0)
+
+abbrev pub versionOf : List ℕ → ℕ
+versionOf m = getD m 2 0
+
+abbrev pub fieldOf : List ℕ → ℕ
+fieldOf m = getD m 3 0
+
+abbrev pub revisionOf : List ℕ → ℕ
+revisionOf m = be4 (getD m 4 0) (getD m 5 0) (getD m 6 0) (getD m 7 0)
+
+abbrev pub headSize : ℕ
+headSize = 8
+
+unfoldable pub messageText : List ℕ → Text
+messageText m = drop headSize m
+
+-- "field not listed"
+abbrev pub unlisted : ℕ → Bool
+unlisted f = eqb (slotOf f) 15
+
+-- "message under 2 bytes, L not the rest, L outside 6 to 31", "version not 1", "field not listed", "revision 0"
+unfoldable pub readTests : List ℕ → List Test
+readTests m =
+    (ltb (length m) 2 ⇒ 2)
+    ∷ (not (eqb (lengthOf m + 2) (length m)) ⇒ 2)
+    ∷ (ltb (lengthOf m) 6 ⇒ 2)
+    ∷ (ltb 31 (lengthOf m) ⇒ 2)
+    ∷ (not (eqb (versionOf m) 1) ⇒ 3)
+    ∷ (unlisted (fieldOf m) ⇒ 4)
+    ∷ (eqb (revisionOf m) 0 ⇒ 5)
+    ∷ []
+
+-- "A message is readable if reading doesn't refuse it"
+unfoldable pub readable : List ℕ → Bool
+readable m = passes (readTests m)
+
+-- "Reading returns field, revision and the text": the text is what `message_text` returns
+unfoldable pub readingOf : List ℕ → Answer
+readingOf m = answerBy (readTests m) (fieldOf m ∷ revisionOf m ∷ [])
+
+abbrev pub readAnswer : Reading → Answer
+readAnswer (reading.Message f r) = success (f .0 ∷ r .number ∷ [])
+readAnswer (reading.Refused n) = refusal (n .0) []
+
+-- the eight bytes before a text of n bytes; L is at most 31, so that its first byte is 0
+unfoldable pub headOf : ℕ → ℕ → ℕ → List ℕ
+headOf f r n = 0 ∷ (n + 6) ∷ 1 ∷ f ∷ bytes4 r
+
+unfoldable pub messageOf : ℕ → ℕ → Text → List ℕ
+messageOf f r t = headOf f r (length t) ++ t
+
+-- "writer: text over 25", "field not listed", "revision 0", "a message buffer too short"
+unfoldable pub writeTests : ℕ → ℕ → Text → List ℕ → List Test
+writeTests f r t b =
+    (ltb 25 (length t) ⇒ 2)
+    ∷ (unlisted f ⇒ 4)
+    ∷ (eqb r 0 ⇒ 5)
+    ∷ (ltb (length b) (length t + headSize) ⇒ 7)
+    ∷ []
+
+-- "writes L + 2 bytes at its start, returns L + 2 and leaves the rest"
+unfoldable pub writingOf : ℕ → ℕ → Text → List ℕ → Answer
+writingOf f r t b = answerBy (writeTests f r t b) ((length t + headSize) ∷ [])
+
+unfoldable pub writtenOf : ℕ → ℕ → Text → List ℕ → List ℕ
+writtenOf f r t b = bufferBy (writeTests f r t b) (put b 0 (messageOf f r t)) b
+
+abbrev pub writeAnswer : Written → Answer
+writeAnswer (written.Bytes n) = success (n ∷ [])
+writeAnswer (written.Refused n) = refusal (n .0) []

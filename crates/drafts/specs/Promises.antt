@@ -1,0 +1,67 @@
+-- What the contracts promise. Assumes nothing.
+use mathlib.Core.Path.{_≡_}
+use mathlib.Core.Bool.{true}
+use mathlib.Core.List.{List, [], _∷_, _++_, List·Permᴰ}
+use Prim.Native.Nat.{ℕ, _<_}
+use lib.ListN.{length, take}
+use Rattle.texts.specs.Answers.{success}
+use Rattle.rules.specs.Sheet.{textOf, wellFormed}
+use Rattle.rules.specs.declared.sheet.Field.{Field}
+use Rattle.drafts.specs.Message.{messageText, readingOf, readAnswer, messageOf, writingOf, writtenOf, writeAnswer}
+use Rattle.drafts.specs.Draft.{slotIn, slotText, draftSize, draftFormed, beginningOf, begunFrom, beginAnswer, postingOf, postedTo, postAnswer, copyingOf, copiedTo, copyAnswer}
+use Rattle.drafts.specs.History.{postedAll, endSlot, Ends, AllBytes, NoClash}
+use Rattle.drafts.specs.declared.revision.Revision.{Revision}
+use Rattle.drafts.specs.declared.message.Reading.{Reading}
+use Rattle.drafts.specs.declared.message.Reading.the-variants as reading
+use Rattle.drafts.specs.declared.message.Written.{Written}
+use Rattle.drafts.specs.declared.message.Written.the-variants as written
+use Rattle.drafts.specs.declared.draft.Begun.{Begun}
+use Rattle.drafts.specs.declared.draft.Posted.{Posted}
+use Rattle.drafts.specs.declared.draft.Copied.{Copied}
+use Rattle.drafts.specs.declared.draft.Copied.the-variants as copied
+
+-- reading m returned r
+pub record Reads (m : List ℕ) (r : Reading) : Type 0 where
+  pub answer : readAnswer r ≡ readingOf m
+  -- a message that reads is, byte for byte, the one that the writer makes of its field, revision and text
+  pub made : (f : Field) (v : Revision) → r ≡ reading.Message f v → messageOf (f .0) (v .number) (messageText m) ≡ m
+
+-- writing the field f, the revision v and the text t to the buffer b returned r and left e
+pub record Writes (f v : ℕ) (t b : List ℕ) (r : Written) (e : List ℕ) : Type 0 where
+  pub answer : writeAnswer r ≡ writingOf f v t b
+  pub buffer : e ≡ writtenOf f v t b
+  -- what was written reads back as its field, revision and text
+  pub back : (n : ℕ) → r ≡ written.Bytes n → (readingOf (take n e) ≡ success (f ∷ v ∷ [])) × (messageText (take n e) ≡ t)
+
+-- d is what the postings of ms, all of them byte strings, left, one after another from a fresh draft
+pub record Left (ms : List (List ℕ)) (d : List ℕ) : Type 0 where
+  pub draft : d ≡ postedAll ms
+  pub strings : AllBytes ms
+
+-- what such a draft holds (the first half of demand 3)
+pub record Held (ms : List (List ℕ)) (d : List ℕ) : Type 0 where
+  pub formed : draftFormed d ≡ true
+  pub slot : (i : ℕ) → i < 15 → slotIn d i ≡ endSlot i ms
+  pub ends : (i : ℕ) → i < 15 → Ends i ms (slotIn d i)
+  -- "if no two readable ones of one field and revision differ in text": every arrangement of the list ends in this draft
+  pub arranged : NoClash ms → (ns : List (List ℕ)) → List·Permᴰ ms ns → postedAll ns ≡ d
+
+-- making d fresh returned r and left e: what posting no message leaves
+pub record Freshens (d : List ℕ) (r : Begun) (e : List ℕ) : Type 0 where
+  pub answer : beginAnswer r ≡ beginningOf d
+  pub draft : e ≡ begunFrom d
+  pub start : length d ≡ draftSize → Left [] e
+
+-- posting m to d returned r and left e: one message more, after those that left d
+pub record Posts (d m : List ℕ) (r : Posted) (e : List ℕ) : Type 0 where
+  pub answer : postAnswer r ≡ postingOf d m
+  pub draft : e ≡ postedTo d m
+  pub after : (ms : List (List ℕ)) → Left ms d → Left (ms ++ (m ∷ [])) e
+  pub held : (ms : List (List ℕ)) → Left ms d → Held (ms ++ (m ∷ [])) e
+
+-- copying d to the buffer s returned r and left e
+pub record Copies (d s : List ℕ) (r : Copied) (e : List ℕ) : Type 0 where
+  pub answer : copyAnswer r ≡ copyingOf d s
+  pub sheet : e ≡ copiedTo d s
+  -- the sheet that was made is well formed and has the draft's texts
+  pub made : r ≡ copied.Made → (wellFormed e ≡ true) × ((i : ℕ) → i < 15 → textOf e i ≡ slotText (slotIn d i))

@@ -1,0 +1,191 @@
+// The draft: a fresh one, posting to it, and its sheet.
+ghost use mathlib.Core.Path.{_≡_};
+ghost use Prim.Native.Nat.{_*_, _≤_};
+ghost use lib.ListN.{length};
+ghost use Rattle.texts.specs.Buffers.{putAt};
+ghost use Rattle.drafts.specs.Draft.{slotSize, slotIn, slotRevision, slotCell, slotFormed, draftFormed, slotStanding, slotBytes};
+ghost use Rattle.drafts.specs.Promises.{Freshens, Posts, Copies};
+use crate::message::Reading;
+use crate::message::Refusal;
+use crate::message::message_text;
+use crate::message::read;
+use crate::revision::Revision;
+use crate::revision::Standing;
+use rules::sheet::cell_ok;
+use rules::sheet::cell_text;
+use rules::sheet::slot_of;
+use texts::buffers::clear;
+use texts::buffers::put;
+use texts::numbers::bytes_of_4;
+use texts::numbers::number_of_4;
+use texts::texts::at;
+use texts::texts::equals;
+use texts::texts::part;
+use texts::texts::wide;
+
+const SLOT_SIZE: usize = 30;
+
+const DRAFT_SIZE: usize = 450;
+
+// Where a slot's cell begins, and the text in it.
+const CELL_PLACE: usize = 4;
+
+const TEXT_PLACE: usize = 5;
+
+const CELL_SIZE: usize = 26;
+
+const SHEET_SIZE: usize = 390;
+
+const SLOTS: u8 = 15;
+
+pub enum Begun {
+    Made,
+    Refused(Refusal),
+}
+
+pub enum Posted {
+    Newer,
+    Same,
+    Older,
+    Refused(Refusal),
+}
+
+pub enum Copied {
+    Made,
+    Refused(Refusal),
+}
+
+// Slot i of a draft.
+fn slot_in(draft: &[u8], slot: u8) -> &[u8]
+    ensures { λ r. ⌜ now r ≡ slotIn (now (draft .entry)) slot ⌝ }
+{
+    let a = wide(slot) * SLOT_SIZE;
+    part(draft, a, a + SLOT_SIZE)
+}
+
+// The revision that a slot holds.
+fn slot_revision(slot: &[u8]) -> Revision
+    ensures { λ r. ⌜ r .number ≡ slotRevision (now (slot .entry)) ⌝ }
+{
+    Revision {
+        number: number_of_4(at(slot, 0), at(slot, 1), at(slot, 2), at(slot, 3)),
+    }
+}
+
+// A slot without its revision, as a sheet has it.
+fn slot_cell(slot: &[u8]) -> &[u8]
+    ensures { λ r. ⌜ now r ≡ slotCell (now (slot .entry)) ⌝ }
+{
+    part(slot, CELL_PLACE, SLOT_SIZE)
+}
+
+fn slot_formed(slot: &[u8]) -> bool
+    ensures { λ r. ⌜ r ≡ slotFormed (now (slot .entry)) ⌝ }
+{
+    let cell = slot_cell(slot);
+    let number = slot_revision(slot).number;
+    cell_ok(cell) & !((number == 0) & (cell_text(cell).len() != 0))
+}
+
+// "Malformed: another size, a length above 25, a nonzero pad byte; in a draft also revision 0 with a text".
+pub fn well_formed(draft: &[u8]) -> bool
+    ensures { λ r. ⌜ r ≡ draftFormed (now (draft .entry)) ⌝ }
+{
+    if draft.len() != DRAFT_SIZE {
+        return false;
+    }
+    let mut good = true;
+    let mut slot: u8 = 0;
+    while slot < SLOTS {
+        good = good & slot_formed(slot_in(draft, slot));
+        slot += 1;
+    }
+    good
+}
+
+// "Fresh: all zero".
+pub fn fresh(draft: &mut [u8]) -> Begun
+    ensures { λ r. ⌜ Freshens (now (draft .entry)) r (now (draft .exit)) ⌝ }
+{
+    if draft.len() != DRAFT_SIZE {
+        return Begun::Refused(Refusal(1));
+    }
+    clear(draft);
+    Begun::Made
+}
+
+// How a message of a revision and a text stands to a slot.
+fn stands(slot: &[u8], revision: Revision, text: &[u8]) -> Standing
+    ensures { λ r. ⌜ r ≡ slotStanding (now (slot .entry)) (revision .number) (now (text .entry)) ⌝ }
+{
+    let same_text = equals(cell_text(slot_cell(slot)), text);
+    revision.against(slot_revision(slot), same_text)
+}
+
+// The bytes of a slot.
+fn slot_bytes(revision: Revision, text: &[u8]) -> [u8; SLOT_SIZE]
+    requires { ⌜ length (now text) ≤ 25 ⌝ }
+    ensures { λ r. ⌜ r ≡ slotBytes (revision .number) (now (text .entry)) ⌝ }
+{
+    let d = bytes_of_4(revision.number);
+    let head = [d[0], d[1], d[2], d[3], text.len() as u8];
+    let mut slot = [0u8; SLOT_SIZE];
+    put(&mut slot, 0, &head);
+    put(&mut slot, TEXT_PLACE, text);
+    slot
+}
+
+fn store(draft: &mut [u8], slot: u8, revision: Revision, text: &[u8])
+    requires { ⌜ length (now text) ≤ 25 ⌝ }
+    ensures { λ _. ⌜ now (draft .exit) ≡ putAt (now (draft .entry)) (slot * slotSize) (slotBytes (revision .number) (now (text .entry))) ⌝ }
+{
+    let bytes = slot_bytes(revision, text);
+    put(draft, wide(slot) * SLOT_SIZE, &bytes);
+}
+
+// Posts a message to a draft.
+pub fn post(draft: &mut [u8], message: &[u8]) -> Posted
+    ensures { λ r. ⌜ Posts (now (draft .entry)) (now (message .entry)) r (now (draft .exit)) ⌝ }
+{
+    if !well_formed(draft) {
+        return Posted::Refused(Refusal(1));
+    }
+    match read(message) {
+        Reading::Refused(refusal) => Posted::Refused(refusal),
+        Reading::Message(field, revision) => {
+            let slot = slot_of(field);
+            let text = message_text(message);
+            match stands(slot_in(draft, slot), revision, text) {
+                Standing::Newer => {
+                    store(draft, slot, revision, text);
+                    Posted::Newer
+                }
+                Standing::Same => Posted::Same,
+                Standing::Older => Posted::Older,
+                Standing::Clash => Posted::Refused(Refusal(6)),
+            }
+        }
+    }
+}
+
+// "Copying a draft to a sheet drops the revisions".
+pub fn copy(draft: &[u8], sheet: &mut [u8]) -> Copied
+    ensures { λ r. ⌜ Copies (now (draft .entry)) (now (sheet .entry)) r (now (sheet .exit)) ⌝ }
+{
+    if !well_formed(draft) {
+        return Copied::Refused(Refusal(1));
+    }
+    if sheet.len() != SHEET_SIZE {
+        return Copied::Refused(Refusal(7));
+    }
+    let mut slot: u8 = 0;
+    while slot < SLOTS {
+        put(
+            sheet,
+            wide(slot) * CELL_SIZE,
+            slot_cell(slot_in(draft, slot)),
+        );
+        slot += 1;
+    }
+    Copied::Made
+}
