@@ -1,0 +1,146 @@
+-- The ways through `complete`. Assumes nothing.
+use mathlib.Core.Path.{_≡_, refl, sym, ap, _∙_}
+use mathlib.Core.Bool.{Bool, true, false, not, cond, _&&_}
+use mathlib.Core.List.{List, [], _∷_}
+use Prim.Native.Nat.{ℕ, _≤_}
+use native.Mathlib.Omega.{arith}
+use borrow.Author.Tests.{eq-eqb, ne-eqb, not-true, not-false}
+use lib.Count.{ones}
+use lib.Dec.{eqb}
+use lib.ListN.{length, getD}
+use Rattle.texts.specs.Texts.{every}
+use Rattle.texts.specs.Buffers.{putAt}
+use Rattle.texts.proofs.Puts.{put-fits, put-whole}
+use Rattle.rules.specs.Rules.{budget, rules, fieldOf, keeps, firstBroken, testOf}
+use Rattle.rules.specs.Sheet.{slotOf, textOf, _⟨_⟩}
+use Rattle.rules.specs.Facts.{factsOf, headOf, generalOf, accountOf, standingOf, holds, ordinary, firstFailed}
+use Rattle.rules.proofs.On.{ordinary-on}
+use Rattle.rules.proofs.Means.{numbered, none-kept}
+use Rattle.rules.specs.declared.facts.Facts.{Facts}
+use Rattle.rules.specs.declared.sheet.Field.{Field}
+use Rattle.drafts.specs.Draft.{draftFormed, sheetOf, copyTests, copiedTo}
+use Rattle.drafts.specs.Promises.{Copies}
+use Rattle.drafts.specs.declared.draft.Copied.{Copied}
+use Rattle.orders.specs.Fillings.{Look, found, none, firstFilling}
+use Rattle.orders.specs.Search.{firstPick}
+use Rattle.orders.specs.Found.{pickOf, foundOf}
+use Rattle.orders.specs.Filled.{baseOf, pickedOf}
+use Rattle.orders.specs.Complete.{setOf, basic, completeAnswer, lookAnswer, lookSheet, classAnswer, completing, completed}
+use Rattle.orders.specs.Whole.{Completes}
+use Rattle.orders.specs.declared.search.Pick.{Pick}
+use Rattle.orders.specs.declared.search.Found.{Found}
+use Rattle.orders.specs.declared.search.Found.the-variants.{Place, Nothing}
+use Rattle.orders.specs.declared.complete.Completed.{Completed}
+use Rattle.orders.specs.declared.complete.Completed.the-variants.{Filled, Impossible, Broken, Refused}
+use Rattle.orders.proofs.Keeping.{mapLook, first-is, picked-length}
+use Rattle.orders.proofs.Whole.{completes-by, length-sheetOf}
+
+-- what the search answered
+place-cases : (l : Look (List ℕ)) (n : ℕ) (p : Pick) → Place n p ≡ foundOf l → (q : List ℕ) × (l ≡ found n q) × (p ≡ pickOf q)
+place-cases (found m q) n p e =
+    let a : n ≡ m = cc in
+    let b : p ≡ pickOf q = cc in
+    (q, ap (λ (k : ℕ). found k q) (sym a), b)
+place-cases (none m) n p e = let z : _≡_ {A = ℕ} 0 1 = cc in absurd (omega arith)
+
+none-cases : (l : Look (List ℕ)) (n : ℕ) → Nothing n ≡ foundOf l → l ≡ none n
+none-cases (found m q) n e = let z : _≡_ {A = ℕ} 0 1 = cc in absurd (omega arith)
+none-cases (none m) n e = let a : n ≡ m = cc in ap none (sym a)
+
+basic-numbered : every numbered basic ≡ true
+unfolding every
+basic-numbered = refl
+
+basic-on : (s : List ℕ) → firstFailed (factsOf s) basic ≡ firstBroken s basic
+unfolding firstFailed firstBroken keeps rules testOf holds factsOf headOf generalOf accountOf standingOf slotOf _⟨_⟩
+basic-on s = refl
+
+copied-is : (d z : List ℕ) → draftFormed d ≡ true → length z ≡ 390 → copiedTo d z ≡ sheetOf d
+unfolding copiedTo copyTests
+copied-is d z f l = simp (f, eq-eqb (length z) 390 l)
+
+module _ (d b : List ℕ) (w : Bool) (e : w ≡ draftFormed d) where
+  pub refused-1 : not w ≡ true → Completes d b (Refused (record { 0 = 1 })) b
+  unfolding completing completed completeAnswer
+  refused-1 n = completes-by d b (Refused (record { 0 = 1 })) b (cc (not-true w n)) (cc (not-true w n))
+
+  module _ (n : not w ≡ false) where
+    formed : draftFormed d ≡ true
+    formed = sym e ∙ not-false w n
+
+    pub refused-7 : (length b ≡ 390 → ⊥) → Completes d b (Refused (record { 0 = 7 })) b
+    unfolding completing completed completeAnswer
+    refused-7 z = completes-by d b (Refused (record { 0 = 7 })) b (cc (formed, ne-eqb (length b) 390 z)) (cc (formed, ne-eqb (length b) 390 z))
+
+    module _ (z : length b ≡ 390) (o s : List ℕ) (c : Copied) (x : Facts) (g : ℕ) (lo : length o ≡ 390) (hs : Copies d o c s) (hx : x ≡ factsOf s) (hg : g ≡ firstFailed x basic) where
+      sheet : s ≡ sheetOf d
+      sheet = hs .sheet ∙ copied-is d o formed lo
+
+      first : firstBroken (sheetOf d) basic ≡ g
+      first = sym (hg ∙ ap (λ (f : Facts). firstFailed f basic) (hx ∙ ap factsOf sheet) ∙ basic-on (sheetOf d))
+
+      -- the answer and the buffer where the draft is well formed and the buffer has its size
+      answer-is : classAnswer (sheetOf d) g ≡ completing d b
+      unfolding completing
+      answer-is = sym (simp (formed, eq-eqb (length b) 390 z) (ap (classAnswer (sheetOf d)) first))
+
+      pub broken-8 : (f : Field) → (g ≡ 0 → ⊥) → f .0 ≡ fieldOf rules g s → Completes d b (Broken f (record { 0 = g })) b
+      unfolding completed completeAnswer classAnswer
+      broken-8 f y h =
+          completes-by d b (Broken f (record { 0 = g })) b
+          (cc (answer-is, ne-eqb g 0 y, sheet))
+          (sym (simp (formed, eq-eqb (length b) 390 z, first, ne-eqb g 0 y)))
+
+      module _ (y : g ≡ 0) (r : Bool) (hr : r ≡ ordinary x) where
+        zero : firstBroken (sheetOf d) basic ≡ 0
+        zero = first ∙ y
+
+        pub refused-9 : r ≡ true → Completes d b (Refused (record { 0 = 9 })) b
+        unfolding completed completeAnswer classAnswer
+        refused-9 t =
+            let p : budget (sheetOf d) ≡ false = not-true (budget (sheetOf d)) (cc (ordinary-on (sheetOf d), sheet)) in
+            completes-by d b (Refused (record { 0 = 9 })) b (cc (answer-is, p)) (sym (simp (formed, eq-eqb (length b) 390 z, zero, p)))
+
+        module _ (t : r ≡ false) (u : List ℕ) (k : Facts) (m : Found) (hu : u ≡ baseOf s) (hk : k ≡ factsOf u) (hm : m ≡ foundOf (firstPick k)) where
+          pays : budget (sheetOf d) ≡ true
+          pays = not-false (budget (sheetOf d)) (cc (ordinary-on (sheetOf d), sheet))
+
+          size : length (sheetOf d) ≡ 390
+          size = length-sheetOf d formed
+
+          base : u ≡ baseOf (sheetOf d)
+          base = hu ∙ ap baseOf sheet
+
+          -- what the search found, as a look through the fillings
+          looks : (l : Look (List ℕ)) → firstPick k ≡ l → firstFilling (sheetOf d) ≡ mapLook (pickedOf (baseOf (sheetOf d))) l
+          looks l h =
+              first-is (sheetOf d) size pays (none-kept (sheetOf d) basic basic-numbered zero)
+              ∙ ap (mapLook (pickedOf (baseOf (sheetOf d)))) (ap firstPick (sym (hk ∙ ap factsOf base)) ∙ h)
+
+          found-answer : lookAnswer (sheetOf d) (firstFilling (sheetOf d)) ≡ completing d b
+          unfolding classAnswer
+          found-answer = cc (answer-is, pays)
+
+          found-sheet : lookSheet b (firstFilling (sheetOf d)) ≡ completed d b
+          unfolding completed
+          found-sheet = sym (simp (formed, eq-eqb (length b) 390 z, zero, pays))
+
+          pub refused-10 : (n : ℕ) → m ≡ Nothing n → Completes d b (Impossible n) b
+          unfolding completeAnswer lookAnswer lookSheet
+          refused-10 n h =
+              let l = looks (none n) (none-cases (firstPick k) n (sym h ∙ hm)) in
+              completes-by d b (Impossible n) b
+              (ap (lookAnswer (sheetOf d)) (sym l) ∙ found-answer)
+              (ap (lookSheet b) (sym l) ∙ found-sheet)
+
+          pub filled-first : (n set : ℕ) (p : Pick) (v f : List ℕ) → set ≡ setOf s → m ≡ Place n p → v ≡ pickedOf u (p .status ∷ p .basis ∷ p .document ∷ p .day ∷ []) → f ≡ putAt b 0 v → Completes d b (Filled n set (ones set)) f
+          unfolding completeAnswer lookAnswer lookSheet pickedOf
+          filled-first n set p v f hset h hv hf =
+              let (q, lq, pq) = place-cases (firstPick k) n p (sym h ∙ hm) in
+              let l = looks (found n q) lq in
+              let c1 : v ≡ pickedOf (baseOf (sheetOf d)) q = hv ∙ (λ i. pickedOf (base i) (pq i .status ∷ pq i .basis ∷ pq i .document ∷ pq i .day ∷ [])) in
+              let c2 : length v ≡ 390 = ap length c1 ∙ picked-length (sheetOf d) size q in
+              let c3 : f ≡ v = hf ∙ put-fits b 0 v (omega arith) ∙ put-whole b v (omega arith) in
+              completes-by d b (Filled n set (ones set)) f
+              ((λ i. completeAnswer (Filled n ((hset ∙ ap setOf sheet) i) (ones ((hset ∙ ap setOf sheet) i)))) ∙ ap (lookAnswer (sheetOf d)) (sym l) ∙ found-answer)
+              (c3 ∙ c1 ∙ ap (lookSheet b) (sym l) ∙ found-sheet)

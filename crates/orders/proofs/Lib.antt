@@ -1,0 +1,12 @@
+pub mod Entries
+pub mod Levels
+pub mod Filling
+pub mod Cells
+pub mod Linking
+pub mod Keeping
+pub mod Passing
+pub mod Fills
+pub mod Looking
+pub mod Order
+pub mod Whole
+pub mod Completing

@@ -1,0 +1,7 @@
+use borrow.Author.Needs.{needs}
+use Rattle.orders.proofs.Entries.{basis-listed, basis-given}
+use Rattle.orders.proofs.search.basis_at.Statement.{statement}
+use Rattle.orders.proofs.search.basis_at.Tie as tie
+
+pub basis-at-spec : {M : Type 1} → statement M
+basis-at-spec = tie.close (tie.spec (λ c κs. search needs) (λ c. search needs) (λ c κs. search needs) (λ c κs. search needs) (λ c. search (needs, basis-listed, basis-given)) (λ c. search (needs, basis-listed, basis-given)))

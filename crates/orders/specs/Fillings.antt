@@ -1,0 +1,93 @@
+-- Fillings, their order and their places (document 01, "Completion"), said without a search. Assumes nothing.
+use mathlib.Core.Path.{_≡_}
+use mathlib.Core.Logic.{_↔_}
+use mathlib.Core.Bool.{Bool, true, false, cond, _&&_}
+use mathlib.Core.List.{List, [], _∷_, _++_, map, List·Memᴰ}
+use Prim.Native.Nat.{ℕ, suc, _+_, _-_, _*_, _<_}
+use lib.Dec.{ltb}
+use lib.ListN.{length, getD, replicate}
+use Rattle.texts.specs.Quoted.{Text, words}
+use Rattle.texts.specs.Texts.{blank, same}
+use Rattle.rules.specs.Sheet.{slots, slotOf, cellOf, textOf}
+use Rattle.rules.specs.Forms.{statuses, letterPairs}
+use Rattle.rules.specs.Rules.{keepsAll}
+
+-- "Lists: 22, 60, 102, 104, 105, 107: "0". 101: rule 10's order. 106: rule 15's order. 108 and 109: "0", "00"": by slot, no
+-- entry for a field that has no list
+abbrev pub lists : List (List Text)
+lists =
+    [] ∷ [] ∷ [] ∷ words "0" ∷ words "0" ∷ [] ∷ words statuses ∷ words "0" ∷ [] ∷ words "0" ∷ words "0" ∷ (words "0 00" ++ words letterPairs)
+    ∷ words "0" ∷ words "0 00" ∷ words "0 00" ∷ []
+
+unfoldable pub listOf : ℕ → List Text
+listOf k = getD lists k []
+
+-- a text as a cell holds it
+unfoldable pub cell : Text → List ℕ
+cell t = length t ∷ (t ++ replicate (25 - length t) 0)
+
+-- a blank field that has a list
+unfoldable pub toFill : List ℕ → ℕ → Bool
+toFill s k = ltb 0 (length (listOf k)) && blank (textOf s k)
+
+-- "one list entry put into every blank field that has a list, all other fields unchanged": what slot k of a filling of s may
+-- hold, in the list's order
+unfoldable pub choices : List ℕ → ℕ → List (List ℕ)
+choices s k = cond (toFill s k) (map cell (listOf k)) (cellOf s k ∷ [])
+
+-- f is a filling of s
+pub record Filling (s f : List ℕ) : Type 0 where
+  pub sized : length f ≡ 390
+  pub slot : (k : ℕ) → k < 15 → List·Memᴰ (cellOf f k) (choices s k)
+
+-- how many entries of a list stand before x
+abbrev pub rank : List (List ℕ) → List ℕ → ℕ
+rank [] x = 0
+rank (y ∷ ys) x = cond (same x y) 0 (suc (rank ys x))
+
+-- "Of two fillings the earlier is the one with the earlier list entry in the first of these four fields where they differ": in
+-- slot order these come as 101, 106, 108, 109, and no other field of a filling has a choice
+pub record Earlier (s g f : List ℕ) : Type 0 where
+  pub at : ℕ
+  pub inside : at < 15
+  pub same : (j : ℕ) → j < at → cellOf g j ≡ cellOf f j
+  pub less : rank (choices s at) (cellOf g at) < rank (choices s at) (cellOf f at)
+
+-- "a filling's place is one more than the number of earlier ones": the list has each earlier filling once
+pub record Place (s f : List ℕ) (n : ℕ) : Type 0 where
+  pub list : List (List ℕ)
+  pub count : n ≡ suc (length list)
+  pub holds : (g : List ℕ) → List·Memᴰ g list ↔ (Filling s g × Earlier s g f)
+  pub once : (a b c : List (List ℕ)) (g : List ℕ) → list ≡ a ++ (g ∷ (b ++ (g ∷ c))) → ⊥
+
+-- ---- all fillings, in order
+
+-- one of each list, the first list's varying slowest
+abbrev pub each : {A : Type 0} → List A → List (List A) → List (List A)
+each [] rest = []
+each {A} (x ∷ xs) rest = map (λ (r : List A). x ∷ r) rest ++ each xs rest
+
+abbrev pub product : {A : Type 0} → List (List A) → List (List A)
+product [] = [] ∷ []
+product (c ∷ cs) = each c (product cs)
+
+abbrev pub joined : List (List ℕ) → List ℕ
+joined [] = []
+joined (x ∷ xs) = x ++ joined xs
+
+unfoldable pub fillings : List ℕ → List (List ℕ)
+fillings s = map joined (product (map (choices s) slots))
+
+-- what looking through a list for the first that passes finds, n having been passed before: the place and what passes, or how
+-- many there are
+pub data Look (A : Type 0) : Type 0 where
+  found : ℕ → A → Look A
+  none : ℕ → Look A
+
+unfoldable pub look : {A : Type 0} → (A → Bool) → ℕ → List A → Look A
+look p n [] = none n
+look p n (x ∷ xs) = cond (p x) (found (n + 1) x) (look p (n + 1) xs)
+
+-- "the first filling that keeps all rules"
+unfoldable pub firstFilling : List ℕ → Look (List ℕ)
+firstFilling s = look keepsAll 0 (fillings s)

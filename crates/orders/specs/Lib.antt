@@ -1,0 +1,7 @@
+pub mod Fillings
+pub mod Search
+pub mod Rows
+pub mod Found
+pub mod Filled
+pub mod Complete
+pub mod Whole

@@ -1,0 +1,65 @@
+// Completion: the first filling of a draft that keeps the rules.
+ghost use Rattle.orders.specs.Whole.{Completes};
+use crate::fill::fill_picked;
+use crate::fill::fill_zeros;
+use crate::fill::filled_set;
+use crate::search::Found;
+use crate::search::search;
+use drafts::draft::copy;
+use drafts::draft::well_formed;
+use drafts::message::Refusal;
+use rules::Rule;
+use rules::facts::facts_of;
+use rules::field_of;
+use rules::first_broken;
+use rules::sheet::Field;
+use rules::tests::is_ordinary;
+use texts::buffers::put;
+
+// The first filling with its count, the set of filled slots and how many bits are set; 10 with the count of all; 8; 1, 7 or 9.
+pub enum Completed {
+    Filled { count: usize, set: u16, ones: u32 },
+    Impossible(usize),
+    Broken(Field, Rule),
+    Refused(Refusal),
+}
+
+const SHEET_SIZE: usize = 390;
+
+// "In completion only 1 to 3".
+const BASIC: [u8; 3] = [1, 2, 3];
+
+pub fn complete(draft: &[u8], sheet: &mut [u8]) -> Completed
+    ensures { λ r. ⌜ Completes (now (draft .entry)) (now (sheet .entry)) r (now (sheet .exit)) ⌝ }
+{
+    if !well_formed(draft) {
+        return Completed::Refused(Refusal(1));
+    }
+    if sheet.len() != SHEET_SIZE {
+        return Completed::Refused(Refusal(7));
+    }
+    let mut work = [0u8; SHEET_SIZE];
+    copy(draft, &mut work);
+    let given = facts_of(&work);
+    let broken = first_broken(given, &BASIC);
+    if broken != 0 {
+        return Completed::Broken(field_of(Rule(broken), &work), Rule(broken));
+    }
+    if is_ordinary(given) {
+        return Completed::Refused(Refusal(9));
+    }
+    let set = filled_set(&work);
+    fill_zeros(&mut work);
+    match search(facts_of(&work)) {
+        Found::Nothing(count) => Completed::Impossible(count),
+        Found::Place(count, pick) => {
+            fill_picked(&mut work, pick);
+            put(sheet, 0, &work);
+            Completed::Filled {
+                count: count,
+                set: set,
+                ones: u16::count_ones(set),
+            }
+        }
+    }
+}

@@ -1,0 +1,87 @@
+// Writing entries into the blank fields of a sheet, and the set of the fields that are filled.
+ghost use mathlib.Core.Path.{_≡_};
+ghost use mathlib.Core.Bool.{cond};
+ghost use mathlib.Core.List.{_∷_, []};
+ghost use Prim.Native.Nat.{_≤_};
+ghost use Rattle.texts.specs.Texts.{blank};
+ghost use Rattle.rules.specs.Sheet.{textOf};
+ghost use Rattle.orders.specs.Filled.{rowCell, filledAt, baseOf, pickedOf};
+ghost use Rattle.orders.specs.Complete.{setOf};
+use crate::search::Pick;
+use crate::search::basis_row;
+use crate::search::status_row;
+use crate::search::zero_row;
+use rules::sheet::text;
+use texts::buffers::put;
+use texts::texts::wide;
+
+const CELL_SIZE: usize = 26;
+
+fn row_cell(row: [u8; 3]) -> [u8; CELL_SIZE]
+    ensures { λ r. ⌜ r ≡ rowCell row ⌝ }
+{
+    let mut cell = [0u8; CELL_SIZE];
+    cell[0] = row[0];
+    cell[1] = row[1];
+    cell[2] = row[2];
+    cell
+}
+
+// Puts an entry into a slot if that is blank.
+fn fill_slot(sheet: &mut [u8], slot: u8, row: [u8; 3])
+    ensures { λ _. ⌜ now (sheet .exit) ≡ filledAt (now (sheet .entry)) slot (rowCell row) ⌝ }
+{
+    if text(sheet, slot).len() == 0 {
+        let cell = row_cell(row);
+        put(sheet, wide(slot) * CELL_SIZE, &cell);
+    }
+}
+
+// "0" into 22, 60, 102, 104, 105 and 107.
+pub fn fill_zeros(sheet: &mut [u8])
+    ensures { λ _. ⌜ now (sheet .exit) ≡ baseOf (now (sheet .entry)) ⌝ }
+{
+    let zero = zero_row(0);
+    fill_slot(sheet, 3, zero);
+    fill_slot(sheet, 4, zero);
+    fill_slot(sheet, 7, zero);
+    fill_slot(sheet, 9, zero);
+    fill_slot(sheet, 10, zero);
+    fill_slot(sheet, 12, zero);
+}
+
+// The picked entries into 101, 106, 108 and 109.
+pub fn fill_picked(sheet: &mut [u8], pick: Pick)
+    ensures { λ _. ⌜ now (sheet .exit) ≡ pickedOf (now (sheet .entry)) (pick .status ∷ pick .basis ∷ pick .document ∷ pick .day ∷ []) ⌝ }
+{
+    fill_slot(sheet, 6, status_row(pick.status));
+    fill_slot(sheet, 11, basis_row(pick.basis));
+    fill_slot(sheet, 13, zero_row(pick.document));
+    fill_slot(sheet, 14, zero_row(pick.day));
+}
+
+// A slot's bit, if the slot is blank.
+fn bit_of(sheet: &[u8], slot: u8, bit: u16) -> u16
+    ensures { λ r. ⌜ (r ≡ cond (blank (textOf (now (sheet .entry)) slot)) bit 0) × (r ≤ bit) ⌝ }
+{
+    if text(sheet, slot).len() == 0 {
+        return bit;
+    }
+    0
+}
+
+// "A 16-bit set of the filled slots (bit i for slot i)": those that have a list and are blank.
+pub fn filled_set(sheet: &[u8]) -> u16
+    ensures { λ r. ⌜ r ≡ setOf (now (sheet .entry)) ⌝ }
+{
+    bit_of(sheet, 3, 8)
+        + bit_of(sheet, 4, 16)
+        + bit_of(sheet, 6, 64)
+        + bit_of(sheet, 7, 128)
+        + bit_of(sheet, 9, 512)
+        + bit_of(sheet, 10, 1024)
+        + bit_of(sheet, 11, 2048)
+        + bit_of(sheet, 12, 4096)
+        + bit_of(sheet, 13, 8192)
+        + bit_of(sheet, 14, 16384)
+}

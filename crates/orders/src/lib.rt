@@ -1,0 +1,3 @@
+pub mod complete;
+pub mod fill;
+pub mod search;
