@@ -1,0 +1,225 @@
+// The library for C and for what links like C. Each function forwards to a proved one, and gives document 01's numbers.
+ghost use mathlib.Core.Path.{_≡_};
+ghost use Rattle.rules.specs.Verdicts.{checked};
+ghost use Rattle.drafts.specs.Message.{readingOf, writingOf, writtenOf};
+ghost use Rattle.drafts.specs.Draft.{beginningOf, begunFrom, postingOf, postedTo, copyingOf, copiedTo};
+ghost use Rattle.orders.specs.Complete.{completing, completed};
+ghost use Rattle.capi.specs.Numbers.{checkNumbers, readNumbers, writeNumbers, postNumbers, justNumber, completeNumbers};
+use drafts::draft::Begun;
+use drafts::draft::Copied;
+use drafts::draft::Posted;
+use drafts::message::Reading;
+use drafts::message::Written;
+use drafts::revision::Revision;
+use orders::complete::Completed;
+use rules::Class;
+use rules::Verdict;
+use rules::sheet::Field;
+
+#[repr(C)]
+pub struct Check {
+    pub number: u8,
+    pub field: u8,
+    pub rule: u8,
+    pub class: u8,
+}
+
+#[repr(C)]
+pub struct Read {
+    pub number: u8,
+    pub field: u8,
+    pub revision: u32,
+}
+
+#[repr(C)]
+pub struct Write {
+    pub number: u8,
+    pub length: usize,
+}
+
+#[repr(C)]
+pub struct Post {
+    pub number: u8,
+    pub standing: u8,
+}
+
+#[repr(C)]
+pub struct Complete {
+    pub number: u8,
+    pub field: u8,
+    pub rule: u8,
+    pub set: u16,
+    pub ones: u32,
+    pub count: usize,
+}
+
+#[no_mangle]
+pub extern "C" fn kieselbrot_check(sheet: &[u8]) -> Check
+    ensures { λ r. ⌜ r ≡ checkNumbers (checked (now (sheet .entry))) ⌝ }
+{
+    let v = rules::check(sheet);
+    match v {
+        Verdict::Malformed => Check {
+            number: 1,
+            field: 0,
+            rule: 0,
+            class: 0,
+        },
+        Verdict::Broken(f, r) => Check {
+            number: 8,
+            field: f.0,
+            rule: r.0,
+            class: 0,
+        },
+        Verdict::Accepted(c) => match c {
+            Class::A => Check {
+                number: 0,
+                field: 0,
+                rule: 0,
+                class: 65,
+            },
+            Class::B => Check {
+                number: 0,
+                field: 0,
+                rule: 0,
+                class: 66,
+            },
+            Class::O => Check {
+                number: 0,
+                field: 0,
+                rule: 0,
+                class: 79,
+            },
+        },
+    }
+}
+
+// The text is the message's bytes from place 8 on.
+#[no_mangle]
+pub extern "C" fn kieselbrot_read(message: &[u8]) -> Read
+    ensures { λ r. ⌜ r ≡ readNumbers (readingOf (now (message .entry))) ⌝ }
+{
+    let v = drafts::message::read(message);
+    match v {
+        Reading::Message(f, r) => Read {
+            number: 0,
+            field: f.0,
+            revision: r.number,
+        },
+        Reading::Refused(n) => Read {
+            number: n.0,
+            field: 0,
+            revision: 0,
+        },
+    }
+}
+
+#[no_mangle]
+pub extern "C" fn kieselbrot_write(
+    field: u8,
+    revision: u32,
+    text: &[u8],
+    buffer: &mut [u8],
+) -> Write
+    ensures { λ r. ⌜ (r ≡ writeNumbers (writingOf field revision (now (text .entry)) (now (buffer .entry)))) × (now (buffer .exit) ≡ writtenOf field revision (now (text .entry)) (now (buffer .entry))) ⌝ }
+{
+    let v = drafts::message::write(Field(field), Revision { number: revision }, text, buffer);
+    match v {
+        Written::Bytes(n) => Write {
+            number: 0,
+            length: n,
+        },
+        Written::Refused(n) => Write {
+            number: n.0,
+            length: 0,
+        },
+    }
+}
+
+#[no_mangle]
+pub extern "C" fn kieselbrot_fresh(draft: &mut [u8]) -> u8
+    ensures { λ r. ⌜ (r ≡ justNumber (beginningOf (now (draft .entry)))) × (now (draft .exit) ≡ begunFrom (now (draft .entry))) ⌝ }
+{
+    let v = drafts::draft::fresh(draft);
+    match v {
+        Begun::Made => 0,
+        Begun::Refused(n) => n.0,
+    }
+}
+
+#[no_mangle]
+pub extern "C" fn kieselbrot_post(draft: &mut [u8], message: &[u8]) -> Post
+    ensures { λ r. ⌜ (r ≡ postNumbers (postingOf (now (draft .entry)) (now (message .entry)))) × (now (draft .exit) ≡ postedTo (now (draft .entry)) (now (message .entry))) ⌝ }
+{
+    let v = drafts::draft::post(draft, message);
+    match v {
+        Posted::Newer => Post {
+            number: 0,
+            standing: 110,
+        },
+        Posted::Same => Post {
+            number: 0,
+            standing: 115,
+        },
+        Posted::Older => Post {
+            number: 0,
+            standing: 111,
+        },
+        Posted::Refused(n) => Post {
+            number: n.0,
+            standing: 0,
+        },
+    }
+}
+
+#[no_mangle]
+pub extern "C" fn kieselbrot_copy(draft: &[u8], sheet: &mut [u8]) -> u8
+    ensures { λ r. ⌜ (r ≡ justNumber (copyingOf (now (draft .entry)) (now (sheet .entry)))) × (now (sheet .exit) ≡ copiedTo (now (draft .entry)) (now (sheet .entry))) ⌝ }
+{
+    let v = drafts::draft::copy(draft, sheet);
+    match v {
+        Copied::Made => 0,
+        Copied::Refused(n) => n.0,
+    }
+}
+
+#[no_mangle]
+pub extern "C" fn kieselbrot_complete(draft: &[u8], sheet: &mut [u8]) -> Complete
+    ensures { λ r. ⌜ (r ≡ completeNumbers (completing (now (draft .entry)) (now (sheet .entry)))) × (now (sheet .exit) ≡ completed (now (draft .entry)) (now (sheet .entry))) ⌝ }
+{
+    let v = orders::complete::complete(draft, sheet);
+    match v {
+        Completed::Filled { count, set, ones } => Complete {
+            number: 0,
+            field: 0,
+            rule: 0,
+            set: set,
+            ones: ones,
+            count: count,
+        },
+        Completed::Impossible(n) => Complete {
+            number: 10,
+            field: 0,
+            rule: 0,
+            set: 0,
+            ones: 0,
+            count: n,
+        },
+        Completed::Broken(f, r) => Complete {
+            number: 8,
+            field: f.0,
+            rule: r.0,
+            set: 0,
+            ones: 0,
+            count: 0,
+        },
+        Completed::Refused(n) => Complete {
+            number: n.0,
+            field: 0,
+            rule: 0,
+            set: 0,
+            ones: 0,
+            count: 0,
+        },
+    }
+}
