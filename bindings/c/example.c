@@ -1,0 +1,125 @@
+/* A small order: its messages are written, posted in the order of their arrival
+ * and completed, and the sheet is printed. The program checks its own results and
+ * returns 1 if one is not as expected. */
+
+#include <stdio.h>
+#include <string.h>
+
+#include "kieselbrot.h"
+
+_Static_assert(sizeof(kieselbrot_check_answer) == 4, "the answers' layout");
+_Static_assert(sizeof(kieselbrot_read_answer) == 8, "the answers' layout");
+_Static_assert(sizeof(kieselbrot_write_answer) == 8, "the answers' layout");
+_Static_assert(sizeof(kieselbrot_post_answer) == 2, "the answers' layout");
+_Static_assert(sizeof(kieselbrot_complete_answer) == 12, "the answers' layout");
+
+static const uint8_t fields[KIESELBROT_FIELDS] = {14,  15,  17,  22,  60,  61,  101, 102,
+                                                  103, 104, 105, 106, 107, 108, 109};
+
+struct arrival {
+    uint8_t field;
+    uint32_t revision;
+    const char *text;
+    char standing; /* what posting it should answer */
+};
+
+/* Fields 22, 101 and 105 to 109 are left blank. */
+static const struct arrival order[] = {
+    {17, 1, "03100643000000014800", 'n'},
+    {60, 1, "7701569743", 'n'},
+    {61, 1, "6730054024", 'n'},
+    {102, 1, "770301001", 'n'},
+    {103, 1, "772801001", 'n'},
+    {104, 2, "18201061201010000510", 'n'},
+    {104, 1, "18210102010011000110", 'o'},
+    {14, 1, "004525987", 'n'},
+    {14, 1, "004525987", 's'},
+    {15, 1, "40102810845370000004", 'n'},
+    {101, 1, "08", 'n'},
+    {101, 2, "", 'n'},
+};
+
+static int failures = 0;
+
+static void expect(int kept, const char *what)
+{
+    if (!kept) {
+        fprintf(stderr, "not as expected: %s\n", what);
+        failures++;
+    }
+}
+
+/* Writes a message, reads it back and posts it. */
+static kieselbrot_post_answer send_message(uint8_t *draft, const struct arrival *arrival)
+{
+    uint8_t message[KIESELBROT_MESSAGE_MAX];
+    const size_t length = strlen(arrival->text);
+    const kieselbrot_write_answer written =
+        kieselbrot_write(arrival->field, arrival->revision, (const uint8_t *)arrival->text, length,
+                         message, sizeof message);
+    expect(written.number == KIESELBROT_OK && written.length == 8 + length, "writing");
+
+    const kieselbrot_read_answer read = kieselbrot_read(message, written.length);
+    expect(read.number == KIESELBROT_OK, "reading");
+    expect(read.field == arrival->field && read.revision == arrival->revision, "what was read");
+    expect(memcmp(message + 8, arrival->text, length) == 0, "the text that was read");
+
+    return kieselbrot_post(draft, KIESELBROT_DRAFT_SIZE, message, written.length);
+}
+
+static void print_sheet(const uint8_t *sheet)
+{
+    for (size_t slot = 0; slot < KIESELBROT_FIELDS; slot++) {
+        const uint8_t *text = sheet + 26 * slot;
+        printf("%d %.*s\n", fields[slot], text[0], (const char *)text + 1);
+    }
+}
+
+/* What is refused, and that nothing changes. */
+static void refuse(uint8_t *draft)
+{
+    uint8_t sheet[KIESELBROT_SHEET_SIZE] = {0};
+    uint8_t before[KIESELBROT_DRAFT_SIZE];
+    memcpy(before, draft, sizeof before);
+
+    const struct arrival clash = {14, 1, "044525000", 0};
+    expect(send_message(draft, &clash).number == KIESELBROT_CLASH, "a clash");
+    expect(memcmp(before, draft, sizeof before) == 0, "the draft after a clash");
+
+    const kieselbrot_check_answer broken = kieselbrot_check(sheet, sizeof sheet);
+    expect(broken.number == KIESELBROT_BROKEN && broken.field == 14 && broken.rule == 1 &&
+               broken.class_ == 0,
+           "a blank sheet");
+    expect(kieselbrot_check(sheet, sizeof sheet - 1).number == KIESELBROT_MALFORMED, "a short sheet");
+    expect(kieselbrot_copy(draft, KIESELBROT_DRAFT_SIZE, sheet, 389) == KIESELBROT_OUTPUT,
+           "a short output");
+}
+
+int main(void)
+{
+    uint8_t draft[KIESELBROT_DRAFT_SIZE];
+    uint8_t sheet[KIESELBROT_SHEET_SIZE];
+
+    expect(kieselbrot_fresh(draft, sizeof draft) == KIESELBROT_OK, "a fresh draft");
+    for (size_t i = 0; i < sizeof order / sizeof order[0]; i++) {
+        const kieselbrot_post_answer posted = send_message(draft, &order[i]);
+        printf("field %d, revision %lu: %c\n", order[i].field, (unsigned long)order[i].revision,
+               posted.standing);
+        expect(posted.number == KIESELBROT_OK && posted.standing == order[i].standing, "posting");
+    }
+    refuse(draft);
+
+    const kieselbrot_complete_answer completed =
+        kieselbrot_complete(draft, sizeof draft, sheet, sizeof sheet);
+    printf("number %d, count %lu, filled %d\n", completed.number, (unsigned long)completed.count,
+           completed.ones);
+    expect(completed.number == KIESELBROT_OK && completed.count == 1, "completing");
+    expect(completed.ones == 7 && completed.set == 0x7C48, "the filled slots");
+    print_sheet(sheet);
+
+    const kieselbrot_check_answer checked = kieselbrot_check(sheet, sizeof sheet);
+    printf("class %c\n", checked.class_);
+    expect(checked.number == KIESELBROT_OK && checked.class_ == 'A', "the completed sheet");
+
+    return failures != 0;
+}

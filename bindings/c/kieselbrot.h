@@ -1,0 +1,131 @@
+/* Budget payment orders under 107n: field messages, the draft, the rules and
+ * completion.
+ *
+ * The functions are proved: each one's answer, and every buffer that it is lent,
+ * equals a definition, for all inputs. They are total: buffers of any length may
+ * be lent, none is kept, nothing is allocated and no byte outside is touched. A
+ * buffer that is written must not overlap another argument. A pointer must not
+ * be null, not even with length 0.
+ *
+ * Each answer has a number: 0 for success, else why it is refused. A refusal
+ * changes no buffer. Values that do not belong to an answer are 0.
+ *
+ * Field, status and rule numbers are those of the form and of document 01. Texts
+ * are bytes of Windows-1251, 0 to 25 of them; the empty text is a blank.
+ */
+#ifndef KIESELBROT_H
+#define KIESELBROT_H
+
+#include <stddef.h>
+#include <stdint.h>
+
+#ifdef __cplusplus
+extern "C" {
+#endif
+
+/* How many fields there are, in slots from 0 on: 14, 15, 17, 22, 60, 61, 101 to
+ * 109. */
+#define KIESELBROT_FIELDS 15
+
+/* A text's greatest length. */
+#define KIESELBROT_TEXT_MAX 25
+
+/* A sheet's size. Slot i stands at 26 * i: the text's length, and the text padded
+ * with zero bytes to 25. */
+#define KIESELBROT_SHEET_SIZE 390
+
+/* A draft's size. Slot i stands at 30 * i: the revision (4 bytes, big-endian, 0 =
+ * never given), and then as in a sheet. */
+#define KIESELBROT_DRAFT_SIZE 450
+
+/* The size of the longest message: two bytes of length (of what follows,
+ * big-endian), the version 1, the field, four bytes of revision (big-endian, not
+ * 0), and the text. */
+#define KIESELBROT_MESSAGE_MAX 33
+
+/* The numbers of the answers, in the order in which they are tested. */
+enum {
+    KIESELBROT_OK = 0,
+    KIESELBROT_MALFORMED = 1,     /* draft or sheet malformed; for fresh, size not 450 */
+    KIESELBROT_LENGTH = 2,        /* a message's length is wrong; for write, text over 25 */
+    KIESELBROT_VERSION = 3,       /* version not 1 */
+    KIESELBROT_UNKNOWN_FIELD = 4, /* field not listed */
+    KIESELBROT_REVISION_ZERO = 5, /* revision 0 */
+    KIESELBROT_CLASH = 6,         /* equal revision, other text */
+    KIESELBROT_OUTPUT = 7,        /* a sheet not of 390, a message buffer too short */
+    KIESELBROT_BROKEN = 8,        /* a broken rule; in completion only 1 to 3 */
+    KIESELBROT_ORDINARY = 9,      /* completion of class O */
+    KIESELBROT_NO_FILLING = 10    /* no filling keeps the rules */
+};
+
+/* The answer of a check. */
+typedef struct {
+    uint8_t number; /* 0, 1 or 8 */
+    uint8_t field;  /* with 8: the field that the broken rule names */
+    uint8_t rule;   /* with 8: the first broken rule, 1 to 34 */
+    uint8_t class_; /* accepted: 'A', 'B' (budget payments) or 'O' (ordinary) */
+} kieselbrot_check_answer;
+
+/* The answer of reading a message. The text is the message from place 8 on. */
+typedef struct {
+    uint8_t number;    /* 0, or 2 to 5 */
+    uint8_t field;     /* the field's number */
+    uint32_t revision; /* the revision, not 0 */
+} kieselbrot_read_answer;
+
+/* The answer of writing a message. */
+typedef struct {
+    uint8_t number;  /* 0, 2, 4, 5 or 7 */
+    size_t length;   /* how many bytes were written at the buffer's start */
+} kieselbrot_write_answer;
+
+/* The answer of posting a message. */
+typedef struct {
+    uint8_t number;   /* 0, or 1 to 6 */
+    uint8_t standing; /* 'n' newer, and stored; 's' same; 'o' older */
+} kieselbrot_post_answer;
+
+/* The answer of completing a draft. */
+typedef struct {
+    uint8_t number; /* 0, 1, 7, 8, 9 or 10 */
+    uint8_t field;  /* with 8: the field that the broken rule names */
+    uint8_t rule;   /* with 8: the first broken rule, 1 to 3 */
+    uint16_t set;   /* the filled slots, bit i for slot i */
+    uint32_t ones;  /* how many bits of the set are set */
+    size_t count;   /* the count of fillings up to and including the sheet; with
+                     * 10: the count of all fillings */
+} kieselbrot_complete_answer;
+
+/* Checks a sheet against the rules, in their order, and tells its class. */
+kieselbrot_check_answer kieselbrot_check(const uint8_t *sheet, size_t sheet_len);
+
+/* Reads a message. */
+kieselbrot_read_answer kieselbrot_read(const uint8_t *message, size_t message_len);
+
+/* Writes a message at the start of a buffer and leaves the rest. */
+kieselbrot_write_answer kieselbrot_write(uint8_t field, uint32_t revision, const uint8_t *text,
+                                         size_t text_len, uint8_t *buffer, size_t buffer_len);
+
+/* Makes a draft fresh, whatever it held: all zero. Returns the number. */
+uint8_t kieselbrot_fresh(uint8_t *draft, size_t draft_len);
+
+/* Posts a message to a draft: a higher revision of its field is stored; the same
+ * message again and a lower revision change nothing. An empty text with a higher
+ * revision blanks the field. */
+kieselbrot_post_answer kieselbrot_post(uint8_t *draft, size_t draft_len, const uint8_t *message,
+                                       size_t message_len);
+
+/* Copies a draft's texts to a sheet, whatever that held, without the revisions.
+ * Returns the number. */
+uint8_t kieselbrot_copy(const uint8_t *draft, size_t draft_len, uint8_t *sheet, size_t sheet_len);
+
+/* Completes a draft: writes the first filling that keeps all rules to the sheet,
+ * whatever that held. */
+kieselbrot_complete_answer kieselbrot_complete(const uint8_t *draft, size_t draft_len,
+                                               uint8_t *sheet, size_t sheet_len);
+
+#ifdef __cplusplus
+}
+#endif
+
+#endif

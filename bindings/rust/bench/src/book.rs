@@ -1,0 +1,59 @@
+//! A book of drafts, completed on one core and on all.
+
+use std::hint::black_box;
+use std::thread;
+use std::time::Instant;
+
+use cases::Draft;
+
+use crate::measure::{Row, NO_SLOWER};
+
+/// How many times each goes through the book.
+const TIMES: usize = 7;
+
+/// The rows of the book.
+pub fn rows(book: &[Draft]) -> [Row; 2] {
+    [
+        row("a book of 100,000 drafts, one core (each)", book, 1),
+        row("a book of 100,000 drafts, all cores (each)", book, cores()),
+    ]
+}
+
+/// How many cores there are.
+pub fn cores() -> usize {
+    thread::available_parallelism().map_or(1, usize::from)
+}
+
+fn row(name: &'static str, book: &[Draft], threads: usize) -> Row {
+    let mut least = [f64::INFINITY; 2];
+    for _ in 0..TIMES {
+        least[0] = least[0].min(time(book, threads, |draft, sheet| {
+            kieselbrot::complete(draft, sheet).is_ok()
+        }));
+        least[1] = least[1].min(time(book, threads, |draft, sheet| {
+            reference::complete(draft, sheet).is_ok()
+        }));
+    }
+    let [library, reference] = least;
+    Row {
+        name,
+        library,
+        reference,
+        goal: NO_SLOWER,
+    }
+}
+
+/// Nanoseconds for each draft, by the clock on the wall.
+fn time(book: &[Draft], threads: usize, complete: fn(&[u8], &mut [u8]) -> bool) -> f64 {
+    let start = Instant::now();
+    thread::scope(|scope| {
+        for part in book.chunks(book.len().div_ceil(threads)) {
+            scope.spawn(move || {
+                let mut sheet = [0; 390];
+                let completed = |draft: &&Draft| complete(black_box(*draft), &mut sheet);
+                black_box(part.iter().filter(completed).count())
+            });
+        }
+    });
+    start.elapsed().as_nanos() as f64 / book.len() as f64
+}

@@ -1,0 +1,138 @@
+//! The library and the second implementation, measured in one run.
+//!
+//! `bench FILE.md` prints the table, writes it to the file, and draws a chart
+//! beside it. Without a file it only prints.
+
+#![deny(unsafe_code)]
+
+mod book;
+mod chart;
+mod inputs;
+mod measure;
+mod report;
+#[allow(unsafe_code)]
+mod stack;
+
+use std::env;
+use std::fs;
+use std::path::Path;
+use std::process::ExitCode;
+
+use measure::{Row, NO_SLOWER};
+use report::Report;
+
+fn main() -> ExitCode {
+    let path = env::args_os().nth(1);
+    let report = measure_all();
+    print!("{}", report.markdown(None));
+    let Some(path) = path else {
+        return ExitCode::SUCCESS;
+    };
+    match store(&report, Path::new(&path)) {
+        Ok(()) => ExitCode::SUCCESS,
+        Err(error) => {
+            eprintln!("{}: {error}", Path::new(&path).display());
+            ExitCode::FAILURE
+        }
+    }
+}
+
+fn measure_all() -> Report {
+    let mut random = inputs::random();
+    let mut rows = vec![
+        check(
+            "check, an accepted sheet",
+            0.7,
+            inputs::accepted(&mut random),
+        ),
+        check(
+            "check, a late broken rule (34)",
+            0.7,
+            inputs::late(&mut random),
+        ),
+        check("check, mixed sheets", 0.7, inputs::mixed(&mut random)),
+        post(inputs::messages(&mut random)),
+        complete(
+            "complete, nothing blank",
+            NO_SLOWER,
+            inputs::full(&mut random),
+        ),
+        complete(
+            "complete, count 97",
+            NO_SLOWER,
+            inputs::count_97(&mut random),
+        ),
+        complete(
+            "complete, hopeless, 1,056 fillings",
+            0.2,
+            inputs::hopeless(&mut random),
+        ),
+    ];
+    rows.extend(book::rows(&inputs::book(&mut random)));
+    let growth = inputs::growth(&mut random)
+        .into_iter()
+        .map(|(fillings, drafts)| (fillings, complete("", NO_SLOWER, drafts)))
+        .collect();
+    Report {
+        rows,
+        growth,
+        stack: stack::rows(&mut random),
+    }
+}
+
+fn check(name: &'static str, goal: f64, sheets: Vec<cases::Sheet>) -> Row {
+    Row::measure(
+        name,
+        goal,
+        &sheets,
+        |sheet| kieselbrot::check(sheet),
+        |sheet| reference::check(sheet),
+    )
+}
+
+fn post(lists: Vec<Vec<Vec<u8>>>) -> Row {
+    Row::measure(
+        "post, 15 messages to a fresh draft",
+        0.7,
+        &lists,
+        |list| {
+            let mut draft = [0xEE; 450];
+            let fresh = kieselbrot::fresh(&mut draft);
+            let post = |message: &&Vec<u8>| kieselbrot::post(&mut draft, message).is_ok();
+            let stored = list.iter().filter(post).count();
+            (fresh, stored, draft)
+        },
+        |list| {
+            let mut draft = [0xEE; 450];
+            let fresh = reference::fresh(&mut draft);
+            let post = |message: &&Vec<u8>| reference::post(&mut draft, message).is_ok();
+            let stored = list.iter().filter(post).count();
+            (fresh, stored, draft)
+        },
+    )
+}
+
+fn complete(name: &'static str, goal: f64, drafts: Vec<cases::Draft>) -> Row {
+    Row::measure(
+        name,
+        goal,
+        &drafts,
+        |draft| {
+            let mut sheet = [0; 390];
+            let answer = kieselbrot::complete(draft, &mut sheet);
+            (answer, sheet)
+        },
+        |draft| {
+            let mut sheet = [0; 390];
+            let answer = reference::complete(draft, &mut sheet);
+            (answer, sheet)
+        },
+    )
+}
+
+fn store(report: &Report, path: &Path) -> std::io::Result<()> {
+    let chart = path.with_extension("svg");
+    let name = chart.file_name().map(|name| name.to_string_lossy());
+    fs::write(path, report.markdown(name.as_deref()))?;
+    fs::write(chart, chart::draw(report))
+}

@@ -1,0 +1,123 @@
+//! The table.
+
+use std::fmt::{self, Write as _};
+use std::fs;
+
+use crate::book::cores;
+use crate::measure::Row;
+use crate::stack::Stack;
+
+/// All that was measured.
+pub struct Report {
+    /// The rows of the first table.
+    pub rows: Vec<Row>,
+    /// Completions without a filling, by the count of fillings.
+    pub growth: Vec<(usize, Row)>,
+    /// The stack used.
+    pub stack: Vec<Stack>,
+}
+
+impl Report {
+    /// The report in Markdown, with the chart if it has a name.
+    pub fn markdown(&self, chart: Option<&str>) -> String {
+        let mut text = String::new();
+        // Writing to a string never fails.
+        let _ = self.write(&mut text, chart);
+        text
+    }
+
+    fn write(&self, text: &mut String, chart: Option<&str>) -> fmt::Result {
+        text.push_str(HEAD);
+        writeln!(text, "\nMachine: {} cores, {}.\n", cores(), processor())?;
+        text.push_str("| | library, ns | second, ns | ratio | goal | |\n");
+        text.push_str("|---|--:|--:|--:|--:|---|\n");
+        for row in &self.rows {
+            let goal = row.goal;
+            let reached = if row.reached() { "reached" } else { "missed" };
+            writeln!(
+                text,
+                "| {} | {} | {} | {:.2} | {goal:.1} | {reached} |",
+                row.name,
+                number(row.library),
+                number(row.reference),
+                row.ratio()
+            )?;
+        }
+        if let Some(chart) = chart {
+            writeln!(text, "\n![Nanoseconds of both]({chart})")?;
+        }
+        self.write_growth(text)?;
+        self.write_stack(text)
+    }
+
+    fn write_growth(&self, text: &mut String) -> fmt::Result {
+        text.push_str(GROWTH);
+        for (fillings, row) in &self.growth {
+            let (library, reference) = (number(row.library), number(row.reference));
+            let ratio = row.ratio();
+            writeln!(
+                text,
+                "| {fillings} | {library} | {reference} | {ratio:.2} |"
+            )?;
+        }
+        Ok(())
+    }
+
+    fn write_stack(&self, text: &mut String) -> fmt::Result {
+        text.push_str(STACK);
+        for row in &self.stack {
+            writeln!(
+                text,
+                "| {} | {} | {} |",
+                row.name, row.library, row.reference
+            )?;
+        }
+        Ok(())
+    }
+}
+
+const HEAD: &str = "# Benchmarks
+
+The library, and the second implementation in plain Rust, in one run on the same
+inputs, both built for release. Each figure is the least of many batches, those of
+both in turn; a row has 256 inputs, all different, and every batch begins with
+another. The ratio is library to second implementation: below 1 the library is
+faster. Made by `make bench`.
+";
+
+const GROWTH: &str = "
+## How the cost grows with the fillings
+
+Completions that find none, by the count of all fillings.
+
+| fillings | library, ns | second, ns | ratio |
+|--:|--:|--:|--:|
+";
+
+const STACK: &str = "
+## Stack
+
+The depth to which a call touches the stack, in bytes.
+
+| | library | second |
+|---|--:|--:|
+";
+
+/// One decimal for small numbers, none for larger.
+pub fn number(value: f64) -> String {
+    if value < 100.0 {
+        format!("{value:.1}")
+    } else {
+        format!("{value:.0}")
+    }
+}
+
+/// The processor's model, where the system tells it.
+fn processor() -> String {
+    let told = fs::read_to_string("/proc/cpuinfo").unwrap_or_default();
+    let model = told.lines().find_map(|line| {
+        let (key, value) = line.split_once(':')?;
+        (key.trim() == "model name").then(|| value.trim().to_owned())
+    });
+    model.unwrap_or_else(|| "processor unknown".into())
+}

@@ -1,0 +1,294 @@
+//! Texts of one field: those that a form allows, and those beside it.
+
+use crate::random::Random;
+use crate::texts::Text;
+
+/// Rule 10's statuses.
+pub const STATUSES: [&str; 22] = [
+    "01", "03", "04", "05", "06", "07", "08", "13", "15", "16", "17", "19", "20", "23", "24", "27",
+    "28", "29", "30", "31", "32", "33",
+];
+
+/// Rule 15's texts.
+pub const BASES: [&[u8]; 12] = [
+    b"0",
+    b"00",
+    b"\xD3\xC2",
+    b"\xC8\xCB",
+    b"\xCF\xC1",
+    b"\xD2\xC3",
+    b"\xD2\xC1",
+    b"\xD2\xC4",
+    b"\xCF\xC2",
+    b"\xC8\xCD",
+    b"\xCF\xCA",
+    b"\xCA\xDD",
+];
+
+/// What field 17 begins with in class A.
+pub const CLASS_A: [&str; 12] = [
+    "03100", "03212", "03222", "03232", "03242", "03252", "03262", "03272", "03214", "03224",
+    "03234", "03244",
+];
+
+/// What field 17 begins with in class B.
+pub const CLASS_B: [&str; 4] = ["40204", "40503", "40603", "40703"];
+
+/// The first two digits of a person identifier.
+const PERSONS: [&str; 21] = [
+    "01", "02", "03", "04", "05", "06", "07", "08", "09", "10", "11", "12", "13", "14", "22", "24",
+    "25", "26", "28", "29", "30",
+];
+
+/// A field's list in completion; empty if it has none.
+#[must_use]
+pub fn list(field: u8) -> Vec<&'static [u8]> {
+    match field {
+        22 | 60 | 102 | 104 | 105 | 107 => vec![b"0"],
+        101 => STATUSES.map(str::as_bytes).to_vec(),
+        106 => BASES.to_vec(),
+        108 | 109 => vec![b"0", b"00"],
+        _ => vec![],
+    }
+}
+
+/// The beginning, and digits up to a width.
+pub fn digits_after(random: &mut Random, begin: &str, width: usize) -> Text {
+    let mut text = Text::new(begin.as_bytes());
+    while text.len() < width {
+        text.push(b'0' + random.below(10) as u8);
+    }
+    text
+}
+
+/// So many digits.
+pub fn digits(random: &mut Random, width: usize) -> Text {
+    digits_after(random, "", width)
+}
+
+/// So many digits, not all zero.
+pub fn nonzero(random: &mut Random, width: usize) -> Text {
+    let mut text = digits_after(random, "", width);
+    if random.percent(10) {
+        text.bytes_mut().fill(b'0');
+    }
+    text.bytes_mut()[random.below(width)] = b'1' + random.below(9) as u8;
+    text
+}
+
+/// So many digits, not beginning 00.
+pub fn registered(random: &mut Random, width: usize) -> Text {
+    let begin = random.pick(&["01", "10", "77", "99", "05"]);
+    digits_after(random, begin, width)
+}
+
+/// A UIN: 20 or 25 digits.
+pub fn uin(random: &mut Random) -> Text {
+    let width = random.pick(&[20, 25]);
+    nonzero(random, width)
+}
+
+/// A letter pair of rule 15.
+pub fn pair(random: &mut Random) -> Text {
+    Text::new(random.pick(&BASES[2..]))
+}
+
+/// A byte that rule 17 allows, and no ";".
+fn document_byte(random: &mut Random) -> u8 {
+    random.pick(b"!,./09:<=AZaz~\xC0\xC1\xDF\xE0\xFF")
+}
+
+fn document_bytes(random: &mut Random, text: &mut Text, length: usize) {
+    while text.len() < length {
+        text.push(document_byte(random));
+    }
+}
+
+/// A person identifier of field 108.
+pub fn person(random: &mut Random) -> Text {
+    let mut text = Text::new(random.pick(&PERSONS).as_bytes());
+    text.push(b';');
+    let length = 4 + random.below(12);
+    document_bytes(random, &mut text, length);
+    text
+}
+
+/// A text of field 108 that is neither an identifier nor zeros.
+pub fn document(random: &mut Random) -> Text {
+    let mut text = Text::new(random.pick(&[&b"1"[..], b"000", b"A;", b"\xC0", b"7;1", b"123;"]));
+    let length = random.below(16);
+    document_bytes(random, &mut text, length);
+    text
+}
+
+/// A date of the years 1900 to 2099.
+pub fn date(random: &mut Random) -> Text {
+    match random.below(4) {
+        0 => Text::new(random.pick(&[
+            &b"29.02.2000"[..],
+            b"29.02.1904",
+            b"28.02.1900",
+            b"31.12.2099",
+            b"01.01.1900",
+            b"29.02.2096",
+        ])),
+        _ => dotted(
+            1 + random.below(28),
+            1 + random.below(12),
+            1900 + random.below(200),
+        ),
+    }
+}
+
+fn dotted(day: usize, month: usize, year: usize) -> Text {
+    Text::new(format!("{day:02}.{month:02}.{year:04}").as_bytes())
+}
+
+/// A date or nearly one.
+fn near_date(random: &mut Random) -> Text {
+    match random.below(3) {
+        0 => Text::new(random.pick(&[
+            &b"29.02.1900"[..],
+            b"29.02.2023",
+            b"29.02.2100",
+            b"31.12.1899",
+            b"01.01.2100",
+            b"00.01.2024",
+            b"01.00.2024",
+            b"01.13.2024",
+            b"1.01.2024",
+            b"01/01/2024",
+            b"01.01.24",
+        ])),
+        _ => dotted(
+            27 + random.below(6),
+            random.below(14),
+            random.pick(&[1900, 1999, 2000, 2023, 2024, 2099]),
+        ),
+    }
+}
+
+/// Any account of field 17, with or without the beginning of a class.
+fn account(random: &mut Random) -> Text {
+    const NEAR: [&str; 8] = [
+        "03101", "03213", "03282", "03254", "40205", "40504", "40102", "0310",
+    ];
+    let begin = match random.below(4) {
+        0 | 1 => random.pick(&CLASS_A),
+        2 => random.pick(&CLASS_B),
+        _ => random.pick(&NEAR),
+    };
+    let mut text = digits_after(random, begin, 20);
+    if random.percent(60) {
+        text.bytes_mut()[5..8].copy_from_slice(b"643");
+    }
+    if random.percent(50) {
+        text.bytes_mut()[13] = b'4';
+    }
+    text
+}
+
+/// Digits of a width or one beside it; of zeros, or beginning with them.
+fn near_digits(random: &mut Random, width: usize) -> Text {
+    let width = match random.below(8) {
+        0 => width - 1,
+        1 => width + 1,
+        _ => width,
+    };
+    let mut text = digits(random, width);
+    match random.below(6) {
+        0 => text.bytes_mut().fill(b'0'),
+        1 => text
+            .bytes_mut()
+            .iter_mut()
+            .take(2)
+            .for_each(|digit| *digit = b'0'),
+        2 => text.bytes_mut()[0] = b'0',
+        _ => {}
+    }
+    text
+}
+
+/// A letter pair or nearly one.
+fn near_pair(random: &mut Random) -> Text {
+    const LETTERS: &[u8] = b"\xD3\xC2\xC8\xCB\xCF\xC1\xD2\xC3\xC4\xCD\xCA\xDD\xE0T0";
+    let mut text = Text::new(&[random.pick(LETTERS), random.pick(LETTERS)]);
+    if random.percent(10) {
+        text.push(random.pick(LETTERS));
+    }
+    text
+}
+
+/// A text of field 108 or nearly one.
+fn near_document(random: &mut Random) -> Text {
+    const EDGES: &[u8] = &[0, 32, 33, 44, 45, 46, b';', 126, 127, 128, 191, 192, 255];
+    match random.below(6) {
+        0 => {
+            let number = random.below(32);
+            let mut text = Text::new(format!("{number:02};").as_bytes());
+            let length = 3 + random.below(14);
+            document_bytes(random, &mut text, length);
+            text
+        }
+        1..=3 => {
+            let mut text = document(random);
+            let place = random.below(text.len());
+            text.bytes_mut()[place] = random.pick(EDGES);
+            text
+        }
+        4 => {
+            let mut text = Text::BLANK;
+            let length = 13 + random.below(5);
+            document_bytes(random, &mut text, length);
+            text
+        }
+        _ => document(random),
+    }
+}
+
+/// A text that might stand in this field.
+pub fn text_for(random: &mut Random, field: u8) -> Text {
+    if has_zero(field) && random.percent(25) {
+        return Text::new(random.pick(&[&b"0"[..], b"0", b"00", b"000"]));
+    }
+    match field {
+        14 if random.percent(60) => digits_after(random, "044525", 9),
+        14 if random.percent(60) => {
+            let end = random.below(8);
+            digits_after(random, &format!("04452500{end}"), 9)
+        }
+        14 => near_digits(random, 9),
+        15 if random.percent(50) => digits_after(random, "40102", 20),
+        15 => near_digits(random, 20),
+        17 if random.percent(90) => account(random),
+        17 => near_digits(random, 20),
+        22 => {
+            let width = random.pick(&[4, 20, 25, 20, 25]);
+            near_digits(random, width)
+        }
+        60 => {
+            let width = random.pick(&[5, 10, 12]);
+            near_digits(random, width)
+        }
+        61 => near_digits(random, 10),
+        101 if random.percent(80) => Text::new(random.pick(&STATUSES).as_bytes()),
+        101 => {
+            let width = random.pick(&[2, 2, 2, 3]);
+            near_digits(random, width)
+        }
+        102 | 103 => near_digits(random, 9),
+        104 => near_digits(random, 20),
+        105 | 107 => near_digits(random, 8),
+        106 if random.percent(50) => pair(random),
+        106 => near_pair(random),
+        108 if random.percent(40) => person(random),
+        108 => near_document(random),
+        109 if random.percent(40) => date(random),
+        _ => near_date(random),
+    }
+}
+
+/// Whether "0" is among the field's texts.
+const fn has_zero(field: u8) -> bool {
+    matches!(field, 22 | 60 | 102 | 104..=109)
+}

@@ -1,0 +1,20 @@
+//! Sheets, drafts and messages to try the library with: laid out byte by byte
+//! from document 01, without code of the library or of the second implementation.
+
+#![forbid(unsafe_code)]
+#![warn(missing_docs)]
+
+mod damage;
+mod forms;
+mod orders;
+mod random;
+mod table;
+mod texts;
+
+pub use damage::{damaged_draft, damaged_message, damaged_sheet, size_near};
+pub use forms::{list, BASES, CLASS_A, CLASS_B, STATUSES};
+pub use orders::{accepted, blanked, budget, class_a, class_b, disturb, with_forms};
+pub use orders::{Account, Basis, Code, Date, Document, Forms, Payer};
+pub use random::Random;
+pub use table::{sheets, Case};
+pub use texts::{message, slot_of, Draft, Sheet, Text, Texts, FIELDS, FILLABLE};

@@ -1,0 +1,288 @@
+//! One call of both, and what must agree after it.
+
+use std::fmt::{self, Debug, Write as _};
+
+use cases::FIELDS;
+use kieselbrot::{Class, Completed, Message, Posted, Refusal};
+
+use crate::library::{Library, Reference};
+use crate::reached::Reached;
+
+/// A call on which the two differ.
+#[derive(Clone, Debug)]
+pub struct Difference {
+    /// The function called.
+    pub function: &'static str,
+    /// What it got.
+    pub input: String,
+    /// What the library did.
+    pub library: String,
+    /// What it should have done.
+    pub expected: String,
+}
+
+impl fmt::Display for Difference {
+    fn fmt(&self, f: &mut fmt::Formatter<'_>) -> fmt::Result {
+        writeln!(f, "{} of {}", self.function, self.input)?;
+        writeln!(f, "  library:  {}", self.library)?;
+        write!(f, "  expected: {}", self.expected)
+    }
+}
+
+/// Bytes in hexadecimal.
+pub fn hex(bytes: &[u8]) -> String {
+    let mut digits = format!("{} bytes ", bytes.len());
+    for byte in bytes {
+        // Writing to a string never fails.
+        let _ = write!(digits, "{byte:02x}");
+    }
+    digits
+}
+
+/// A sheet's or draft's texts as `FIELD=TEXT`, and its bytes.
+fn shown(bytes: &[u8], slot_size: usize) -> String {
+    let text = |slot: &[u8]| {
+        let slot = slot.get(slot_size - 26..).unwrap_or_default();
+        let length = slot.first().copied().unwrap_or_default();
+        let text = slot.iter().skip(1).take(usize::from(length));
+        text.copied().collect::<Vec<u8>>()
+    };
+    let texts: Vec<String> = bytes
+        .chunks(slot_size)
+        .zip(FIELDS)
+        .map(|(slot, field)| format!("{field}={}", text(slot).escape_ascii()))
+        .collect();
+    format!("{} ({})", texts.join(" "), hex(bytes))
+}
+
+fn shown_sheet(sheet: &[u8]) -> String {
+    shown(sheet, 26)
+}
+
+fn shown_draft(draft: &[u8]) -> String {
+    shown(draft, 30)
+}
+
+/// A buffer to lend, amid bytes that nobody may touch.
+#[derive(Clone, PartialEq, Eq)]
+pub struct Lent {
+    area: [u8; Self::AREA],
+    size: usize,
+}
+
+impl Lent {
+    const AREA: usize = 1024;
+    const GUARD: usize = 48;
+
+    /// A buffer with this content.
+    pub fn new(content: &[u8]) -> Self {
+        let mut lent = Self::filled(content.len(), 0);
+        lent.bytes_mut().copy_from_slice(content);
+        lent
+    }
+
+    /// A buffer of this size, each byte the same.
+    pub fn filled(size: usize, byte: u8) -> Self {
+        let mut lent = Self {
+            area: [0xA5; Self::AREA],
+            size,
+        };
+        lent.bytes_mut().fill(byte);
+        lent
+    }
+
+    /// The lent bytes.
+    pub fn bytes(&self) -> &[u8] {
+        &self.area[Self::GUARD..][..self.size]
+    }
+
+    fn bytes_mut(&mut self) -> &mut [u8] {
+        &mut self.area[Self::GUARD..Self::AREA - Self::GUARD][..self.size]
+    }
+
+    /// Where the bytes, with those around them, first differ.
+    fn difference(&self, other: &Self) -> Option<isize> {
+        let place = (0..Self::AREA).find(|&place| self.area[place] != other.area[place])?;
+        Some(place as isize - Self::GUARD as isize)
+    }
+}
+
+/// The library, compared call by call with the second implementation.
+pub struct Comparison<'a, L> {
+    library: &'a L,
+    /// What the calls so far have reached.
+    pub reached: Reached,
+}
+
+type Outcome<T> = Result<T, Difference>;
+
+impl<'a, L: Library> Comparison<'a, L> {
+    /// A comparison that has reached nothing yet.
+    pub fn new(library: &'a L) -> Self {
+        Self {
+            library,
+            reached: Reached::default(),
+        }
+    }
+
+    /// The library that is compared.
+    pub fn library(&self) -> &'a L {
+        self.library
+    }
+
+    /// Checks a sheet.
+    pub fn check(&mut self, sheet: &[u8]) -> Outcome<Result<Class, Refusal>> {
+        let input = || format!("sheet {}", shown_sheet(sheet));
+        let answer = self.library.check(sheet);
+        same("check", answer, Reference.check(sheet), input)?;
+        self.reached.check(sheet, answer);
+        Ok(answer)
+    }
+
+    /// Reads a message; its text must be a part of it.
+    pub fn read<'m>(&mut self, message: &'m [u8]) -> Outcome<Result<Message<'m>, Refusal>> {
+        let input = || format!("message {}", hex(message));
+        let answer = self.library.read(message);
+        same("read", answer, Reference.read(message), input)?;
+        let place = |answer: Result<Message<'m>, Refusal>| {
+            answer.map(|message| message.text.as_ptr_range())
+        };
+        let part = message.get(8..).unwrap_or_default().as_ptr_range();
+        same("read", place(answer), answer.map(|_| part), input)?;
+        self.reached.answer("read", answer);
+        Ok(answer)
+    }
+
+    /// Writes a message into a buffer, which is given back.
+    pub fn write(
+        &mut self,
+        field: u8,
+        revision: u32,
+        text: &[u8],
+        before: Lent,
+    ) -> Outcome<(Result<usize, Refusal>, Lent)> {
+        let input = || {
+            let size = before.size;
+            format!(
+                "field {field}, revision {revision}, text {}, buffer of {size}",
+                hex(text)
+            )
+        };
+        let (answer, buffer) = self.lend("write", &before, input, |library, buffer| {
+            library.write(field, revision, text, buffer)
+        })?;
+        self.reached.answer("write", answer);
+        Ok((answer, buffer))
+    }
+
+    /// Makes a draft fresh, which is given back.
+    pub fn fresh(&mut self, before: Lent) -> Outcome<Lent> {
+        let input = || format!("draft {}", shown_draft(before.bytes()));
+        let (answer, draft) = self.lend("fresh", &before, input, |library, draft| {
+            library.fresh(draft)
+        })?;
+        self.reached.answer("fresh", answer);
+        Ok(draft)
+    }
+
+    /// Posts a message to a draft, which is changed.
+    pub fn post(&mut self, draft: &mut Lent, message: &[u8]) -> Outcome<Result<Posted, Refusal>> {
+        let input = || {
+            format!(
+                "draft {}, message {}",
+                shown_draft(draft.bytes()),
+                hex(message)
+            )
+        };
+        let (answer, after) = self.lend("post", draft, input, |library, draft| {
+            library.post(draft, message)
+        })?;
+        *draft = after;
+        self.reached.post(answer);
+        Ok(answer)
+    }
+
+    /// Copies a draft to a sheet, which is given back.
+    pub fn copy(&mut self, draft: &[u8], before: Lent) -> Outcome<Lent> {
+        let input = || format!("draft {}, sheet of {}", shown_draft(draft), before.size);
+        let (answer, sheet) = self.lend("copy", &before, input, |library, sheet| {
+            library.copy(draft, sheet)
+        })?;
+        self.reached.answer("copy", answer);
+        Ok(sheet)
+    }
+
+    /// Completes a draft; the sheet is given back.
+    pub fn complete(
+        &mut self,
+        draft: &[u8],
+        before: Lent,
+    ) -> Outcome<(Result<Completed, Refusal>, Lent)> {
+        let input = || format!("draft {}, sheet of {}", shown_draft(draft), before.size);
+        let (answer, sheet) = self.lend("complete", &before, input, |library, sheet| {
+            library.complete(draft, sheet)
+        })?;
+        self.reached.complete(answer);
+        Ok((answer, sheet))
+    }
+
+    /// Lends a copy of the buffer to each; answers, buffers and the bytes around
+    /// them must agree, and be as before after a refusal.
+    fn lend<T: Copy + Debug + PartialEq>(
+        &self,
+        function: &'static str,
+        before: &Lent,
+        input: impl Fn() -> String + Copy,
+        call: impl Fn(&dyn Library, &mut [u8]) -> Result<T, Refusal>,
+    ) -> Outcome<(Result<T, Refusal>, Lent)> {
+        let mut left = before.clone();
+        let mut right = before.clone();
+        let answer = call(self.library, left.bytes_mut());
+        let expected = call(&Reference, right.bytes_mut());
+        same(function, answer, expected, input)?;
+        same_buffer(function, &left, &right, input)?;
+        if answer.is_err() {
+            same_buffer(function, &left, before, input)?;
+        }
+        Ok((answer, left))
+    }
+}
+
+/// Holds an answer against the expected one.
+pub fn same<T: PartialEq + Debug>(
+    function: &'static str,
+    answer: T,
+    expected: T,
+    input: impl Fn() -> String,
+) -> Outcome<()> {
+    if answer == expected {
+        return Ok(());
+    }
+    Err(Difference {
+        function,
+        input: input(),
+        library: format!("{answer:?}"),
+        expected: format!("{expected:?}"),
+    })
+}
+
+fn same_buffer(
+    function: &'static str,
+    buffer: &Lent,
+    expected: &Lent,
+    input: impl Fn() -> String,
+) -> Outcome<()> {
+    let Some(place) = (buffer != expected)
+        .then(|| buffer.difference(expected))
+        .flatten()
+    else {
+        return Ok(());
+    };
+    let seen = |lent: &Lent| format!("from place {place} on: {}", hex(lent.bytes()));
+    Err(Difference {
+        function,
+        input: input(),
+        library: seen(buffer),
+        expected: seen(expected),
+    })
+}

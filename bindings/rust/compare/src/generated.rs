@@ -1,0 +1,224 @@
+//! Generated cases, one after another.
+
+use cases::{accepted, blanked, budget, disturb, message, size_near, Random, Text, Texts, FIELDS};
+use cases::{damaged_draft, damaged_message, damaged_sheet, Draft};
+
+use crate::comparison::{same, Comparison, Difference, Lent};
+use crate::library::Library;
+use crate::{fillings, streams};
+
+type Outcome = Result<(), Difference>;
+
+/// One case: mostly one call, sometimes a list of them.
+pub fn case<L: Library>(comparison: &mut Comparison<'_, L>, random: &mut Random) -> Outcome {
+    match random.below(200) {
+        0..80 => check(comparison, random),
+        80..100 => read(comparison, random),
+        100..120 => write(comparison, random),
+        120..123 => fresh(comparison, random),
+        123..147 => post(comparison, random),
+        147..159 => copy(comparison, random),
+        159..189 => complete(comparison, random),
+        189..191 => complete_by_list(comparison, random),
+        191..199 => streams::stream(comparison, random),
+        _ => streams::arrangements(comparison, random, 4),
+    }
+}
+
+/// An order that keeps the rules, or one with a few texts changed.
+fn order(random: &mut Random) -> Texts {
+    let mut texts = accepted(random);
+    for _ in 0..random.pick(&[0, 1, 1, 1, 2, 3]) {
+        disturb(random, &mut texts);
+    }
+    texts
+}
+
+/// An order to complete: blanks, and perhaps a text changed.
+fn open_order(random: &mut Random) -> Texts {
+    let mut texts = if random.percent(8) {
+        accepted(random)
+    } else {
+        blanked(budget(random), random.below(1024))
+    };
+    if random.percent(40) {
+        disturb(random, &mut texts);
+    }
+    texts
+}
+
+fn check<L: Library>(comparison: &mut Comparison<'_, L>, random: &mut Random) -> Outcome {
+    let sheet = order(random).sheet();
+    match random.below(20) {
+        0..3 => comparison.check(&damaged_sheet(random, sheet)),
+        3 => comparison.check(resized(random, &sheet).bytes()),
+        _ => comparison.check(&sheet),
+    }
+    .map(drop)
+}
+
+/// The bytes cut to a size near the right one, or lengthened with zeros.
+fn resized(random: &mut Random, bytes: &[u8]) -> Lent {
+    let mut resized = bytes.to_vec();
+    resized.resize(size_near(random, bytes.len()), 0);
+    Lent::new(&resized)
+}
+
+fn any_field(random: &mut Random) -> u8 {
+    if random.percent(90) {
+        random.pick(&FIELDS)
+    } else {
+        random.byte()
+    }
+}
+
+fn any_revision(random: &mut Random) -> u32 {
+    let any = random.number() as u32;
+    random.pick(&[0, 1, 1, 2, 2, 255, 256, 0x8000_0000, u32::MAX, any, any])
+}
+
+/// A text of any bytes, mostly short enough.
+fn any_text(random: &mut Random) -> Text {
+    let length = match random.below(10) {
+        0 => 24 + random.below(4),
+        1 => 0,
+        _ => random.below(26),
+    };
+    let mut text = Text::BLANK;
+    (0..length).for_each(|_| text.push(random.byte()));
+    text
+}
+
+/// A message, readable or not.
+fn any_message(random: &mut Random) -> Vec<u8> {
+    let field = any_field(random);
+    let revision = any_revision(random);
+    let whole = message(field, revision, &any_text(random));
+    if random.percent(30) {
+        damaged_message(random, whole)
+    } else {
+        whole
+    }
+}
+
+fn read<L: Library>(comparison: &mut Comparison<'_, L>, random: &mut Random) -> Outcome {
+    let bytes = any_message(random);
+    let Ok(read) = comparison.read(&bytes)? else {
+        return Ok(());
+    };
+    // What reads is what the writer makes.
+    let before = Lent::filled(bytes.len(), 0);
+    let (_, written) = comparison.write(read.field, read.revision, read.text, before)?;
+    let input = || "what was read".to_owned();
+    same("write", written.bytes(), &bytes[..], input)
+}
+
+fn write<L: Library>(comparison: &mut Comparison<'_, L>, random: &mut Random) -> Outcome {
+    let field = any_field(random);
+    let revision = any_revision(random);
+    let text = any_text(random);
+    let size = size_near(random, 8 + text.len());
+    let before = Lent::filled(size, 0xEE);
+    let (answer, buffer) = comparison.write(field, revision, &text, before)?;
+    let Ok(length) = answer else {
+        return Ok(());
+    };
+    // What was written reads back.
+    let read = comparison.read(&buffer.bytes()[..length])?;
+    let back = read.map(|message| (message.field, message.revision, message.text));
+    let input = || "what was written".to_owned();
+    same("read", back, Ok((field, revision, &text[..])), input)
+}
+
+fn fresh<L: Library>(comparison: &mut Comparison<'_, L>, random: &mut Random) -> Outcome {
+    let size = size_near(random, 450);
+    comparison
+        .fresh(Lent::filled(size, random.byte()))
+        .map(drop)
+}
+
+/// Revisions for a draft: a blank may have 0.
+fn draft(random: &mut Random, texts: &Texts) -> Draft {
+    texts.draft(|text| {
+        let revision = any_revision(random);
+        if text.is_empty() {
+            revision
+        } else {
+            revision.max(1)
+        }
+    })
+}
+
+/// A draft, mostly well-formed, and mostly of the right size.
+fn any_draft(random: &mut Random, texts: &Texts) -> Lent {
+    let draft = draft(random, texts);
+    match random.below(20) {
+        0 | 1 => Lent::new(&damaged_draft(random, draft)),
+        2 => resized(random, &draft),
+        _ => Lent::new(&draft),
+    }
+}
+
+/// A message for this draft: about the slot's own revision and text.
+fn message_for(random: &mut Random, draft: &[u8]) -> Vec<u8> {
+    let slot = random.below(15);
+    let Some(bytes) = draft.get(30 * slot..30 * (slot + 1)) else {
+        return any_message(random);
+    };
+    let stored = u32::from_be_bytes([bytes[0], bytes[1], bytes[2], bytes[3]]);
+    let step = random.pick(&[0, 0, 0, 1, u32::MAX]);
+    let mut text = Text::new(&bytes[5..][..usize::from(bytes[4].min(25))]);
+    match random.below(6) {
+        0 => text.push(0),
+        1 => text.pop(),
+        2 => text = any_text(random),
+        _ => {}
+    }
+    message(FIELDS[slot], stored.wrapping_add(step), &text)
+}
+
+fn post<L: Library>(comparison: &mut Comparison<'_, L>, random: &mut Random) -> Outcome {
+    let texts = order(random);
+    let mut draft = any_draft(random, &texts);
+    let message = match random.percent(70) {
+        true => message_for(random, draft.bytes()),
+        false => any_message(random),
+    };
+    let _ = comparison.post(&mut draft, &message)?;
+    Ok(())
+}
+
+/// A sheet to write into: mostly of the right size, whatever it holds.
+fn output(random: &mut Random) -> Lent {
+    let size = match random.percent(15) {
+        true => size_near(random, 390),
+        false => 390,
+    };
+    Lent::filled(size, random.byte())
+}
+
+fn copy<L: Library>(comparison: &mut Comparison<'_, L>, random: &mut Random) -> Outcome {
+    let texts = order(random);
+    let draft = any_draft(random, &texts);
+    let before = output(random);
+    comparison.copy(draft.bytes(), before).map(drop)
+}
+
+fn complete<L: Library>(comparison: &mut Comparison<'_, L>, random: &mut Random) -> Outcome {
+    let texts = open_order(random);
+    let draft = any_draft(random, &texts);
+    let before = output(random);
+    comparison.complete(draft.bytes(), before).map(drop)
+}
+
+fn complete_by_list<L: Library>(
+    comparison: &mut Comparison<'_, L>,
+    random: &mut Random,
+) -> Outcome {
+    let texts = open_order(random);
+    let draft = draft(random, &texts);
+    if draft.chunks_exact(30).any(|slot| slot[4] > 25) {
+        return comparison.complete(&draft, Lent::filled(390, 0)).map(drop);
+    }
+    fillings::complete(comparison, &texts, &draft)
+}

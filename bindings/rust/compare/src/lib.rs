@@ -1,0 +1,24 @@
+//! The library against the second implementation of document 01.
+//!
+//! Both get the same inputs; answers and lent buffers must agree after every
+//! call, and a refusal must leave the buffers as they were. What the inputs
+//! reached is counted, and what they never reached is an error.
+
+#![forbid(unsafe_code)]
+#![warn(missing_docs)]
+
+mod comparison;
+mod exhaustive;
+mod fillings;
+mod generated;
+mod library;
+mod planted;
+mod reached;
+mod run;
+mod streams;
+
+pub use comparison::{Comparison, Difference};
+pub use library::{Library, Linked, Reference};
+pub use planted::{Planted, PLANTS};
+pub use reached::Reached;
+pub use run::{setting, Report, Run, CASES, SEED};

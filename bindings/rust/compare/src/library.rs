@@ -1,0 +1,153 @@
+//! The library and the second implementation under one trait.
+
+use kieselbrot::{Class, Completed, Message, Posted, Refusal};
+
+/// The seven functions of document 01.
+pub trait Library: Sync {
+    /// Checks a sheet.
+    fn check(&self, sheet: &[u8]) -> Result<Class, Refusal>;
+    /// Reads a message.
+    fn read<'a>(&self, message: &'a [u8]) -> Result<Message<'a>, Refusal>;
+    /// Writes a message.
+    fn write(
+        &self,
+        field: u8,
+        revision: u32,
+        text: &[u8],
+        buffer: &mut [u8],
+    ) -> Result<usize, Refusal>;
+    /// Makes a draft fresh.
+    fn fresh(&self, draft: &mut [u8]) -> Result<(), Refusal>;
+    /// Posts a message.
+    fn post(&self, draft: &mut [u8], message: &[u8]) -> Result<Posted, Refusal>;
+    /// Copies a draft to a sheet.
+    fn copy(&self, draft: &[u8], sheet: &mut [u8]) -> Result<(), Refusal>;
+    /// Completes a draft.
+    fn complete(&self, draft: &[u8], sheet: &mut [u8]) -> Result<Completed, Refusal>;
+}
+
+/// The proved library, as linked.
+pub struct Linked;
+
+impl Library for Linked {
+    fn check(&self, sheet: &[u8]) -> Result<Class, Refusal> {
+        kieselbrot::check(sheet)
+    }
+
+    fn read<'a>(&self, message: &'a [u8]) -> Result<Message<'a>, Refusal> {
+        kieselbrot::read(message)
+    }
+
+    fn write(
+        &self,
+        field: u8,
+        revision: u32,
+        text: &[u8],
+        buffer: &mut [u8],
+    ) -> Result<usize, Refusal> {
+        kieselbrot::write(field, revision, text, buffer)
+    }
+
+    fn fresh(&self, draft: &mut [u8]) -> Result<(), Refusal> {
+        kieselbrot::fresh(draft)
+    }
+
+    fn post(&self, draft: &mut [u8], message: &[u8]) -> Result<Posted, Refusal> {
+        kieselbrot::post(draft, message)
+    }
+
+    fn copy(&self, draft: &[u8], sheet: &mut [u8]) -> Result<(), Refusal> {
+        kieselbrot::copy(draft, sheet)
+    }
+
+    fn complete(&self, draft: &[u8], sheet: &mut [u8]) -> Result<Completed, Refusal> {
+        kieselbrot::complete(draft, sheet)
+    }
+}
+
+/// The second implementation, with its answers in the library's types.
+pub struct Reference;
+
+impl Library for Reference {
+    fn check(&self, sheet: &[u8]) -> Result<Class, Refusal> {
+        reference::check(sheet).map(class).map_err(refusal)
+    }
+
+    fn read<'a>(&self, message: &'a [u8]) -> Result<Message<'a>, Refusal> {
+        let reference::Message {
+            field,
+            revision,
+            text,
+        } = reference::read(message).map_err(refusal)?;
+        Ok(Message {
+            field,
+            revision,
+            text,
+        })
+    }
+
+    fn write(
+        &self,
+        field: u8,
+        revision: u32,
+        text: &[u8],
+        buffer: &mut [u8],
+    ) -> Result<usize, Refusal> {
+        reference::write(field, revision, text, buffer).map_err(refusal)
+    }
+
+    fn fresh(&self, draft: &mut [u8]) -> Result<(), Refusal> {
+        reference::fresh(draft).map_err(refusal)
+    }
+
+    fn post(&self, draft: &mut [u8], message: &[u8]) -> Result<Posted, Refusal> {
+        reference::post(draft, message).map(posted).map_err(refusal)
+    }
+
+    fn copy(&self, draft: &[u8], sheet: &mut [u8]) -> Result<(), Refusal> {
+        reference::copy(draft, sheet).map_err(refusal)
+    }
+
+    fn complete(&self, draft: &[u8], sheet: &mut [u8]) -> Result<Completed, Refusal> {
+        let reference::Completed { count, set, ones } =
+            reference::complete(draft, sheet).map_err(refusal)?;
+        Ok(Completed {
+            count: count as usize,
+            set,
+            ones,
+        })
+    }
+}
+
+const fn class(class: reference::Class) -> Class {
+    match class {
+        reference::Class::A => Class::A,
+        reference::Class::B => Class::B,
+        reference::Class::O => Class::O,
+    }
+}
+
+const fn posted(posted: reference::Posted) -> Posted {
+    match posted {
+        reference::Posted::Newer => Posted::Newer,
+        reference::Posted::Same => Posted::Same,
+        reference::Posted::Older => Posted::Older,
+    }
+}
+
+const fn refusal(refusal: reference::Refusal) -> Refusal {
+    match refusal {
+        reference::Refusal::Malformed => Refusal::Malformed,
+        reference::Refusal::Length => Refusal::Length,
+        reference::Refusal::Version => Refusal::Version,
+        reference::Refusal::UnknownField => Refusal::UnknownField,
+        reference::Refusal::RevisionZero => Refusal::RevisionZero,
+        reference::Refusal::Clash => Refusal::Clash,
+        reference::Refusal::Output => Refusal::Output,
+        reference::Refusal::Broken { field, rule } => Refusal::Broken { field, rule },
+        reference::Refusal::Ordinary => Refusal::Ordinary,
+        reference::Refusal::NoFilling { count } => Refusal::NoFilling {
+            count: count as usize,
+        },
+    }
+}

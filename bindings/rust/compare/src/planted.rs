@@ -1,0 +1,171 @@
+//! Differences planted on purpose: each must be found.
+
+use cases::{slot_of, Texts};
+use kieselbrot::{Class, Completed, Message, Posted, Refusal};
+
+use crate::library::{Library, Reference};
+
+/// The second implementation with one thing changed.
+#[derive(Clone, Copy, Debug, PartialEq, Eq)]
+pub enum Planted {
+    /// Rule 18 knows no exception for centuries: 29.02.1900 is a date.
+    Century,
+    /// Rule 27 makes no exception for status 01.
+    Status01,
+    /// Class A without 03252.
+    Without03252,
+    /// Rule 17 allows the hyphen.
+    Hyphen,
+    /// The last byte of a sheet is not looked at.
+    LastPad,
+    /// A lower revision is stored: the last arrival wins.
+    LastArrival,
+    /// An equal revision with another text is stored.
+    ClashStored,
+    /// 5 is tested before 4.
+    RevisionFirst,
+    /// Writing clears the rest of the buffer.
+    RestCleared,
+    /// Copying tests 7 before 1.
+    OutputFirst,
+    /// The count leaves out the fillings of earlier statuses.
+    CountAnew,
+    /// A blank 15 is in the set.
+    Blank15,
+    /// With number 10 the draft's sheet is written all the same.
+    WrittenAnyway,
+}
+
+/// All of them.
+pub const PLANTS: [Planted; 13] = [
+    Planted::Century,
+    Planted::Status01,
+    Planted::Without03252,
+    Planted::Hyphen,
+    Planted::LastPad,
+    Planted::LastArrival,
+    Planted::ClashStored,
+    Planted::RevisionFirst,
+    Planted::RestCleared,
+    Planted::OutputFirst,
+    Planted::CountAnew,
+    Planted::Blank15,
+    Planted::WrittenAnyway,
+];
+
+impl Planted {
+    /// The sheet that the changed rules see in place of this one.
+    fn seen(self, sheet: &[u8]) -> Vec<u8> {
+        let mut seen = sheet.to_vec();
+        let slot = |field| 26 * slot_of(field)..26 * (slot_of(field) + 1);
+        match self {
+            Self::Century if text(sheet, 109) == b"29.02.1900" => seen[slot(109)][2] = b'8',
+            Self::Without03252 if text(sheet, 17).starts_with(b"03252") => {
+                seen[slot(17)][5] = b'3';
+            }
+            Self::Hyphen if sheet.len() == 390 => {
+                let hyphens = seen[slot(108)].iter_mut().filter(|byte| **byte == b'-');
+                hyphens
+                    .skip(usize::from(sheet[slot(108)][0] == b'-'))
+                    .for_each(|byte| *byte = b'+');
+            }
+            Self::LastPad if sheet.len() == 390 && text(sheet, 109).len() < 25 => seen[389] = 0,
+            _ => {}
+        }
+        seen
+    }
+}
+
+/// A field's text, or nothing if there is no such place.
+fn text(sheet: &[u8], field: u8) -> &[u8] {
+    let slot = sheet.get(26 * slot_of(field)..).unwrap_or_default();
+    let length = slot.first().copied().unwrap_or_default();
+    slot.get(1..1 + usize::from(length)).unwrap_or_default()
+}
+
+impl Library for Planted {
+    fn check(&self, sheet: &[u8]) -> Result<Class, Refusal> {
+        let answer = Reference.check(&self.seen(sheet));
+        let inn = text(sheet, 60).len() == 10 && text(sheet, 102) == b"0";
+        match answer {
+            Ok(Class::A | Class::B)
+                if *self == Self::Status01 && inn && text(sheet, 101) == b"01" =>
+            {
+                let (field, rule) = (102, 27);
+                Err(Refusal::Broken { field, rule })
+            }
+            _ => answer,
+        }
+    }
+
+    fn read<'a>(&self, message: &'a [u8]) -> Result<Message<'a>, Refusal> {
+        match Reference.read(message) {
+            Err(Refusal::UnknownField)
+                if *self == Self::RevisionFirst && message.get(4..8) == Some(&[0; 4]) =>
+            {
+                Err(Refusal::RevisionZero)
+            }
+            answer => answer,
+        }
+    }
+
+    fn write(
+        &self,
+        field: u8,
+        revision: u32,
+        text: &[u8],
+        buffer: &mut [u8],
+    ) -> Result<usize, Refusal> {
+        let length = Reference.write(field, revision, text, buffer)?;
+        if *self == Self::RestCleared {
+            buffer[length..].fill(0);
+        }
+        Ok(length)
+    }
+
+    fn fresh(&self, draft: &mut [u8]) -> Result<(), Refusal> {
+        Reference.fresh(draft)
+    }
+
+    fn post(&self, draft: &mut [u8], message: &[u8]) -> Result<Posted, Refusal> {
+        let answer = Reference.post(draft, message);
+        let stored = match answer {
+            Ok(Posted::Older) => *self == Self::LastArrival,
+            Err(Refusal::Clash) => *self == Self::ClashStored,
+            _ => false,
+        };
+        if stored {
+            let slot = 30 * slot_of(message[3]);
+            draft[slot..slot + 30].fill(0);
+            return Reference.post(draft, message);
+        }
+        answer
+    }
+
+    fn copy(&self, draft: &[u8], sheet: &mut [u8]) -> Result<(), Refusal> {
+        if *self == Self::OutputFirst && sheet.len() != 390 {
+            return Err(Refusal::Output);
+        }
+        Reference.copy(draft, sheet)
+    }
+
+    fn complete(&self, draft: &[u8], sheet: &mut [u8]) -> Result<Completed, Refusal> {
+        let answer = Reference.complete(draft, sheet);
+        match (self, answer) {
+            (Self::CountAnew, Ok(completed)) => Ok(Completed {
+                count: (completed.count - 1) % 48 + 1,
+                ..completed
+            }),
+            (Self::Blank15, Ok(completed)) if text(sheet, 15).is_empty() => Ok(Completed {
+                set: completed.set | 2,
+                ones: completed.ones + 1,
+                ..completed
+            }),
+            (Self::WrittenAnyway, Err(Refusal::NoFilling { .. })) => {
+                sheet.copy_from_slice(&Texts::BLANK.sheet());
+                answer
+            }
+            _ => answer,
+        }
+    }
+}

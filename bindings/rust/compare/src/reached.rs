@@ -1,0 +1,253 @@
+//! What the cases reached.
+
+use std::collections::BTreeMap;
+use std::fmt;
+
+use cases::{BASES, CLASS_A, CLASS_B, STATUSES};
+use kieselbrot::{Class, Completed, Posted, Refusal};
+
+/// How often each thing was reached. What a thing is called is part of the
+/// report: "check 8", "rule 27", "status 04 in class A".
+#[derive(Clone, Debug, Default)]
+pub struct Reached {
+    /// Calls compared.
+    pub calls: u64,
+    answers: BTreeMap<(&'static str, u8), u64>,
+    rules: BTreeMap<(&'static str, u8, u8), u64>,
+    standings: [u64; 3],
+    accepted: BTreeMap<(Class, Accepted), u64>,
+    counts: BTreeMap<usize, u64>,
+    hopeless: BTreeMap<usize, u64>,
+    sets: BTreeMap<u16, u64>,
+}
+
+/// What an accepted sheet had: a listed text of a field, by its place in the list.
+#[derive(Clone, Copy, Debug, PartialEq, Eq, PartialOrd, Ord)]
+enum Accepted {
+    Class,
+    Status(usize),
+    Basis(usize),
+    Account(usize),
+}
+
+/// The numbers that each function returns.
+const ANSWERS: [(&str, &[u8]); 7] = [
+    ("check", &[0, 1, 8]),
+    ("read", &[0, 2, 3, 4, 5]),
+    ("write", &[0, 2, 4, 5, 7]),
+    ("fresh", &[0, 1]),
+    ("post", &[0, 1, 2, 3, 4, 5, 6]),
+    ("copy", &[0, 1, 7]),
+    ("complete", &[0, 1, 7, 8, 9, 10]),
+];
+
+/// The field that each rule names; rule 6 names twelve.
+const FIELD_OF_RULE: [u8; 34] = [
+    14, 15, 17, 101, 17, 0, 22, 60, 61, 101, 102, 103, 104, 105, 106, 107, 108, 109, 17, 17, 22,
+    22, 60, 60, 108, 108, 102, 104, 106, 107, 109, 108, 108, 109,
+];
+
+/// The fields that rule 6 names.
+const FIELDS_OF_RULE_6: [u8; 12] = [22, 60, 61, 101, 102, 103, 104, 105, 106, 107, 108, 109];
+
+/// Every count that a completion can return with a sheet: those that all
+/// combinations of forms give.
+const COUNTS: [usize; 28] = [
+    1, 2, 3, 4, 5, 7, 9, 10, 13, 17, 19, 20, 25, 37, 39, 40, 49, 50, 73, 97, 100, 109, 110, 145,
+    193, 217, 220, 433,
+];
+
+/// Every count of all fillings.
+const ALL_FILLINGS: [usize; 12] = [1, 2, 4, 12, 22, 24, 44, 48, 88, 264, 528, 1056];
+
+impl Reached {
+    /// An answer of a function.
+    pub fn answer<T>(&mut self, function: &'static str, answer: Result<T, Refusal>) {
+        self.calls += 1;
+        let refusal = answer.err();
+        let number = refusal.map_or(0, |refusal| refusal.number());
+        *self.answers.entry((function, number)).or_default() += 1;
+        if let Some(Refusal::Broken { field, rule }) = refusal {
+            *self.rules.entry((function, rule, field)).or_default() += 1;
+        }
+    }
+
+    /// A verdict.
+    pub fn check(&mut self, sheet: &[u8], answer: Result<Class, Refusal>) {
+        self.answer("check", answer);
+        let Ok(class) = answer else { return };
+        self.accept(class, Accepted::Class);
+        if class != Class::O {
+            self.accept_texts(class, sheet);
+        }
+    }
+
+    fn accept(&mut self, class: Class, what: Accepted) {
+        *self.accepted.entry((class, what)).or_default() += 1;
+    }
+
+    fn accept_texts(&mut self, class: Class, sheet: &[u8]) {
+        let text = |field| {
+            let slot = &sheet[26 * cases::slot_of(field)..];
+            &slot[1..][..usize::from(slot[0])]
+        };
+        let place = |list: &[&str], text: &[u8]| {
+            list.iter()
+                .position(|entry| text.starts_with(entry.as_bytes()))
+        };
+        let accounts: &[&str] = if class == Class::A {
+            &CLASS_A
+        } else {
+            &CLASS_B
+        };
+        let found = [
+            place(&STATUSES, text(101)).map(Accepted::Status),
+            BASES
+                .iter()
+                .position(|&basis| basis == text(106))
+                .map(Accepted::Basis),
+            place(accounts, text(17)).map(Accepted::Account),
+        ];
+        found
+            .into_iter()
+            .flatten()
+            .for_each(|what| self.accept(class, what));
+    }
+
+    /// A posting.
+    pub fn post(&mut self, answer: Result<Posted, Refusal>) {
+        self.answer("post", answer);
+        if let Ok(posted) = answer {
+            self.standings[posted as usize] += 1;
+        }
+    }
+
+    /// A completion.
+    pub fn complete(&mut self, answer: Result<Completed, Refusal>) {
+        self.answer("complete", answer);
+        match answer {
+            Ok(Completed { count, set, .. }) => {
+                *self.counts.entry(count).or_default() += 1;
+                *self.sets.entry(set).or_default() += 1;
+            }
+            Err(Refusal::NoFilling { count }) => *self.hopeless.entry(count).or_default() += 1,
+            Err(_) => {}
+        }
+    }
+
+    /// Adds what another comparison reached.
+    pub fn add(&mut self, other: &Self) {
+        self.calls += other.calls;
+        add(&mut self.answers, &other.answers);
+        add(&mut self.rules, &other.rules);
+        add(&mut self.accepted, &other.accepted);
+        add(&mut self.counts, &other.counts);
+        add(&mut self.hopeless, &other.hopeless);
+        add(&mut self.sets, &other.sets);
+        for (sum, more) in self.standings.iter_mut().zip(other.standings) {
+            *sum += more;
+        }
+    }
+
+    /// Everything that must be reached, by name, and how often it was.
+    fn list(&self) -> Vec<(String, u64)> {
+        let mut list = Vec::new();
+        for (function, numbers) in ANSWERS {
+            for &number in numbers {
+                let reached = get(&self.answers, (function, number));
+                list.push((format!("{function} {number}"), reached));
+            }
+        }
+        self.list_rules(&mut list);
+        for (standing, reached) in ["newer", "same", "older"].iter().zip(self.standings) {
+            list.push(((*standing).into(), reached));
+        }
+        self.list_accepted(&mut list);
+        for count in COUNTS {
+            list.push((format!("count {count}"), get(&self.counts, count)));
+        }
+        for count in ALL_FILLINGS {
+            list.push((format!("none of {count}"), get(&self.hopeless, count)));
+        }
+        let sets = self.sets.len() as u64;
+        list.push((format!("{sets} of 1024 sets of blanks"), sets / 1024));
+        list
+    }
+
+    fn list_rules(&self, list: &mut Vec<(String, u64)>) {
+        let rule = |function, rule, field| get(&self.rules, (function, rule, field));
+        for (number, field) in (1..).zip(FIELD_OF_RULE).filter(|&(number, _)| number != 6) {
+            let name = format!("rule {number} of {field}");
+            list.push((name, rule("check", number, field)));
+        }
+        for field in FIELDS_OF_RULE_6 {
+            list.push((format!("rule 6 of {field}"), rule("check", 6, field)));
+        }
+        for (number, field) in (1..).zip(&FIELD_OF_RULE[..3]) {
+            let name = format!("rule {number} of {field} in completion");
+            list.push((name, rule("complete", number, *field)));
+        }
+    }
+
+    fn list_accepted(&self, list: &mut Vec<(String, u64)>) {
+        for class in [Class::A, Class::B, Class::O] {
+            let reached = get(&self.accepted, (class, Accepted::Class));
+            list.push((format!("class {class:?}"), reached));
+        }
+        for (class, accounts) in [(Class::A, &CLASS_A[..]), (Class::B, &CLASS_B)] {
+            let mut add = |name: String, what| {
+                let name = format!("{name} in class {class:?}");
+                list.push((name, get(&self.accepted, (class, what))));
+            };
+            for (place, status) in STATUSES.iter().enumerate() {
+                add(format!("status {status}"), Accepted::Status(place));
+            }
+            for place in 0..BASES.len() {
+                add(format!("basis {}", place + 1), Accepted::Basis(place));
+            }
+            for (place, account) in accounts.iter().enumerate() {
+                add(format!("account {account}"), Accepted::Account(place));
+            }
+        }
+    }
+
+    /// What was never reached, and answers that should not have been.
+    #[must_use]
+    pub fn failings(&self) -> Vec<String> {
+        let never = self.list().into_iter().filter(|&(_, reached)| reached == 0);
+        let strange = self
+            .counts
+            .keys()
+            .filter(|count| !COUNTS.contains(count))
+            .map(|count| format!("count {count} is not in the list"));
+        never
+            .map(|(name, _)| format!("never reached: {name}"))
+            .chain(strange)
+            .collect()
+    }
+}
+
+impl fmt::Display for Reached {
+    fn fmt(&self, f: &mut fmt::Formatter<'_>) -> fmt::Result {
+        let list = self.list();
+        let width = list.iter().map(|(name, _)| name.chars().count()).max();
+        let width = width.unwrap_or_default();
+        for row in list.chunks(3) {
+            for (name, reached) in row {
+                write!(f, "{name:<width$} {reached:>9}   ")?;
+            }
+            writeln!(f)?;
+        }
+        Ok(())
+    }
+}
+
+fn get<K: Ord>(map: &BTreeMap<K, u64>, key: K) -> u64 {
+    map.get(&key).copied().unwrap_or_default()
+}
+
+fn add<K: Ord + Copy>(sum: &mut BTreeMap<K, u64>, more: &BTreeMap<K, u64>) {
+    for (&key, &reached) in more {
+        *sum.entry(key).or_default() += reached;
+    }
+}

@@ -1,0 +1,142 @@
+//! Lists of messages, and the draft that posting them ends in.
+
+use cases::{damaged_message, message, Draft, Random, FIELDS};
+
+use crate::comparison::{hex, same, Comparison, Difference, Lent};
+use crate::library::Library;
+
+/// The draft after a list of postings, as document 01 says it: a slot holds the
+/// highest revision among the readable messages that name its field, with the
+/// text of the first in the list that has this revision.
+fn outcome<L: Library>(comparison: &mut Comparison<'_, L>, list: &[Vec<u8>]) -> Outcome<Draft> {
+    let mut readable = Vec::new();
+    for bytes in list {
+        readable.extend(comparison.read(bytes)?);
+    }
+    let mut draft = [0; 450];
+    for (slot, field) in draft.chunks_exact_mut(30).zip(FIELDS) {
+        let named = readable.iter().filter(|message| message.field == field);
+        let highest = named.clone().map(|message| message.revision).max();
+        let Some(winner) = named.clone().find(|m| Some(m.revision) == highest) else {
+            continue;
+        };
+        slot[..4].copy_from_slice(&winner.revision.to_be_bytes());
+        slot[4] = winner.text.len() as u8;
+        slot[5..][..winner.text.len()].copy_from_slice(winner.text);
+    }
+    Ok(draft)
+}
+
+type Outcome<T> = Result<T, Difference>;
+
+/// Posts a list to a fresh draft.
+fn post_all<'m, L: Library>(
+    comparison: &mut Comparison<'_, L>,
+    list: impl IntoIterator<Item = &'m Vec<u8>>,
+) -> Outcome<Lent> {
+    let mut draft = comparison.fresh(Lent::filled(450, 0xEE))?;
+    for bytes in list {
+        let _ = comparison.post(&mut draft, bytes)?;
+    }
+    Ok(draft)
+}
+
+/// Posts a list of any messages, some unreadable, repeated and clashing, then
+/// copies and completes the draft.
+pub fn stream<L: Library>(comparison: &mut Comparison<'_, L>, random: &mut Random) -> Outcome<()> {
+    let list = messages(random);
+    let draft = post_all(comparison, &list)?;
+    let expected = outcome(comparison, &list)?;
+    same_end(&draft, &expected, &list)?;
+    comparison.copy(draft.bytes(), Lent::filled(390, 0xEE))?;
+    let before = Lent::filled(390, 0xEE);
+    comparison.complete(draft.bytes(), before).map(drop)
+}
+
+fn same_end(draft: &Lent, expected: &[u8], list: &[Vec<u8>]) -> Outcome<()> {
+    let input = || {
+        let messages: Vec<String> = list.iter().map(|bytes| hex(bytes)).collect();
+        format!("the list {}", messages.join(", "))
+    };
+    same("post", draft.bytes(), expected, input)
+}
+
+/// An order's messages with corrections, shuffled; or few fields with many.
+fn messages(random: &mut Random) -> Vec<Vec<u8>> {
+    let texts = if random.percent(50) {
+        cases::blanked(cases::budget(random), random.below(1024))
+    } else {
+        cases::accepted(random)
+    };
+    let mut list: Vec<Vec<u8>> = FIELDS
+        .into_iter()
+        .filter(|_| random.percent(95))
+        .map(|field| message(field, 2, &texts.get(field)))
+        .collect();
+    for _ in 0..random.below(12) {
+        list.push(another(random, &list));
+    }
+    random.shuffle(&mut list);
+    list
+}
+
+/// A message that meets one of the list, or none, or is unreadable.
+fn another(random: &mut Random, list: &[Vec<u8>]) -> Vec<u8> {
+    let field = random.pick(&FIELDS);
+    let revision = random.pick(&[1, 1, 2, 3, 0x0100_0000, u32::MAX]);
+    let text = random.pick(&[&b""[..], b"0", b"00", b"4567"]);
+    let known = (!list.is_empty()).then(|| list[random.below(list.len())].clone());
+    match (random.below(5), known) {
+        (0, Some(known)) => known,
+        (1, Some(known)) => damaged_message(random, known),
+        _ => message(field, revision, text),
+    }
+}
+
+/// Posts every arrangement of a small list without clashes; all must end in one
+/// draft.
+pub fn arrangements<L: Library>(
+    comparison: &mut Comparison<'_, L>,
+    random: &mut Random,
+    size: usize,
+) -> Outcome<()> {
+    let mut list = without_clashes(random, size);
+    let expected = outcome(comparison, &list)?;
+    let mut swaps = vec![0; size];
+    let mut place = 0;
+    same_end(&post_all(comparison, &list)?, &expected, &list)?;
+    // Heap's algorithm: each step swaps two.
+    while place < size {
+        if swaps[place] < place {
+            let other = if place % 2 == 0 { 0 } else { swaps[place] };
+            list.swap(other, place);
+            same_end(&post_all(comparison, &list)?, &expected, &list)?;
+            swaps[place] += 1;
+            place = 0;
+        } else {
+            swaps[place] = 0;
+            place += 1;
+        }
+    }
+    Ok(())
+}
+
+/// A list on few fields in which a field's revision has one text; some repeated,
+/// some unreadable.
+fn without_clashes(random: &mut Random, size: usize) -> Vec<Vec<u8>> {
+    let fields = [random.pick(&FIELDS), random.pick(&FIELDS)];
+    (0..size)
+        .map(|_| {
+            let field = random.pick(&fields);
+            let revision = 1 + random.below(4) as u32;
+            let text = [field, revision as u8];
+            let whole = message(field, revision, &text[..revision as usize % 3]);
+            if random.percent(15) {
+                let mut unreadable = whole;
+                unreadable[2] = 2;
+                return unreadable;
+            }
+            whole
+        })
+        .collect()
+}

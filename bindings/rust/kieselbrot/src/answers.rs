@@ -1,0 +1,281 @@
+//! The answers, as enums of Rust's own.
+
+use std::fmt;
+
+use crate::ffi;
+
+/// The class of an accepted sheet.
+#[derive(Clone, Copy, Debug, PartialEq, Eq, Hash, PartialOrd, Ord)]
+pub enum Class {
+    /// A budget payment to a treasury account.
+    A,
+    /// A budget payment to a bank account kept for a budget.
+    B,
+    /// An ordinary payment.
+    O,
+}
+
+/// A message as read.
+#[derive(Clone, Copy, Debug, PartialEq, Eq, Hash)]
+pub struct Message<'a> {
+    /// The number of a listed field.
+    pub field: u8,
+    /// The revision, not 0.
+    pub revision: u32,
+    /// The text, 0 to 25 bytes of Windows-1251: a part of the caller's message.
+    pub text: &'a [u8],
+}
+
+/// What posting a message did.
+#[derive(Clone, Copy, Debug, PartialEq, Eq, Hash)]
+pub enum Posted {
+    /// A higher revision than the draft had: stored.
+    Newer,
+    /// The revision and text that the draft has: nothing changed.
+    Same,
+    /// A lower revision than the draft has: nothing changed.
+    Older,
+}
+
+/// What a completion found.
+#[derive(Clone, Copy, Debug, PartialEq, Eq, Hash)]
+pub struct Completed {
+    /// The count of fillings up to and including the one in the sheet.
+    pub count: usize,
+    /// The filled slots, bit i for slot i.
+    pub set: u16,
+    /// How many bits of the set are set.
+    pub ones: u32,
+}
+
+/// An answer other than success. A refusal changes no buffer.
+#[derive(Clone, Copy, Debug, PartialEq, Eq, Hash)]
+pub enum Refusal {
+    /// 1: the draft or sheet is malformed; for [`fresh`](crate::fresh), its size
+    /// is not 450.
+    Malformed,
+    /// 2: the message has under 2 bytes, its length is not that of the rest, or
+    /// is outside 6 to 31; for [`write`](crate::write), the text is over 25.
+    Length,
+    /// 3: the version is not 1.
+    Version,
+    /// 4: the field is not listed.
+    UnknownField,
+    /// 5: the revision is 0.
+    RevisionZero,
+    /// 6: the draft has this revision with another text.
+    Clash,
+    /// 7: the output sheet's size is not 390, or the message buffer is too short.
+    Output,
+    /// 8: a rule is broken; in completion only rules 1 to 3.
+    Broken {
+        /// The number of the field that the rule names.
+        field: u8,
+        /// The number of the first broken rule.
+        rule: u8,
+    },
+    /// 9: completion of a draft of class O.
+    Ordinary,
+    /// 10: no filling keeps the rules.
+    NoFilling {
+        /// The count of all fillings.
+        count: usize,
+    },
+    /// An answer that the library of this version never gives: another library
+    /// is linked.
+    Unknown {
+        /// The number it came with.
+        number: u8,
+    },
+}
+
+impl Refusal {
+    /// The refusal's number in the table of document 01.
+    #[must_use]
+    pub const fn number(&self) -> u8 {
+        match self {
+            Self::Malformed => 1,
+            Self::Length => 2,
+            Self::Version => 3,
+            Self::UnknownField => 4,
+            Self::RevisionZero => 5,
+            Self::Clash => 6,
+            Self::Output => 7,
+            Self::Broken { .. } => 8,
+            Self::Ordinary => 9,
+            Self::NoFilling { .. } => 10,
+            Self::Unknown { number } => *number,
+        }
+    }
+
+    /// The refusal with this number, for those that return nothing else.
+    const fn plain(number: u8) -> Self {
+        match number {
+            1 => Self::Malformed,
+            2 => Self::Length,
+            3 => Self::Version,
+            4 => Self::UnknownField,
+            5 => Self::RevisionZero,
+            6 => Self::Clash,
+            7 => Self::Output,
+            9 => Self::Ordinary,
+            _ => Self::Unknown { number },
+        }
+    }
+}
+
+/// The number and what it returns, parted by one space.
+impl fmt::Display for Refusal {
+    fn fmt(&self, f: &mut fmt::Formatter<'_>) -> fmt::Result {
+        write!(f, "{}", self.number())?;
+        match self {
+            Self::Broken { field, rule } => write!(f, " {field} {rule}"),
+            Self::NoFilling { count } => write!(f, " {count}"),
+            _ => Ok(()),
+        }
+    }
+}
+
+impl std::error::Error for Refusal {}
+
+// In the C answers, values that do not belong to an answer are 0. An answer
+// that is otherwise is none of this library's, and so `Unknown`.
+
+/// An answer that is a number alone.
+pub fn number(answer: u8) -> Result<(), Refusal> {
+    match answer {
+        0 => Ok(()),
+        number => Err(Refusal::plain(number)),
+    }
+}
+
+impl From<ffi::Check> for Result<Class, Refusal> {
+    fn from(answer: ffi::Check) -> Self {
+        let ffi::Check {
+            number,
+            field,
+            rule,
+            class,
+        } = answer;
+        match (number, field, rule, class) {
+            (0, 0, 0, b'A') => Ok(Class::A),
+            (0, 0, 0, b'B') => Ok(Class::B),
+            (0, 0, 0, b'O') => Ok(Class::O),
+            (8, field, rule, 0) => Err(Refusal::Broken { field, rule }),
+            (number, 0, 0, 0) => Err(Refusal::plain(number)),
+            _ => Err(Refusal::Unknown { number }),
+        }
+    }
+}
+
+impl ffi::Read {
+    /// The message that was read, with its text.
+    pub fn message(self, message: &[u8]) -> Result<Message<'_>, Refusal> {
+        let Self {
+            number,
+            field,
+            revision,
+        } = self;
+        match (number, field, revision) {
+            (0, 1.., 1..) => Ok(Message {
+                field,
+                revision,
+                text: message.get(8..).unwrap_or_default(),
+            }),
+            (number, 0, 0) => Err(Refusal::plain(number)),
+            _ => Err(Refusal::Unknown { number }),
+        }
+    }
+}
+
+impl From<ffi::Write> for Result<usize, Refusal> {
+    fn from(answer: ffi::Write) -> Self {
+        let ffi::Write { number, length } = answer;
+        match (number, length) {
+            (0, 8..=33) => Ok(length),
+            (number, 0) => Err(Refusal::plain(number)),
+            _ => Err(Refusal::Unknown { number }),
+        }
+    }
+}
+
+impl From<ffi::Post> for Result<Posted, Refusal> {
+    fn from(answer: ffi::Post) -> Self {
+        let ffi::Post { number, standing } = answer;
+        match (number, standing) {
+            (0, b'n') => Ok(Posted::Newer),
+            (0, b's') => Ok(Posted::Same),
+            (0, b'o') => Ok(Posted::Older),
+            (number, 0) => Err(Refusal::plain(number)),
+            _ => Err(Refusal::Unknown { number }),
+        }
+    }
+}
+
+impl From<ffi::Complete> for Result<Completed, Refusal> {
+    fn from(answer: ffi::Complete) -> Self {
+        let ffi::Complete {
+            number,
+            field,
+            rule,
+            ones,
+            set,
+            count,
+        } = answer;
+        match (number, field, rule, ones, set, count) {
+            (0, 0, 0, ones, set, count) => Ok(Completed { count, set, ones }),
+            (8, field, rule, 0, 0, 0) => Err(Refusal::Broken { field, rule }),
+            (10, 0, 0, 0, 0, count) => Err(Refusal::NoFilling { count }),
+            (number, 0, 0, 0, 0, 0) => Err(Refusal::plain(number)),
+            _ => Err(Refusal::Unknown { number }),
+        }
+    }
+}
+
+#[cfg(test)]
+mod tests {
+    use super::*;
+
+    #[test]
+    fn numbers_are_those_of_the_table() {
+        for number in (1..=7).chain([9]) {
+            assert_eq!(Refusal::plain(number).number(), number);
+            assert!(!matches!(Refusal::plain(number), Refusal::Unknown { .. }));
+        }
+        for number in [0, 8, 10, 11, 255] {
+            assert_eq!(Refusal::plain(number), Refusal::Unknown { number });
+        }
+        let broken = Refusal::Broken {
+            field: 109,
+            rule: 34,
+        };
+        assert_eq!(
+            (broken.number(), broken.to_string().as_str()),
+            (8, "8 109 34")
+        );
+        let none = Refusal::NoFilling { count: 1056 };
+        assert_eq!((none.number(), none.to_string().as_str()), (10, "10 1056"));
+    }
+
+    #[test]
+    fn strange_answers_are_unknown() {
+        let check = |number, field, rule, class| {
+            Result::<Class, Refusal>::from(ffi::Check {
+                number,
+                field,
+                rule,
+                class,
+            })
+        };
+        assert_eq!(check(0, 0, 0, b'C'), Err(Refusal::Unknown { number: 0 }));
+        assert_eq!(check(0, 14, 1, b'A'), Err(Refusal::Unknown { number: 0 }));
+        assert_eq!(check(1, 14, 0, 0), Err(Refusal::Unknown { number: 1 }));
+        assert_eq!(check(0, 0, 0, 0), Err(Refusal::Unknown { number: 0 }));
+        let posted: Result<Posted, Refusal> = ffi::Post {
+            number: 6,
+            standing: b'n',
+        }
+        .into();
+        assert_eq!(posted, Err(Refusal::Unknown { number: 6 }));
+    }
+}

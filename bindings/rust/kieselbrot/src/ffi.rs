@@ -1,0 +1,133 @@
+//! The C interface of the proved library, and all of this crate's `unsafe`.
+//!
+//! The functions are total: a slice of any length may be lent, and no byte
+//! outside it is touched.
+
+/// The answer of a check.
+#[repr(C)]
+#[derive(Clone, Copy)]
+pub struct Check {
+    pub number: u8,
+    pub field: u8,
+    pub rule: u8,
+    pub class: u8,
+}
+
+/// The answer of reading a message; the text is the bytes from place 8 on.
+#[repr(C)]
+#[derive(Clone, Copy)]
+pub struct Read {
+    pub number: u8,
+    pub field: u8,
+    pub revision: u32,
+}
+
+/// The answer of writing a message.
+#[repr(C)]
+#[derive(Clone, Copy)]
+pub struct Write {
+    pub number: u8,
+    pub length: usize,
+}
+
+/// The answer of posting.
+#[repr(C)]
+#[derive(Clone, Copy)]
+pub struct Post {
+    pub number: u8,
+    pub standing: u8,
+}
+
+/// The answer of completing.
+#[repr(C)]
+#[derive(Clone, Copy)]
+pub struct Complete {
+    pub number: u8,
+    pub field: u8,
+    pub rule: u8,
+    pub set: u16,
+    pub ones: u32,
+    pub count: usize,
+}
+
+// The sizes that bindings/c/kieselbrot.h has.
+const _: () = assert!(size_of::<Check>() == 4);
+const _: () = assert!(size_of::<Read>() == 8);
+const _: () = assert!(size_of::<Write>() == 16);
+const _: () = assert!(size_of::<Post>() == 2);
+const _: () = assert!(size_of::<Complete>() == 24);
+
+extern "C" {
+    fn kieselbrot_check(sheet: *const u8, sheet_len: usize) -> Check;
+    fn kieselbrot_read(message: *const u8, message_len: usize) -> Read;
+    fn kieselbrot_write(
+        field: u8,
+        revision: u32,
+        text: *const u8,
+        text_len: usize,
+        buffer: *mut u8,
+        buffer_len: usize,
+    ) -> Write;
+    fn kieselbrot_fresh(draft: *mut u8, draft_len: usize) -> u8;
+    fn kieselbrot_post(
+        draft: *mut u8,
+        draft_len: usize,
+        message: *const u8,
+        message_len: usize,
+    ) -> Post;
+    fn kieselbrot_copy(draft: *const u8, draft_len: usize, sheet: *mut u8, sheet_len: usize) -> u8;
+    fn kieselbrot_complete(
+        draft: *const u8,
+        draft_len: usize,
+        sheet: *mut u8,
+        sheet_len: usize,
+    ) -> Complete;
+}
+
+// SAFETY, for each call below: pointer and length come from one slice, which is
+// valid for as long as the call lasts; what is written through is borrowed
+// mutably, so that no other argument overlaps it; the library keeps no pointer.
+
+pub fn check(sheet: &[u8]) -> Check {
+    unsafe { kieselbrot_check(sheet.as_ptr(), sheet.len()) }
+}
+
+pub fn read(message: &[u8]) -> Read {
+    unsafe { kieselbrot_read(message.as_ptr(), message.len()) }
+}
+
+pub fn write(field: u8, revision: u32, text: &[u8], buffer: &mut [u8]) -> Write {
+    unsafe {
+        kieselbrot_write(
+            field,
+            revision,
+            text.as_ptr(),
+            text.len(),
+            buffer.as_mut_ptr(),
+            buffer.len(),
+        )
+    }
+}
+
+pub fn fresh(draft: &mut [u8]) -> u8 {
+    unsafe { kieselbrot_fresh(draft.as_mut_ptr(), draft.len()) }
+}
+
+pub fn post(draft: &mut [u8], message: &[u8]) -> Post {
+    unsafe {
+        kieselbrot_post(
+            draft.as_mut_ptr(),
+            draft.len(),
+            message.as_ptr(),
+            message.len(),
+        )
+    }
+}
+
+pub fn copy(draft: &[u8], sheet: &mut [u8]) -> u8 {
+    unsafe { kieselbrot_copy(draft.as_ptr(), draft.len(), sheet.as_mut_ptr(), sheet.len()) }
+}
+
+pub fn complete(draft: &[u8], sheet: &mut [u8]) -> Complete {
+    unsafe { kieselbrot_complete(draft.as_ptr(), draft.len(), sheet.as_mut_ptr(), sheet.len()) }
+}

@@ -1,0 +1,153 @@
+//! Budget payment orders under 107n: field messages, the draft, the rules and
+//! completion.
+//!
+//! This crate is a thin, safe layer over a library whose code is proved: each
+//! function's answer, and every buffer that it was lent, equals a definition, for
+//! all inputs. The functions are total; none panics, allocates or keeps a
+//! pointer.
+//!
+//! Field, status and rule numbers are those of the form and of document 01.
+//! Texts are bytes of Windows-1251, 0 to 25 of them; the empty text is a blank.
+//!
+//! # Example
+//!
+//! An order arrives in messages, in any order, and is completed:
+//!
+//! ```
+//! use kieselbrot::{check, complete, post, write, Class, Posted, Refusal};
+//!
+//! # fn main() -> Result<(), Refusal> {
+//! let order: [(u8, &[u8]); 8] = [
+//!     (14, b"004525987"),
+//!     (15, b"40102810845370000004"),
+//!     (17, b"03100643000000014800"),
+//!     (60, b"7701569743"),
+//!     (61, b"6730054024"),
+//!     (102, b"770301001"),
+//!     (103, b"772801001"),
+//!     (104, b"18201061201010000510"),
+//! ];
+//! let mut draft = [0; kieselbrot::DRAFT_SIZE];
+//! kieselbrot::fresh(&mut draft)?;
+//! for (field, text) in order {
+//!     let mut message = [0; kieselbrot::MESSAGE_MAX];
+//!     let length = write(field, 1, text, &mut message)?;
+//!     assert_eq!(post(&mut draft, &message[..length])?, Posted::Newer);
+//! }
+//!
+//! let mut sheet = [0; kieselbrot::SHEET_SIZE];
+//! let completed = complete(&draft, &mut sheet)?;
+//! assert_eq!((completed.count, completed.ones), (1, 7));
+//! assert_eq!(check(&sheet)?, Class::A);
+//! # Ok(())
+//! # }
+//! ```
+
+#![deny(unsafe_code)]
+#![warn(missing_docs)]
+
+mod answers;
+#[allow(unsafe_code)]
+mod ffi;
+
+pub use answers::{Class, Completed, Message, Posted, Refusal};
+
+/// The numbers of the fifteen fields, in the order of their slots.
+pub const FIELDS: [u8; 15] = [
+    14, 15, 17, 22, 60, 61, 101, 102, 103, 104, 105, 106, 107, 108, 109,
+];
+
+/// A text's greatest length.
+pub const TEXT_MAX: usize = 25;
+
+/// A sheet's size: for each slot the text's length and the text, padded with zero
+/// bytes to 25.
+pub const SHEET_SIZE: usize = 390;
+
+/// A draft's size: for each slot the revision (4 bytes, big-endian, 0 = never
+/// given), then as in a sheet.
+pub const DRAFT_SIZE: usize = 450;
+
+/// The size of the longest message; a buffer of it is long enough for any.
+pub const MESSAGE_MAX: usize = 33;
+
+/// Checks a sheet against the rules and tells its class.
+///
+/// # Errors
+///
+/// [`Refusal::Malformed`], or [`Refusal::Broken`] with the first broken rule.
+#[inline]
+pub fn check(sheet: &[u8]) -> Result<Class, Refusal> {
+    ffi::check(sheet).into()
+}
+
+/// Reads a message. Its text is a part of the bytes that were lent.
+///
+/// # Errors
+///
+/// In this order: [`Refusal::Length`], [`Refusal::Version`],
+/// [`Refusal::UnknownField`], [`Refusal::RevisionZero`].
+#[inline]
+pub fn read(message: &[u8]) -> Result<Message<'_>, Refusal> {
+    ffi::read(message).message(message)
+}
+
+/// Writes a message at the start of a buffer and tells its size; the rest of the
+/// buffer stays as it is.
+///
+/// # Errors
+///
+/// In this order: [`Refusal::Length`], [`Refusal::UnknownField`],
+/// [`Refusal::RevisionZero`], [`Refusal::Output`].
+#[inline]
+pub fn write(field: u8, revision: u32, text: &[u8], buffer: &mut [u8]) -> Result<usize, Refusal> {
+    ffi::write(field, revision, text, buffer).into()
+}
+
+/// Makes a draft fresh, whatever it held: all zero.
+///
+/// # Errors
+///
+/// [`Refusal::Malformed`] if its size is not [`DRAFT_SIZE`].
+#[inline]
+pub fn fresh(draft: &mut [u8]) -> Result<(), Refusal> {
+    answers::number(ffi::fresh(draft))
+}
+
+/// Posts a message to a draft: a higher revision of its field is stored, the same
+/// message again or a lower revision changes nothing. An empty text with a higher
+/// revision blanks the field.
+///
+/// # Errors
+///
+/// In this order: [`Refusal::Malformed`] for the draft, the refusals of [`read`],
+/// [`Refusal::Clash`].
+#[inline]
+pub fn post(draft: &mut [u8], message: &[u8]) -> Result<Posted, Refusal> {
+    ffi::post(draft, message).into()
+}
+
+/// Copies a draft's texts to a sheet, whatever that held, and drops the
+/// revisions.
+///
+/// # Errors
+///
+/// In this order: [`Refusal::Malformed`] for the draft, [`Refusal::Output`] for
+/// the sheet's size.
+#[inline]
+pub fn copy(draft: &[u8], sheet: &mut [u8]) -> Result<(), Refusal> {
+    answers::number(ffi::copy(draft, sheet))
+}
+
+/// Completes a draft: writes the first filling that keeps all rules to the sheet,
+/// whatever that held.
+///
+/// # Errors
+///
+/// In this order: [`Refusal::Malformed`] for the draft, [`Refusal::Output`] for
+/// the sheet's size, [`Refusal::Broken`] for rules 1 to 3, [`Refusal::Ordinary`],
+/// [`Refusal::NoFilling`].
+#[inline]
+pub fn complete(draft: &[u8], sheet: &mut [u8]) -> Result<Completed, Refusal> {
+    ffi::complete(draft, sheet).into()
+}

@@ -1,0 +1,207 @@
+//! An order as a person writes it, turned into messages.
+//!
+//! A line is `FIELD REVISION TEXT`, in UTF-8, with one space between the items.
+//! The text is the rest of the line: it may contain spaces, and may be empty or
+//! missing for a blank. Lines that are blank or begin with `#` are left out.
+
+#![forbid(unsafe_code)]
+#![warn(missing_docs)]
+
+use std::fmt;
+
+use kieselbrot::{Refusal, FIELDS, MESSAGE_MAX, TEXT_MAX};
+
+/// As many bytes of messages as the program budgetorder reads.
+pub const ORDER_MAX: usize = 32_768;
+
+/// What is wrong with a line.
+#[derive(Clone, Debug, PartialEq, Eq)]
+pub enum Mistake {
+    /// The line is not UTF-8.
+    NotUtf8,
+    /// The first item is not a listed field; so it was written.
+    Field(String),
+    /// The second item is not a revision; so it was written.
+    Revision(String),
+    /// The text has a character that Windows-1251 does not have.
+    Character(char),
+    /// The text is too long; so many bytes.
+    Long(usize),
+    /// With this line the order is longer than the program reads.
+    Order,
+    /// The library refuses the line for another reason.
+    Refused(Refusal),
+}
+
+impl fmt::Display for Mistake {
+    fn fmt(&self, f: &mut fmt::Formatter<'_>) -> fmt::Result {
+        match self {
+            Self::NotUtf8 => write!(f, "the line is not UTF-8"),
+            Self::Field(item) => {
+                write!(f, "\"{item}\" is no field; the fields are")?;
+                FIELDS.iter().try_for_each(|field| write!(f, " {field}"))
+            }
+            Self::Revision(item) if item.is_empty() => {
+                write!(f, "the revision is missing; a line is FIELD REVISION TEXT")
+            }
+            Self::Revision(item) => {
+                let highest = u32::MAX;
+                write!(f, "\"{item}\" is no revision: a number from 1 to {highest}")
+            }
+            Self::Character(character) => {
+                write!(
+                    f,
+                    "the text has {character:?}, which Windows-1251 does not have"
+                )
+            }
+            Self::Long(length) => {
+                write!(
+                    f,
+                    "the text has {length} characters; at most {TEXT_MAX} fit"
+                )
+            }
+            Self::Order => write!(
+                f,
+                "with this line the order is longer than {ORDER_MAX} bytes"
+            ),
+            Self::Refused(refusal) => write!(f, "the library refuses the line: {refusal}"),
+        }
+    }
+}
+
+/// A wrong line.
+#[derive(Clone, Debug, PartialEq, Eq)]
+pub struct WrongLine {
+    /// Its number, from 1.
+    pub number: usize,
+    /// What is wrong with it.
+    pub mistake: Mistake,
+}
+
+/// The messages of an order, end to end.
+///
+/// # Errors
+///
+/// All wrong lines.
+pub fn messages(order: &[u8]) -> Result<Vec<u8>, Vec<WrongLine>> {
+    let order = order.strip_prefix(b"\xEF\xBB\xBF").unwrap_or(order);
+    let mut messages = Vec::new();
+    let mut wrong = Vec::new();
+    for (number, line) in (1..).zip(order.split(|&byte| byte == b'\n')) {
+        let line = line.strip_suffix(b"\r").unwrap_or(line);
+        if let Err(mistake) = add_line(line, &mut messages) {
+            wrong.push(WrongLine { number, mistake });
+        }
+    }
+    if wrong.is_empty() {
+        Ok(messages)
+    } else {
+        Err(wrong)
+    }
+}
+
+/// Adds a line's message; a comment or blank line has none.
+fn add_line(line: &[u8], messages: &mut Vec<u8>) -> Result<(), Mistake> {
+    let line = str::from_utf8(line).map_err(|_| Mistake::NotUtf8)?;
+    if matches!(line.trim_start().chars().next(), None | Some('#')) {
+        return Ok(());
+    }
+    let (field, rest) = line.split_once(' ').unwrap_or((line, ""));
+    let (revision, text) = rest.split_once(' ').unwrap_or((rest, ""));
+    let wrong_field = || Mistake::Field(field.to_owned());
+    let wrong_revision = || Mistake::Revision(revision.to_owned());
+    let number = number(field).and_then(|number| u8::try_from(number).ok());
+    let number = number.ok_or_else(wrong_field)?;
+    let given = self::number(revision).ok_or_else(wrong_revision)?;
+    let text = windows1251::bytes(text).map_err(Mistake::Character)?;
+
+    let mut buffer = [0; MESSAGE_MAX];
+    let length = kieselbrot::write(number, given, &text, &mut buffer);
+    let length = length.map_err(|refusal| match refusal {
+        Refusal::Length => Mistake::Long(text.len()),
+        Refusal::UnknownField => wrong_field(),
+        Refusal::RevisionZero => wrong_revision(),
+        _ => Mistake::Refused(refusal),
+    })?;
+    if messages.len() + length > ORDER_MAX {
+        return Err(Mistake::Order);
+    }
+    messages.extend(buffer.iter().take(length));
+    Ok(())
+}
+
+/// The number that digits alone write.
+fn number(digits: &str) -> Option<u32> {
+    let plain = digits.bytes().all(|byte| byte.is_ascii_digit());
+    plain.then(|| digits.parse().ok())?
+}
+
+#[cfg(test)]
+mod tests {
+    use super::*;
+
+    fn mistakes(order: &str) -> Vec<(usize, Mistake)> {
+        let wrong = messages(order.as_bytes()).expect_err("a wrong line");
+        wrong
+            .into_iter()
+            .map(|line| (line.number, line.mistake))
+            .collect()
+    }
+
+    #[test]
+    fn lines_become_messages() {
+        let order = "# a comment\n\n14 1 0045\n106 258 ТД\r\n109 2\n108 3 \n22 4  a b \n";
+        let expected = [
+            &b"\x00\x0A\x01\x0E\x00\x00\x00\x010045"[..],
+            b"\x00\x08\x01\x6A\x00\x00\x01\x02\xD2\xC4",
+            b"\x00\x06\x01\x6D\x00\x00\x00\x02",
+            b"\x00\x06\x01\x6C\x00\x00\x00\x03",
+            b"\x00\x0B\x01\x16\x00\x00\x00\x04 a b ",
+        ];
+        assert_eq!(messages(order.as_bytes()), Ok(expected.concat()));
+        assert_eq!(messages(b""), Ok(vec![]));
+        let marked = b"\xEF\xBB\xBF14 1";
+        assert_eq!(messages(marked), Ok(b"\0\x06\x01\x0E\0\0\0\x01".to_vec()));
+    }
+
+    #[test]
+    fn wrong_lines_are_named_all() {
+        let order = "14 1 1\n16 1 1\n300 1 1\nx\n14\n14 0 1\n14 4294967296 1\n14 +1 1\n14  1 1\n";
+        let field = |item: &str| Mistake::Field(item.into());
+        let revision = |item: &str| Mistake::Revision(item.into());
+        let expected = vec![
+            (2, field("16")),
+            (3, field("300")),
+            (4, field("x")),
+            (5, revision("")),
+            (6, revision("0")),
+            (7, revision("4294967296")),
+            (8, revision("+1")),
+            (9, revision("")),
+        ];
+        assert_eq!(mistakes(order), expected);
+    }
+
+    #[test]
+    fn wrong_texts() {
+        let long = format!("22 1 {}\n22 2 {}", "7".repeat(25), "Ж".repeat(26));
+        assert_eq!(mistakes(&long), [(2, Mistake::Long(26))]);
+        assert_eq!(mistakes("108 1 漢"), [(1, Mistake::Character('漢'))]);
+        let not_utf8 = messages(b"14 1 1\n106 1 \xD2\xC4\n");
+        let wrong = WrongLine {
+            number: 2,
+            mistake: Mistake::NotUtf8,
+        };
+        assert_eq!(not_utf8, Err(vec![wrong]));
+    }
+
+    #[test]
+    fn an_order_is_no_longer_than_the_program_reads() {
+        let full = "22 1\n".repeat(4096);
+        assert_eq!(
+            messages(full.as_bytes()).map(|all| all.len()),
+            Ok(ORDER_MAX)
+        );
+        assert_eq!(mistakes(&(full + "22 1")), [(4097, Mistake::Order)]);
+    }
+}

@@ -1,0 +1,122 @@
+//! Completion of a draft.
+
+use std::slice;
+
+use crate::draft::sheet_of;
+use crate::field::Field;
+use crate::refusal::Refusal;
+use crate::rules::{classify, judge, Class, BASES, STATUSES};
+use crate::sheet::{self, Sheet};
+
+/// "22, 60, 102, 104, 105, 107: "0"."
+const ZERO: &[&[u8]] = &[b"0"];
+
+/// "108 and 109: "0", "00"."
+const ZEROS: &[&[u8]] = &[b"0", b"00"];
+
+/// What a completion found.
+#[derive(Clone, Copy, Debug, PartialEq, Eq, Hash)]
+pub struct Completed {
+    /// "The count of fillings up to and including it".
+    pub count: u32,
+    /// "A 16-bit set of the filled slots (bit i for slot i)".
+    pub set: u16,
+    /// "How many bits are set".
+    pub ones: u32,
+}
+
+/// Completes a draft: writes "the first filling that keeps all rules" to the
+/// sheet, whatever that held.
+///
+/// # Errors
+///
+/// In this order: [`Refusal::Malformed`] for the draft, [`Refusal::Output`]
+/// for the sheet, [`Refusal::Broken`] for rules 1 to 3, [`Refusal::Ordinary`],
+/// [`Refusal::NoFilling`].
+pub fn complete(draft: &[u8], sheet: &mut [u8]) -> Result<Completed, Refusal> {
+    let given = sheet_of(draft)?;
+    let output = sheet::output(sheet).ok_or(Refusal::Output)?;
+    if classify(&given)? == Class::O {
+        return Err(Refusal::Ordinary);
+    }
+    let (filling, count) = first_filling(&given)?;
+    filling.write_to(output);
+    let set = filled(&given);
+    Ok(Completed {
+        count,
+        set,
+        ones: set.count_ones(),
+    })
+}
+
+/// A field's list. "Fields 14, 15, 17, 61, 103 have no list and stay as given."
+const fn list(field: Field) -> &'static [&'static [u8]] {
+    match field {
+        Field::Code
+        | Field::PayerInn
+        | Field::PayerKpp
+        | Field::Kbk
+        | Field::Oktmo
+        | Field::CustomsOffice => ZERO,
+        Field::Status => &STATUSES,
+        Field::Basis => &BASES,
+        Field::Document | Field::Date => ZEROS,
+        Field::Bik
+        | Field::BankAccount
+        | Field::RecipientAccount
+        | Field::RecipientInn
+        | Field::RecipientKpp => &[],
+    }
+}
+
+/// Whether a filling fills this field: a "blank field that has a list".
+fn is_open(given: &Sheet<'_>, field: Field) -> bool {
+    given[field].is_empty() && !list(field).is_empty()
+}
+
+/// The set of the filled slots.
+fn filled(given: &Sheet<'_>) -> u16 {
+    Field::ALL
+        .into_iter()
+        .filter(|&field| is_open(given, field))
+        .fold(0, |set, field| set | 1 << field.slot())
+}
+
+/// The texts a field has in the fillings: its list, or only what is given.
+fn candidates<'a>(given: &'a Sheet<'a>, field: Field) -> &'a [&'a [u8]] {
+    if is_open(given, field) {
+        list(field)
+    } else {
+        slice::from_ref(&given[field])
+    }
+}
+
+/// The first filling that keeps all rules and its place; refusal 10 with the
+/// count of all fillings if there is none.
+///
+/// "Order: 101 varies slowest, then 106, 108, 109."
+fn first_filling<'a>(given: &'a Sheet<'a>) -> Result<(Sheet<'a>, u32), Refusal> {
+    let mut filling = *given;
+    for field in Field::ALL {
+        // The four fields with longer lists get their entries in the search.
+        filling[field] = candidates(given, field)[0];
+    }
+    let mut count = 0;
+    for status in candidates(given, Field::Status) {
+        filling[Field::Status] = status;
+        for basis in candidates(given, Field::Basis) {
+            filling[Field::Basis] = basis;
+            for document in candidates(given, Field::Document) {
+                filling[Field::Document] = document;
+                for date in candidates(given, Field::Date) {
+                    filling[Field::Date] = date;
+                    count += 1;
+                    if judge(&filling).is_ok() {
+                        return Ok((filling, count));
+                    }
+                }
+            }
+        }
+    }
+    Err(Refusal::NoFilling { count })
+}

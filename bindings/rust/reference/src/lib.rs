@@ -1,0 +1,27 @@
+//! Budget payment orders under 107n: field messages, the draft, the rules,
+//! completion, the message writer and the report of one program.
+//!
+//! This is a second implementation, written from the paper "Budget payment
+//! orders under 107n: draft, check and completion" alone. Doc comments quote
+//! the sentence of the paper they follow.
+//!
+//! Every public function is total, and "Refusals change no buffer".
+
+#![forbid(unsafe_code)]
+#![warn(missing_docs)]
+
+mod completion;
+mod draft;
+mod field;
+mod message;
+mod program;
+mod refusal;
+mod rules;
+mod sheet;
+
+pub use completion::{complete, Completed};
+pub use draft::{copy, fresh, post, Posted};
+pub use message::{read, write, Message};
+pub use program::report;
+pub use refusal::Refusal;
+pub use rules::{check, Class};

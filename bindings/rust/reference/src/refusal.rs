@@ -1,0 +1,70 @@
+//! "Answers other than success".
+
+use std::fmt;
+
+/// An answer other than success. "Number order is test order."
+#[derive(Clone, Copy, Debug, PartialEq, Eq, Hash)]
+pub enum Refusal {
+    /// 1: "draft or sheet malformed; for fresh, size not 450".
+    Malformed,
+    /// 2: "message under 2 bytes, L not the rest, L outside 6 to 31; writer:
+    /// text over 25".
+    Length,
+    /// 3: "version not 1".
+    Version,
+    /// 4: "field not listed".
+    UnknownField,
+    /// 5: "revision 0".
+    RevisionZero,
+    /// 6: "equal revision, other text".
+    Clash,
+    /// 7: "output: a sheet not of 390, a message buffer too short".
+    Output,
+    /// 8: "a broken rule; in completion only 1 to 3".
+    Broken {
+        /// The number of the field in brackets before the rule.
+        field: u8,
+        /// The number of the first broken rule.
+        rule: u8,
+    },
+    /// 9: "completion of class O".
+    Ordinary,
+    /// 10: "no filling keeps the rules".
+    NoFilling {
+        /// The "count of all fillings".
+        count: u32,
+    },
+}
+
+impl Refusal {
+    /// The refusal's number in the paper's table.
+    #[must_use]
+    pub const fn number(&self) -> u8 {
+        match self {
+            Self::Malformed => 1,
+            Self::Length => 2,
+            Self::Version => 3,
+            Self::UnknownField => 4,
+            Self::RevisionZero => 5,
+            Self::Clash => 6,
+            Self::Output => 7,
+            Self::Broken { .. } => 8,
+            Self::Ordinary => 9,
+            Self::NoFilling { .. } => 10,
+        }
+    }
+}
+
+/// "The number and what it returns", "parted by one space".
+impl fmt::Display for Refusal {
+    fn fmt(&self, f: &mut fmt::Formatter<'_>) -> fmt::Result {
+        write!(f, "{}", self.number())?;
+        match self {
+            Self::Broken { field, rule } => write!(f, " {field} {rule}"),
+            Self::NoFilling { count } => write!(f, " {count}"),
+            _ => Ok(()),
+        }
+    }
+}
+
+impl std::error::Error for Refusal {}

@@ -1,0 +1,566 @@
+//! The rules. "The rules are judged knowing sheets only, never drafts."
+
+use crate::field::Field;
+use crate::refusal::Refusal;
+use crate::sheet::Sheet;
+
+/// "With 1 to 3 kept, a sheet has a class."
+#[derive(Clone, Copy, Debug, PartialEq, Eq, Hash)]
+pub enum Class {
+    /// "15 begins 40102 and 17 begins 03100, 03212, …".
+    A,
+    /// "Digits 7 to 9 of 14 are 000 to 005, and 17 begins 40204, or begins
+    /// 40503, 40603 or 40703 with its 14th digit, counted from 1, being 4."
+    B,
+    /// "Otherwise O, ordinary."
+    O,
+}
+
+/// What field 15 begins with in class A.
+const CLASS_A_BANK: &[u8] = b"40102";
+
+/// What field 17 may begin with in class A.
+const CLASS_A_ACCOUNTS: [&[u8]; 12] = [
+    b"03100", b"03212", b"03222", b"03232", b"03242", b"03252", b"03262", b"03272", b"03214",
+    b"03224", b"03234", b"03244",
+];
+
+/// What field 17 begins with in class B whatever its 14th digit.
+const CLASS_B_ACCOUNT: &[u8] = b"40204";
+
+/// What field 17 may begin with in class B if its 14th digit is 4.
+const CLASS_B_MARKED_ACCOUNTS: [&[u8]; 3] = [b"40503", b"40603", b"40703"];
+
+/// The account of rules 19 and 28.
+const TREASURY: &[u8] = b"03100";
+
+/// The account of rules 7, 20 and 22.
+const BUDGET_INSTITUTION: &[u8] = b"03212";
+
+/// The text "0".
+const ZERO: &[u8] = b"0";
+
+/// The text "00".
+const DOUBLE_ZERO: &[u8] = b"00";
+
+/// Rule 10's statuses in its order.
+pub(crate) const STATUSES: [&[u8]; 22] = [
+    b"01", b"03", b"04", b"05", b"06", b"07", b"08", b"13", b"15", b"16", b"17", b"19", b"20",
+    b"23", b"24", b"27", b"28", b"29", b"30", b"31", b"32", b"33",
+];
+
+/// Rule 15's texts in its order: "0", "00", УВ, ИЛ, ПБ, ТГ, ТБ, ТД, ПВ, ИН,
+/// ПК, КЭ.
+pub(crate) const BASES: [&[u8]; 12] = [
+    ZERO,
+    DOUBLE_ZERO,
+    b"\xD3\xC2",
+    b"\xC8\xCB",
+    b"\xCF\xC1",
+    b"\xD2\xC3",
+    b"\xD2\xC1",
+    b"\xD2\xC4",
+    b"\xCF\xC2",
+    b"\xC8\xCD",
+    b"\xCF\xCA",
+    b"\xCA\xDD",
+];
+
+/// The number of a rule.
+#[derive(Clone, Copy)]
+struct Rule(u8);
+
+/// The number of a status of rule 10.
+#[derive(Clone, Copy, PartialEq, Eq)]
+struct Status(u8);
+
+impl Status {
+    /// Rule 10: one of the listed statuses.
+    fn parse(text: &[u8]) -> Option<Self> {
+        if !STATUSES.contains(&text) {
+            return None;
+        }
+        number(text).and_then(|n| n.try_into().ok()).map(Self)
+    }
+
+    /// Rule 19's statuses.
+    const fn is_treasury(self) -> bool {
+        matches!(self.0, 1 | 4 | 6 | 7 | 13 | 16 | 17 | 28 | 30 | 32)
+    }
+
+    /// "06 07 16 17 28 30 32 (the customs group, this paper's)".
+    const fn is_customs(self) -> bool {
+        matches!(self.0, 6 | 7 | 16 | 17 | 28 | 30 | 32)
+    }
+
+    /// Rule 25's statuses.
+    const fn is_person(self) -> bool {
+        matches!(self.0, 3 | 19 | 20 | 24)
+    }
+
+    /// The statuses of rules 21 and 26.
+    const fn needs_uin(self) -> bool {
+        matches!(self.0, 31 | 33)
+    }
+
+    /// Rule 23: "by status: 01, 32 an INN; 06, 07 of 10 digits; 17 of 12
+    /// digits; 30 "0"".
+    const fn allows_payer(self, payer: Payer) -> bool {
+        match self.0 {
+            1 | 32 => payer.is_inn(),
+            6 | 7 => matches!(payer, Payer::Inn10),
+            17 => matches!(payer, Payer::Inn12),
+            30 => matches!(payer, Payer::Zero),
+            _ => true,
+        }
+    }
+}
+
+/// The forms of field 22 (rule 7).
+#[derive(Clone, Copy, PartialEq, Eq)]
+enum Code {
+    Zero,
+    FourDigits,
+    Uin,
+}
+
+impl Code {
+    /// Rule 7: ""0"; or 20 or 25 digits not all zero (a UIN); or four digits
+    /// not all zero if 17 begins 03212".
+    fn parse(text: &[u8], account: &[u8]) -> Option<Self> {
+        if text == ZERO {
+            return Some(Self::Zero);
+        }
+        if all_zero(text) {
+            return None;
+        }
+        if is_digits(text, 20) || is_digits(text, 25) {
+            return Some(Self::Uin);
+        }
+        (is_digits(text, 4) && account.starts_with(BUDGET_INSTITUTION)).then_some(Self::FourDigits)
+    }
+}
+
+/// The forms of field 60 (rule 8).
+#[derive(Clone, Copy, PartialEq, Eq)]
+enum Payer {
+    Zero,
+    Foreign,
+    Inn10,
+    Inn12,
+}
+
+impl Payer {
+    /// Rule 8: ""0"; 5 digits not all zero (a foreign code); 10 or 12 digits
+    /// not beginning 00 (an INN)".
+    fn parse(text: &[u8]) -> Option<Self> {
+        if text == ZERO {
+            Some(Self::Zero)
+        } else if is_digits(text, 5) && !all_zero(text) {
+            Some(Self::Foreign)
+        } else if is_registered(text, 10) {
+            Some(Self::Inn10)
+        } else if is_registered(text, 12) {
+            Some(Self::Inn12)
+        } else {
+            None
+        }
+    }
+
+    const fn is_inn(self) -> bool {
+        matches!(self, Self::Inn10 | Self::Inn12)
+    }
+}
+
+/// The forms of field 106 (rule 15).
+#[derive(Clone, Copy, PartialEq, Eq)]
+enum Basis {
+    Zero,
+    DoubleZero,
+    LetterPair,
+}
+
+impl Basis {
+    fn parse(text: &[u8]) -> Option<Self> {
+        match text {
+            ZERO => Some(Self::Zero),
+            DOUBLE_ZERO => Some(Self::DoubleZero),
+            _ => BASES.contains(&text).then_some(Self::LetterPair),
+        }
+    }
+}
+
+/// The forms of field 108 (rule 17), as far as later rules tell them apart.
+#[derive(Clone, Copy, PartialEq, Eq)]
+enum Document {
+    Zero,
+    DoubleZero,
+    Person,
+    Other,
+}
+
+impl Document {
+    /// Rule 17: "1 to 15 bytes, each 33 to 126 or 192 to 255 and not 45 (the
+    /// hyphen). If the third is ";", it must be a person identifier".
+    fn parse(text: &[u8]) -> Option<Self> {
+        let allowed = |byte: &u8| matches!(byte, 33..=44 | 46..=126 | 192..=255);
+        if !(1..=15).contains(&text.len()) || !text.iter().all(allowed) {
+            return None;
+        }
+        match text {
+            ZERO => Some(Self::Zero),
+            DOUBLE_ZERO => Some(Self::DoubleZero),
+            [_, _, b';', ..] => is_person_identifier(text).then_some(Self::Person),
+            _ => Some(Self::Other),
+        }
+    }
+}
+
+/// "Two digits of 01 to 14, 22, 24, 25, 26, 28, 29, 30, then ";", then at least
+/// one byte."
+fn is_person_identifier(text: &[u8]) -> bool {
+    let &[first, second, b';', _, ..] = text else {
+        return false;
+    };
+    matches!(
+        number(&[first, second]),
+        Some(1..=14 | 22 | 24..=26 | 28..=30)
+    )
+}
+
+/// The forms of field 109 (rule 18).
+#[derive(Clone, Copy, PartialEq, Eq)]
+enum Date {
+    Zero,
+    DoubleZero,
+    Day,
+}
+
+impl Date {
+    /// Rule 18: ""0", "00", or DD.MM.YYYY, a Gregorian date of the years 1900
+    /// to 2099".
+    fn parse(text: &[u8]) -> Option<Self> {
+        match text {
+            ZERO => Some(Self::Zero),
+            DOUBLE_ZERO => Some(Self::DoubleZero),
+            _ => is_date(text).then_some(Self::Day),
+        }
+    }
+}
+
+fn is_date(text: &[u8]) -> bool {
+    let &[d1, d2, b'.', m1, m2, b'.', y1, y2, y3, y4] = text else {
+        return false;
+    };
+    let (Some(day), Some(month), Some(year)) = (
+        number(&[d1, d2]),
+        number(&[m1, m2]),
+        number(&[y1, y2, y3, y4]),
+    ) else {
+        return false;
+    };
+    (1900..=2099).contains(&year) && (1..=month_length(month, year)).contains(&day)
+}
+
+/// The days of a Gregorian month; 0 if there is no such month.
+const fn month_length(month: u32, year: u32) -> u32 {
+    match month {
+        1 | 3 | 5 | 7 | 8 | 10 | 12 => 31,
+        4 | 6 | 9 | 11 => 30,
+        2 if is_leap(year) => 29,
+        2 => 28,
+        _ => 0,
+    }
+}
+
+const fn is_leap(year: u32) -> bool {
+    year.is_multiple_of(4) && (!year.is_multiple_of(100) || year.is_multiple_of(400))
+}
+
+/// A text of so many digits; "a digit is "0" to "9"".
+fn is_digits(text: &[u8], width: usize) -> bool {
+    text.len() == width && text.iter().all(u8::is_ascii_digit)
+}
+
+/// ""All zero" means every digit is "0"."
+fn all_zero(digits: &[u8]) -> bool {
+    digits.iter().all(|&digit| digit == b'0')
+}
+
+/// So many digits not all zero.
+fn is_nonzero(text: &[u8], width: usize) -> bool {
+    is_digits(text, width) && !all_zero(text)
+}
+
+/// So many digits not beginning 00, as in an INN or a KPP.
+fn is_registered(text: &[u8], width: usize) -> bool {
+    is_digits(text, width) && !text.starts_with(DOUBLE_ZERO)
+}
+
+/// The number written by a few digits.
+fn number(digits: &[u8]) -> Option<u32> {
+    digits.iter().try_fold(0, |value, digit| {
+        digit
+            .is_ascii_digit()
+            .then(|| value * 10 + u32::from(digit - b'0'))
+    })
+}
+
+/// Refusal 8, naming the field in brackets and the rule.
+const fn broken(field: Field, Rule(rule): Rule) -> Refusal {
+    Refusal::Broken {
+        field: field.number(),
+        rule,
+    }
+}
+
+/// Goes on if the rule is kept.
+fn require(kept: bool, field: Field, rule: Rule) -> Result<(), Refusal> {
+    if kept {
+        Ok(())
+    } else {
+        Err(broken(field, rule))
+    }
+}
+
+/// Checks a sheet. The rules are "tested in number order; the first broken one
+/// is named with the field in brackets"; "acceptance returns the class".
+///
+/// # Errors
+///
+/// [`Refusal::Malformed`], or [`Refusal::Broken`] with the first broken rule.
+pub fn check(sheet: &[u8]) -> Result<Class, Refusal> {
+    judge(&Sheet::parse(sheet).ok_or(Refusal::Malformed)?)
+}
+
+/// Rules 1 to 34.
+pub(crate) fn judge(sheet: &Sheet<'_>) -> Result<Class, Refusal> {
+    let class = classify(sheet)?;
+    if class == Class::O {
+        // "A class O sheet that keeps 1 to 4 is accepted; the rest is for A
+        // and B."
+        require(sheet[Field::Status].is_empty(), Field::Status, Rule(4))?;
+    } else {
+        Order::parse(sheet, class)?.relations()?;
+    }
+    Ok(class)
+}
+
+/// Rules 1 to 3, and the class of a sheet that keeps them.
+pub(crate) fn classify(sheet: &Sheet<'_>) -> Result<Class, Refusal> {
+    let bik = sheet[Field::Bik];
+    let bank = sheet[Field::BankAccount];
+    let account = sheet[Field::RecipientAccount];
+    require(is_digits(bik, 9), Field::Bik, Rule(1))?;
+    require(
+        bank.is_empty() || is_digits(bank, 20),
+        Field::BankAccount,
+        Rule(2),
+    )?;
+    require(is_digits(account, 20), Field::RecipientAccount, Rule(3))?;
+    Ok(if is_class_a(bank, account) {
+        Class::A
+    } else if is_class_b(bik, account) {
+        Class::B
+    } else {
+        Class::O
+    })
+}
+
+fn begins_with_any(text: &[u8], prefixes: &[&[u8]]) -> bool {
+    prefixes.iter().any(|prefix| text.starts_with(prefix))
+}
+
+fn is_class_a(bank: &[u8], account: &[u8]) -> bool {
+    bank.starts_with(CLASS_A_BANK) && begins_with_any(account, &CLASS_A_ACCOUNTS)
+}
+
+fn is_class_b(bik: &[u8], account: &[u8]) -> bool {
+    let marked = account.get(13) == Some(&b'4');
+    matches!(bik.get(6..9), Some([b'0', b'0', b'0'..=b'5']))
+        && (account.starts_with(CLASS_B_ACCOUNT)
+            || (marked && begins_with_any(account, &CLASS_B_MARKED_ACCOUNTS)))
+}
+
+/// What rules 5 to 18 find out about a budget payment for rules 19 to 34.
+struct Order<'a> {
+    class: Class,
+    account: &'a [u8],
+    code: Code,
+    payer: Payer,
+    status: Status,
+    payer_kpp: &'a [u8],
+    kbk: &'a [u8],
+    basis: Basis,
+    customs_office: &'a [u8],
+    document: Document,
+    date: Date,
+}
+
+impl<'a> Order<'a> {
+    /// Rules 5 to 18: each field's own form.
+    fn parse(sheet: &Sheet<'a>, class: Class) -> Result<Self, Refusal> {
+        let account = sheet[Field::RecipientAccount];
+        let payer_kpp = sheet[Field::PayerKpp];
+        let kbk = sheet[Field::Kbk];
+        let oktmo = sheet[Field::Oktmo];
+        let customs_office = sheet[Field::CustomsOffice];
+
+        require(
+            class != Class::A || account.get(5..8) == Some(b"643"),
+            Field::RecipientAccount,
+            Rule(5),
+        )?;
+        nothing_blank(sheet)?;
+        let code = Code::parse(sheet[Field::Code], account).ok_or(broken(Field::Code, Rule(7)))?;
+        let payer = Payer::parse(sheet[Field::PayerInn]).ok_or(broken(Field::PayerInn, Rule(8)))?;
+        require(
+            is_registered(sheet[Field::RecipientInn], 10),
+            Field::RecipientInn,
+            Rule(9),
+        )?;
+        let status = Status::parse(sheet[Field::Status]).ok_or(broken(Field::Status, Rule(10)))?;
+        require(
+            payer_kpp == ZERO || is_registered(payer_kpp, 9),
+            Field::PayerKpp,
+            Rule(11),
+        )?;
+        require(
+            is_registered(sheet[Field::RecipientKpp], 9),
+            Field::RecipientKpp,
+            Rule(12),
+        )?;
+        require(kbk == ZERO || is_nonzero(kbk, 20), Field::Kbk, Rule(13))?;
+        require(
+            oktmo == ZERO || is_nonzero(oktmo, 8),
+            Field::Oktmo,
+            Rule(14),
+        )?;
+        let basis = Basis::parse(sheet[Field::Basis]).ok_or(broken(Field::Basis, Rule(15)))?;
+        require(
+            customs_office == ZERO || is_digits(customs_office, 8),
+            Field::CustomsOffice,
+            Rule(16),
+        )?;
+        let document =
+            Document::parse(sheet[Field::Document]).ok_or(broken(Field::Document, Rule(17)))?;
+        let date = Date::parse(sheet[Field::Date]).ok_or(broken(Field::Date, Rule(18)))?;
+
+        Ok(Self {
+            class,
+            account,
+            code,
+            payer,
+            status,
+            payer_kpp,
+            kbk,
+            basis,
+            customs_office,
+            document,
+            date,
+        })
+    }
+
+    /// Rules 19 to 34: what the fields demand of one another.
+    fn relations(&self) -> Result<(), Refusal> {
+        let class_a = self.class == Class::A;
+        let treasury = self.account.starts_with(TREASURY);
+        let institution = self.account.starts_with(BUDGET_INSTITUTION);
+        let customs = self.status.is_customs();
+
+        require(
+            !(class_a && self.status.is_treasury()) || treasury,
+            Field::RecipientAccount,
+            Rule(19),
+        )?;
+        require(
+            !(class_a && self.status == Status(31)) || institution,
+            Field::RecipientAccount,
+            Rule(20),
+        )?;
+        require(
+            !self.status.needs_uin() || self.code == Code::Uin,
+            Field::Code,
+            Rule(21),
+        )?;
+        require(
+            !institution || self.code != Code::Zero,
+            Field::Code,
+            Rule(22),
+        )?;
+        require(
+            self.status.allows_payer(self.payer),
+            Field::PayerInn,
+            Rule(23),
+        )?;
+        require(
+            self.status != Status(13) || self.payer.is_inn() || self.code == Code::Uin,
+            Field::PayerInn,
+            Rule(24),
+        )?;
+        require(
+            !self.status.is_person() || self.names_person(),
+            Field::Document,
+            Rule(25),
+        )?;
+        require(
+            !self.status.needs_uin() || self.document == Document::Zero,
+            Field::Document,
+            Rule(26),
+        )?;
+        require(self.keeps_payer_kpp(), Field::PayerKpp, Rule(27))?;
+        require(!treasury || self.kbk != ZERO, Field::Kbk, Rule(28))?;
+        require(customs || self.basis == Basis::Zero, Field::Basis, Rule(29))?;
+        require(
+            customs == (self.customs_office != ZERO),
+            Field::CustomsOffice,
+            Rule(30),
+        )?;
+        require(customs || self.date == Date::Zero, Field::Date, Rule(31))?;
+        require(
+            self.basis != Basis::LetterPair || self.document != Document::Zero,
+            Field::Document,
+            Rule(32),
+        )?;
+        require(
+            self.basis != Basis::DoubleZero || self.document == Document::DoubleZero,
+            Field::Document,
+            Rule(33),
+        )?;
+        require(
+            (self.date == Date::DoubleZero) == (self.basis == Basis::DoubleZero),
+            Field::Date,
+            Rule(34),
+        )
+    }
+
+    /// Rule 25: "a person identifier; or "0" with a 12-digit INN in 60 or a UIN
+    /// in 22".
+    fn names_person(&self) -> bool {
+        match self.document {
+            Document::Person => true,
+            Document::Zero => self.payer == Payer::Inn12 || self.code == Code::Uin,
+            Document::DoubleZero | Document::Other => false,
+        }
+    }
+
+    /// Rule 27: "60 of 12 digits: "0"; of 5: not "0"; of 10: not "0" unless
+    /// status 01".
+    fn keeps_payer_kpp(&self) -> bool {
+        let zero = self.payer_kpp == ZERO;
+        match self.payer {
+            Payer::Zero => true,
+            Payer::Foreign => !zero,
+            Payer::Inn10 => !zero || self.status == Status(1),
+            Payer::Inn12 => zero,
+        }
+    }
+}
+
+/// Rule 6: "(the first blank one) 22, 60, 61, 101 to 109 not blank".
+fn nothing_blank(sheet: &Sheet<'_>) -> Result<(), Refusal> {
+    Field::ALL
+        .into_iter()
+        .skip(Field::Code.slot())
+        .try_for_each(|field| require(!sheet[field].is_empty(), field, Rule(6)))
+}

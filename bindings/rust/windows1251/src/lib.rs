@@ -1,0 +1,80 @@
+//! Texts in Windows-1251.
+
+#![forbid(unsafe_code)]
+#![warn(missing_docs)]
+
+/// The characters of the bytes 80 to BF; the replacement character stands at 98,
+/// which has none.
+const UPPER: [char; 64] = [
+    'Ђ', 'Ѓ', '‚', 'ѓ', '„', '…', '†', '‡', '€', '‰', 'Љ', '‹', 'Њ', 'Ќ', 'Ћ', 'Џ', 'ђ', '‘', '’',
+    '“', '”', '•', '–', '—', '\u{FFFD}', '™', 'љ', '›', 'њ', 'ќ', 'ћ', 'џ', '\u{A0}', 'Ў', 'ў',
+    'Ј', '¤', 'Ґ', '¦', '§', 'Ё', '©', 'Є', '«', '¬', '\u{AD}', '®', 'Ї', '°', '±', 'І', 'і', 'ґ',
+    'µ', '¶', '·', 'ё', '№', 'є', '»', 'ј', 'Ѕ', 'ѕ', 'ї',
+];
+
+const NONE: char = '\u{FFFD}';
+
+/// The byte of a character, if it has one.
+#[must_use]
+pub fn byte(character: char) -> Option<u8> {
+    match character {
+        '\0'..='\x7F' => u8::try_from(character).ok(),
+        'А'..='я' => u8::try_from(u32::from(character) - u32::from('А') + 0xC0).ok(),
+        NONE => None,
+        _ => {
+            let place = UPPER.iter().position(|&upper| upper == character)?;
+            u8::try_from(0x80 + place).ok()
+        }
+    }
+}
+
+/// The character of a byte, if it has one.
+#[must_use]
+pub fn character(byte: u8) -> Option<char> {
+    match byte {
+        0..=0x7F => Some(char::from(byte)),
+        0x80..=0xBF => Some(UPPER[usize::from(byte - 0x80)]).filter(|&upper| upper != NONE),
+        0xC0.. => char::from_u32(u32::from('А') + u32::from(byte - 0xC0)),
+    }
+}
+
+/// The bytes of a text.
+///
+/// # Errors
+///
+/// The first character that has no byte.
+pub fn bytes(text: &str) -> Result<Vec<u8>, char> {
+    text.chars()
+        .map(|character| byte(character).ok_or(character))
+        .collect()
+}
+
+#[cfg(test)]
+mod tests {
+    use super::*;
+
+    #[test]
+    fn every_byte_but_98_has_a_character_of_its_own() {
+        for value in 0..=u8::MAX {
+            let back = character(value).and_then(byte);
+            assert_eq!(back, Some(value).filter(|&value| value != 0x98));
+        }
+    }
+
+    #[test]
+    fn letters_of_rule_15() {
+        let letters = "УВИЛПБТГДНКЭ";
+        let expected = [
+            0xD3, 0xC2, 0xC8, 0xCB, 0xCF, 0xC1, 0xD2, 0xC3, 0xC4, 0xCD, 0xCA, 0xDD,
+        ];
+        assert_eq!(bytes(letters), Ok(expected.to_vec()));
+        assert_eq!(bytes("№ ёЁ"), Ok(vec![0xB9, b' ', 0xB8, 0xA8]));
+    }
+
+    #[test]
+    fn other_characters_have_none() {
+        assert_eq!(bytes("a漢b"), Err('漢'));
+        assert_eq!(bytes("\u{FFFD}"), Err('\u{FFFD}'));
+        assert_eq!(bytes("é"), Err('é'));
+    }
+}
