@@ -10,3 +10,5 @@ pub mod Looking
 pub mod Order
 pub mod Whole
 pub mod Completing
+pub mod Streaming
+pub mod Examples

@@ -5,3 +5,4 @@ pub mod Found
 pub mod Filled
 pub mod Complete
 pub mod Whole
+pub mod Stream

@@ -1,3 +1,4 @@
 pub mod complete;
 pub mod fill;
 pub mod search;
+pub mod stream;

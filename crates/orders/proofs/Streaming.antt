@@ -1,0 +1,167 @@
+-- The messages of an input, one at a time, and the ways through the functions that post them. Assumes nothing.
+use mathlib.Core.Path.{_≡_, refl, sym, ap, _∙_, subst}
+use mathlib.Core.Bool.{Bool, true, false, cond}
+use mathlib.Core.List.{List, [], _∷_, _++_, append-assoc, append-nil}
+use Prim.Native.Nat.{ℕ, zero, suc, _+_, _-_, _<_, _≤_}
+use native.Mathlib.Decide.{ℕ-discrete, decLe}
+use native.Mathlib.Omega.{arith}
+use borrow.Author.Needs.{needs}
+use borrow.Author.Tests.{eq-eqb, ne-eqb}
+use lib.Dec.{eqb}
+use lib.ListN.{length, getD, drop, length-drop}
+use lib.Seq.{take-all, length-take-le, drop-drop}
+use Rattle.texts.specs.Numbers.{be2}
+use Rattle.texts.specs.Texts.{between}
+use Rattle.rules.specs.declared.sheet.Field.{Field}
+use Rattle.drafts.specs.Message.{lengthOf}
+use Rattle.drafts.specs.Promises.{Reads, Left, Posts}
+use Rattle.drafts.specs.declared.revision.Revision.{Revision}
+use Rattle.drafts.specs.declared.message.Refusal.{Refusal}
+use Rattle.drafts.specs.declared.message.Reading.{Reading}
+use Rattle.drafts.specs.declared.message.Reading.the-variants.{Message, Refused}
+use Rattle.drafts.specs.declared.draft.Posted.{Posted}
+use Rattle.orders.specs.Complete.{completing, completed, completeAnswer}
+use Rattle.orders.specs.Whole.{Whole, Completes}
+use Rattle.orders.specs.Stream.{pieceOf, endsStream, pieces, messagesOf, Streams}
+use Rattle.orders.specs.declared.complete.Completed.{Completed}
+
+-- ---- a piece
+
+pub piece-is : (s p : List ℕ) (a b n : ℕ) → a ≡ getD s 0 0 → b ≡ getD s 1 0 → n ≡ be2 a b → p ≡ between s 0 (n + 2) → p ≡ pieceOf s
+unfolding pieceOf between
+piece-is s p a b n ea eb en ep =
+    let z : n + 2 - 0 ≡ lengthOf s + 2 = omega arith in
+    ep ∙ rw z
+
+piece-all : (s : List ℕ) → length s ≤ lengthOf s + 2 → pieceOf s ≡ s
+unfolding pieceOf
+piece-all s h = take-all (lengthOf s + 2) s h
+
+piece-part : (s : List ℕ) → lengthOf s + 2 ≤ length s → length (pieceOf s) ≡ lengthOf s + 2
+unfolding pieceOf
+piece-part s h = length-take-le (lengthOf s + 2) s h
+
+-- it is no longer than what is left, and has a byte where one is left
+piece-length : (s : List ℕ) → 0 < length s → (0 < length (pieceOf s)) × (length (pieceOf s) ≤ length s)
+piece-length s n =
+    elim (decLe (length s) (lengthOf s + 2)) [
+      | yes p ↦ rw (piece-all s p) (omega arith, omega arith)
+      | no q ↦ rw (piece-part s (omega arith)) (omega arith, omega arith)
+    ]
+
+-- ---- the end of a stream
+
+module _ (m : List ℕ) (rd : Reading) (R : Reads m rd) where
+  pub ends-not : (f : Field) (v : Revision) → rd ≡ Message f v → false ≡ endsStream m
+  unfolding endsStream
+  ends-not f v e = rw (← R .answer, e)
+
+  pub ends-by : (n : Refusal) → rd ≡ Refused n → eqb (n .0) 2 ≡ endsStream m
+  unfolding endsStream
+  ends-by n e = rw (← R .answer, e)
+
+-- ---- the messages
+
+-- more room makes no difference
+pieces-more : (n k : ℕ) (s : List ℕ) → length s ≤ n → length s ≤ k → pieces n s ≡ pieces k s
+unfolding pieces
+pieces-more zero zero s h g = refl
+pieces-more zero (suc k) s h g = let e : length s ≡ 0 = omega arith in rw (eq-eqb _ _ e)
+pieces-more (suc n) zero s h g = let e : length s ≡ 0 = omega arith in rw (eq-eqb _ _ e)
+pieces-more (suc n) (suc k) s h g =
+    elim (ℕ-discrete (length s) 0) [
+      | yes e ↦ rw (eq-eqb _ _ e)
+      | no q ↦
+          let p = piece-length s (omega arith) in
+          let l = length-drop (length (pieceOf s)) s in
+          rw (pieces-more n k (drop (length (pieceOf s)) s) (omega arith) (omega arith))
+    ]
+
+messages-none : (s : List ℕ) → length s ≡ 0 → messagesOf s ≡ []
+unfolding messagesOf pieces
+messages-none s e = rw e
+
+messages-next : (s : List ℕ) → 0 < length s → messagesOf s ≡ pieceOf s ∷ cond (endsStream (pieceOf s)) [] (messagesOf (drop (length (pieceOf s)) s))
+unfolding messagesOf pieces
+messages-next s h =
+    let p = piece-length s h in
+    let l = length-drop (length (pieceOf s)) s in
+    let q : length s ≡ 0 → ⊥ = λ z. omega arith in
+    let e : length s ≡ suc (length s - 1) = omega arith in
+    ap (λ (n : ℕ). pieces n s) e
+    ∙ rw (ne-eqb _ _ q, pieces-more (length s - 1) (length (drop (length (pieceOf s)) s)) (drop (length (pieceOf s)) s) (omega arith) (omega arith))
+
+-- ---- the loop
+
+-- the messages before place k are posted, those from there on are left
+pub record Streamed (i : List ℕ) (k : ℕ) (d : List ℕ) : Type 0 where
+  pub posted : List (List ℕ)
+  pub left : Left posted d
+  pub rest : posted ++ messagesOf (drop k i) ≡ messagesOf i
+
+pub stream-none : (i d : List ℕ) → Left [] d → Streamed i 0 d
+stream-none i d L = record { posted = []; left = L; rest = refl }
+
+pub stream-done : (i : List ℕ) (k : ℕ) (d : List ℕ) → Streamed i k d → length i ≤ k → Left (messagesOf i) d
+stream-done i k d S h =
+    let z : length (drop k i) ≡ 0 = omega (arith, length-drop k i) in
+    let e : S .posted ≡ messagesOf i = sym (append-nil (S .posted)) ∙ ap (λ (l : List (List ℕ)). S .posted ++ l) (sym (messages-none (drop k i) z)) ∙ S .rest in
+    subst (λ (l : List (List ℕ)). Left l d) e (S .left)
+
+-- one message m, from place k on
+module _ (i : List ℕ) (k : ℕ) (h : k < length i) (s m : List ℕ) (es : s ≡ between i k (length i)) (em : m ≡ pieceOf s) where
+  rest-is : s ≡ drop k i
+  unfolding between
+  rest-is = es ∙ take-all (length i - k) (drop k i) (omega (arith, length-drop k i))
+
+  first-is : m ≡ pieceOf (drop k i)
+  first-is = em ∙ ap pieceOf rest-is
+
+  some : 0 < length (drop k i)
+  some = omega (arith, length-drop k i)
+
+  pub stream-within : k + length m ≤ length i
+  stream-within =
+      let p = piece-length (drop k i) some in
+      let e : length m ≡ length (pieceOf (drop k i)) = ap length first-is in
+      omega (arith, length-drop k i)
+
+  pub stream-less : length i - (k + length m) < length i - k
+  stream-less =
+      let p = piece-length (drop k i) some in
+      let e : length m ≡ length (pieceOf (drop k i)) = ap length first-is in
+      omega (arith, length-drop k i)
+
+  module _ (d e : List ℕ) (r : Posted) (S : Streamed i k d) (P : Posts d m r e) (b : Bool) (eb : b ≡ endsStream m) where
+    more : Left (S .posted ++ (m ∷ [])) e
+    more = P .after (S .posted) (S .left)
+
+    next : messagesOf (drop k i) ≡ m ∷ cond b [] (messagesOf (drop (length m) (drop k i)))
+    next = rw (eb, first-is) (messages-next (drop k i) some)
+
+    pub stream-last : b ≡ true → Left (messagesOf i) e
+    stream-last t =
+        let q : S .posted ++ (m ∷ []) ≡ messagesOf i = ap (λ (l : List (List ℕ)). S .posted ++ l) (sym (next ∙ rw t)) ∙ S .rest in
+        subst (λ (l : List (List ℕ)). Left l e) q more
+
+    pub stream-next : b ≡ false → Streamed i (k + length m) e
+    stream-next t = record {
+      posted = S .posted ++ (m ∷ []);
+      left = more;
+      rest =
+          append-assoc (S .posted) (m ∷ []) (messagesOf (drop (k + length m) i))
+          ∙ ap (λ (l : List ℕ). S .posted ++ (m ∷ messagesOf l)) (sym (drop-drop (length m) k i))
+          ∙ ap (λ (l : List (List ℕ)). S .posted ++ l) (sym (next ∙ rw t))
+          ∙ S .rest;
+    }
+
+-- ---- the whole
+
+pub streamed : (i b d : List ℕ) (r : Completed) (t : List ℕ) → Left (messagesOf i) d → Completes d b r t → Streams i b r t
+streamed i b d r t L C = record {
+  answer = C .answer ∙ ap (λ (x : List ℕ). completing x b) (L .draft);
+  sheet = C .sheet ∙ ap (λ (x : List ℕ). completed x b) (L .draft);
+  whole = subst (λ (x : List ℕ). Whole (messagesOf i) x b (completeAnswer r) t) (L .draft) (C .whole (messagesOf i) L);
+}
+
+pub ruleset streams = (needs, piece-is, ends-not, ends-by, stream-none, stream-within, stream-less, stream-last, stream-next, stream-done)

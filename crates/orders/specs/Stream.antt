@@ -1,0 +1,38 @@
+-- The messages of an input (document 01, "Writer and program"), and demand 3 of posting them and completing. Assumes nothing.
+use mathlib.Core.Path.{_≡_}
+use mathlib.Core.Bool.{Bool, cond}
+use mathlib.Core.List.{List, [], _∷_}
+use Prim.Native.Nat.{ℕ, zero, suc, _+_}
+use lib.Dec.{eqb}
+use lib.ListN.{length, take, drop}
+use Rattle.drafts.specs.Message.{lengthOf, readingOf}
+use Rattle.drafts.specs.History.{postedAll}
+use Rattle.orders.specs.Complete.{completing, completed, completeAnswer}
+use Rattle.orders.specs.Whole.{numberOf, Whole}
+use Rattle.orders.specs.declared.complete.Completed.{Completed}
+
+-- the first message: "2 + L bytes or what is left if that is less"
+unfoldable pub pieceOf : List ℕ → List ℕ
+pieceOf s = take (lengthOf s + 2) s
+
+-- "After a 2 it stops reading"
+unfoldable pub endsStream : List ℕ → Bool
+endsStream m = eqb (numberOf (readingOf m)) 2
+
+-- "messages end to end": at most n of them, and none after one that ends the stream
+unfoldable pub pieces : ℕ → List ℕ → List (List ℕ)
+pieces zero s = []
+pieces (suc n) s =
+    cond (eqb (length s) 0) [] (pieceOf s ∷ cond (endsStream (pieceOf s)) [] (pieces n (drop (length (pieceOf s)) s)))
+
+-- each has a byte at least, so that there are no more of them than bytes
+unfoldable pub messagesOf : List ℕ → List (List ℕ)
+messagesOf i = pieces (length i) i
+
+-- the promise of `complete_stream`: posting the messages of i to a fresh draft, and completing that into a buffer that held b,
+-- returned r and left t
+pub record Streams (i b : List ℕ) (r : Completed) (t : List ℕ) : Type 0 where
+  pub answer : completeAnswer r ≡ completing (postedAll (messagesOf i)) b
+  pub sheet : t ≡ completed (postedAll (messagesOf i)) b
+  -- demand 3, of this list of messages
+  pub whole : Whole (messagesOf i) (postedAll (messagesOf i)) b (completeAnswer r) t
