@@ -9,9 +9,9 @@
 
 _Static_assert(sizeof(kieselbrot_check_answer) == 4, "the answers' layout");
 _Static_assert(sizeof(kieselbrot_read_answer) == 8, "the answers' layout");
-_Static_assert(sizeof(kieselbrot_write_answer) == 8, "the answers' layout");
+_Static_assert(sizeof(kieselbrot_write_answer) == 16, "the answers' layout");
 _Static_assert(sizeof(kieselbrot_post_answer) == 2, "the answers' layout");
-_Static_assert(sizeof(kieselbrot_complete_answer) == 12, "the answers' layout");
+_Static_assert(sizeof(kieselbrot_complete_answer) == 24, "the answers' layout");
 
 static const uint8_t fields[KIESELBROT_FIELDS] = {14,  15,  17,  22,  60,  61,  101, 102,
                                                   103, 104, 105, 106, 107, 108, 109};

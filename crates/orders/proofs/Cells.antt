@@ -25,6 +25,10 @@ abbrev pub Sized : Cells → Type 0
 Sized [] = Unit {0}
 Sized (c ∷ cs) = (length c ≡ 26) × Sized cs
 
+pub sized-by : (cs : Cells) → ((k : ℕ) → k < length cs → length (getD cs k []) ≡ 26) → Sized cs
+sized-by [] w = tt
+sized-by (c ∷ cs) w = (w 0 (omega arith), sized-by cs (λ k l. w (suc k) (omega arith)))
+
 pub length-joined : (cs : Cells) → Sized cs → length (joined cs) ≡ length cs * 26
 length-joined [] z = refl
 length-joined (c ∷ cs) z =

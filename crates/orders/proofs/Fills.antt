@@ -9,13 +9,14 @@ use native.Mathlib.Omega.{arith}
 use borrow.Author.Tests.{leb-true}
 use lib.Dec.{leb, ltb}
 use lib.ListN.{length, getD, take, drop, length-append, length-drop, length-replicate}
-use lib.Seq.{length-take-le, take-at, drop-at, drop-drop, take-all, take-add}
+use lib.Seq.{length-take-le}
 use Rattle.texts.specs.Quoted.{Text}
 use Rattle.texts.specs.Texts.{between, every, blank}
 use Rattle.texts.proofs.Bools.{both}
 use Rattle.rules.specs.Sheet.{slots, cellOf, textOf}
 use Rattle.orders.specs.Fillings.{lists, listOf, cell, toFill, choices, each, product, joined, fillings, Filling}
 use Rattle.orders.specs.Search.{places}
+use Rattle.orders.proofs.Cells.{Sized, sized-by, length-joined, cell-joined, joined-cells}
 
 -- ---- one of each list
 
@@ -102,38 +103,6 @@ cell-part f k =
 pub length-cell : (f : List ℕ) (k : ℕ) → k * 26 + 26 ≤ length f → length (cellOf f k) ≡ 26
 length-cell f k h = ap length (cell-part f k) ∙ length-take-le 26 (drop (k * 26) f) (omega (arith, length-drop (k * 26) f))
 
-cell-first : (x f : List ℕ) → length x ≡ 26 → cellOf (x ++ f) 0 ≡ x
-cell-first x f h = cell-part (x ++ f) 0 ∙ take-at x f 26 h
-
-cell-next : (x f : List ℕ) (k : ℕ) → length x ≡ 26 → cellOf (x ++ f) (suc k) ≡ cellOf f k
-cell-next x f k h =
-    let e : suc k * 26 ≡ 26 + k * 26 = omega arith in
-    rw (cell-part (x ++ f) (suc k), cell-part f k, e, ← drop-drop (k * 26) 26 (x ++ f), drop-at x f 26 h)
-
--- each part has the length of a cell
-abbrev pub Wide : List (List ℕ) → Type 0
-Wide r = (k : ℕ) → k < length r → length (getD r k []) ≡ 26
-
-length-joined : (r : List (List ℕ)) → Wide r → length (joined r) ≡ length r * 26
-length-joined [] w = refl
-length-joined (x ∷ r) w =
-    length-append x (joined r) ∙ omega (arith, w 0 (omega arith), length-joined r (λ k l. w (suc k) (omega arith)))
-
-pub cell-joined : (r : List (List ℕ)) → Wide r → (k : ℕ) → k < length r → cellOf (joined r) k ≡ getD r k []
-cell-joined [] w k l = absurd (omega arith)
-cell-joined (x ∷ r) w zero l = cell-first x (joined r) (w 0 l)
-cell-joined (x ∷ r) w (suc k) l =
-    cell-next x (joined r) k (w 0 (omega arith)) ∙ cell-joined r (λ j h. w (suc j) (omega arith)) k (omega arith)
-
--- a sheet is its cells
-joined-cells : (f : List ℕ) (n i : ℕ) → joined (map (cellOf f) (places n i)) ≡ take (n * 26) (drop (i * 26) f)
-unfolding places
-joined-cells f zero i = refl
-joined-cells f (suc n) i =
-    let e : suc n * 26 ≡ 26 + n * 26 = omega arith in
-    let g : suc i * 26 ≡ i * 26 + 26 = omega arith in
-    rw (joined-cells f n (suc i), cell-part f i, e, g, take-add 26 (n * 26) (drop (i * 26) f), drop-drop 26 (i * 26) f)
-
 -- ---- fillings
 
 short : Text → Bool
@@ -178,17 +147,18 @@ module _ (s : List ℕ) where
       pub drawn-choice : (k : ℕ) → k < 15 → List·Memᴰ (getD r k []) (choices s k)
       drawn-choice k l = subst (List·Memᴰ (getD r k [])) (at-slots (choices s) [] k l) (drawn-at [] (map (choices s) slots) r d k l)
 
-      pub drawn-wide : Wide r
-      drawn-wide k l =
-          let h : k < 15 = omega (arith, length-drawn (map (choices s) slots) r d) in
-          choice-length k h (getD r k []) (drawn-choice k h)
+      drawn-sized : Sized r
+      drawn-sized = sized-by r (λ k l. drawn-length k (omega (arith, length-drawn (map (choices s) slots) r d)))
+        where
+          drawn-length : (k : ℕ) → k < 15 → length (getD r k []) ≡ 26
+          drawn-length k h = choice-length k h (getD r k []) (drawn-choice k h)
 
       pub drawn-cell : (k : ℕ) → k < 15 → cellOf (joined r) k ≡ getD r k []
-      drawn-cell k l = cell-joined r drawn-wide k (omega (arith, length-drawn (map (choices s) slots) r d))
+      drawn-cell k l = cell-joined r k drawn-sized (omega (arith, length-drawn (map (choices s) slots) r d))
 
       drawn-filling : Filling s (joined r)
       drawn-filling = record {
-        sized = length-joined r drawn-wide ∙ omega (arith, length-drawn (map (choices s) slots) r d);
+        sized = length-joined r drawn-sized ∙ omega (arith, length-drawn (map (choices s) slots) r d);
         slot = λ k l. Memᴰ·cast (drawn-cell k l) (drawn-choice k l);
       }
 
@@ -208,5 +178,5 @@ module _ (s : List ℕ) where
     pub of-filling : (f : List ℕ) → Filling s f → List·Memᴰ f (fillings s)
     unfolding fillings places
     of-filling f w =
-        Memᴰ·cast (sym (joined-cells f 15 0 ∙ take-all 390 f (omega (arith, w .sized))))
+        Memᴰ·cast (sym (joined-cells f (w .sized)))
         (Memᴰ·map joined (drawn-product (map (choices s) slots) (map (cellOf f) slots) (cells-drawn f w 15 0 (omega arith))))

@@ -9,6 +9,7 @@ use lib.ListN.{length}
 use Rattle.texts.specs.Texts.{every}
 use Rattle.texts.proofs.Bools.{both}
 use Rattle.rules.specs.Rules.{budget, keeps, keepsAll, firstBroken}
+use Rattle.rules.proofs.Means.{kept-none}
 use Rattle.drafts.specs.Draft.{draftFormed, sheetOf}
 use Rattle.drafts.specs.Promises.{Left}
 use Rattle.drafts.proofs.Slots.{Formed, formed-means, formed-by}
@@ -30,14 +31,6 @@ length-sheetOf d f = length-sheet d (formed-means d f .sized)
 pub left-formed : (ms : List (List ℕ)) (d : List ℕ) → Left ms d → draftFormed d ≡ true
 left-formed ms d L = formed-by d (subst Formed (sym (L .draft)) (all-formed ms (L .strings)))
 
--- of rules that are all kept none is the first broken one
-pub none-broken : (s : List ℕ) (ns : List ℕ) → every (keeps s) ns ≡ true → firstBroken s ns ≡ 0
-unfolding every firstBroken
-none-broken s [] h = refl
-none-broken s (n ∷ ns) h =
-    let p = both (keeps s n) (every (keeps s) ns) h in
-    rw (p .0) (none-broken s ns (p .1))
-
 -- completing a well-formed budget payment is what looking through its fillings finds
 module _ (d b : List ℕ) (f : draftFormed d ≡ true) (z : length b ≡ 390) (p : budgetPayment (sheetOf d) ≡ true) where
   kept : (every (keeps (sheetOf d)) basic ≡ true) × (budget (sheetOf d) ≡ true)
@@ -46,11 +39,11 @@ module _ (d b : List ℕ) (f : draftFormed d ≡ true) (z : length b ≡ 390) (p
 
   pub answer-is : completing d b ≡ lookAnswer (sheetOf d) (firstFilling (sheetOf d))
   unfolding completing classAnswer
-  answer-is = rw (f, z, none-broken (sheetOf d) basic (kept .0), kept .1)
+  answer-is = rw (f, z, kept-none (sheetOf d) basic (kept .0), kept .1)
 
   pub sheet-is : completed d b ≡ lookSheet b (firstFilling (sheetOf d))
   unfolding completed
-  sheet-is = rw (f, z, none-broken (sheetOf d) basic (kept .0), kept .1)
+  sheet-is = rw (f, z, kept-none (sheetOf d) basic (kept .0), kept .1)
 
 -- the promise, by what the look found
 module _ (s b : List ℕ) (z : length s ≡ 390) where
