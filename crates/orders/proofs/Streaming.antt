@@ -77,11 +77,11 @@ pieces-more (suc n) (suc k) s h g =
           rw (pieces-more n k (drop (length (pieceOf s)) s) (omega arith) (omega arith))
     ]
 
-messages-none : (s : List ℕ) → length s ≡ 0 → messagesOf s ≡ []
+pub messages-none : (s : List ℕ) → length s ≡ 0 → messagesOf s ≡ []
 unfolding messagesOf pieces
 messages-none s e = rw e
 
-messages-next : (s : List ℕ) → 0 < length s → messagesOf s ≡ pieceOf s ∷ cond (endsStream (pieceOf s)) [] (messagesOf (drop (length (pieceOf s)) s))
+pub messages-next : (s : List ℕ) → 0 < length s → messagesOf s ≡ pieceOf s ∷ cond (endsStream (pieceOf s)) [] (messagesOf (drop (length (pieceOf s)) s))
 unfolding messagesOf pieces
 messages-next s h =
     let p = piece-length s h in
@@ -110,14 +110,14 @@ stream-done i k d S h =
 
 -- one message m, from place k on
 module _ (i : List ℕ) (k : ℕ) (h : k < length i) (s m : List ℕ) (es : s ≡ between i k (length i)) (em : m ≡ pieceOf s) where
-  rest-is : s ≡ drop k i
+  pub rest-is : s ≡ drop k i
   unfolding between
   rest-is = es ∙ take-all (length i - k) (drop k i) (omega (arith, length-drop k i))
 
-  first-is : m ≡ pieceOf (drop k i)
+  pub first-is : m ≡ pieceOf (drop k i)
   first-is = em ∙ ap pieceOf rest-is
 
-  some : 0 < length (drop k i)
+  pub some : 0 < length (drop k i)
   some = omega (arith, length-drop k i)
 
   pub stream-within : k + length m ≤ length i

@@ -16,14 +16,14 @@ use texts::texts::part;
 const DRAFT_SIZE: usize = 450;
 
 // The first message: "2 + L bytes or what is left if that is less".
-fn piece(rest: &[u8]) -> &[u8]
+pub fn piece(rest: &[u8]) -> &[u8]
     ensures { λ r. ⌜ now r ≡ pieceOf (now (rest .entry)) ⌝ }
 {
     part(rest, 0, number_of_2(at(rest, 0), at(rest, 1)) + 2)
 }
 
 // "After a 2 it stops reading".
-fn ends_stream(message: &[u8]) -> bool
+pub fn ends_stream(message: &[u8]) -> bool
     ensures { λ r. ⌜ r ≡ endsStream (now (message .entry)) ⌝ }
 {
     match read(message) {

@@ -1,0 +1,15 @@
+// Reads messages from standard input and writes the report (document 01, "Writer and program").
+use libc::STDIN_FILENO;
+use libc::STDOUT_FILENO;
+use report::INPUT_SIZE;
+use report::REPORT_SIZE;
+use report::report;
+use texts::texts::part;
+
+fn main() {
+    let mut input = [0u8; INPUT_SIZE];
+    let n = io::read_full(STDIN_FILENO, &mut input);
+    let mut out = [0u8; REPORT_SIZE];
+    let k = report(part(&input, 0, n), &mut out);
+    io::write_all(STDOUT_FILENO, part(&out, 0, k));
+}

@@ -1,0 +1,111 @@
+-- The ways through the end of the report, and the whole. Assumes nothing.
+use mathlib.Core.Path.{_≡_, refl, sym, ap, _∙_}
+use mathlib.Core.Bool.{true, false, cond, and-false}
+use mathlib.Core.List.{List, [], _∷_, _++_, append-assoc}
+use Prim.Native.Nat.{ℕ, _+_, _<_, _≤_}
+use native.Mathlib.Omega.{arith}
+use borrow.Author.Tests.{le-leb, lt-leb}
+use lib.Dec.{leb}
+use lib.ListN.{length, take}
+use lib.Seq.{take-at}
+use Rattle.texts.specs.Quoted.{Text, bytes}
+use Rattle.texts.specs.Buffers.{put}
+use Rattle.texts.proofs.Puts.{put-none, put-put, mid-put}
+use Rattle.rules.specs.Sheet.{slots}
+use Rattle.rules.specs.declared.Rule.{Rule}
+use Rattle.rules.specs.declared.sheet.Field.{Field}
+use Rattle.drafts.specs.Draft.{freshDraft}
+use Rattle.drafts.specs.History.{postedAll}
+use Rattle.drafts.specs.Promises.{Freshens}
+use Rattle.drafts.specs.declared.message.Refusal.{Refusal}
+use Rattle.drafts.specs.declared.draft.Begun.{Begun}
+use Rattle.orders.specs.Complete.{completing, completed, completeAnswer}
+use Rattle.orders.specs.Whole.{Completes}
+use Rattle.orders.specs.declared.complete.Completed.{Completed}
+use Rattle.orders.specs.declared.complete.Completed.the-variants.{Filled, Impossible, Broken, Refused}
+use Rattle.report.specs.Lines.{decimal, item, space, newline, Wrote}
+use Rattle.report.specs.Report.{fieldLines, endLines, noSheet, ending, reportOf, reported, Reports}
+use Rattle.report.specs.Told.{Told}
+use Rattle.report.proofs.Writing.{wrote-then}
+
+-- the same text by another name
+wrote-as : (b e : List ℕ) (at r : ℕ) (t u : Text) → t ≡ u → Wrote b at t r e → Wrote b at u r e
+wrote-as b e at r t u h w = (w .0 ∙ ap (put b at) h, w .1 ∙ ap (λ (x : Text). at + length x) h)
+
+number-as : (b e : List ℕ) (at r m n x : ℕ) → m ≡ n → Wrote b at (item (decimal m) x) r e → Wrote b at (item (decimal n) x) r e
+number-as b e at r m n x h w = wrote-as b e at r (item (decimal m) x) (item (decimal n) x) (ap (λ (k : ℕ). item (decimal k) x) h) w
+
+module _ (d s b x : List ℕ) (at k : ℕ) (r : Completed) (C : Completes d noSheet r s) (w : Wrote b at (item (bytes "end") space) k x) (kw : k ≡ at + 3 + 1) (l : at + 733 ≤ length b) (e : List ℕ) (q : ℕ) where
+  ended : (a : Completed) (t : Text) → r ≡ a → t ≡ endLines (completeAnswer a) s → q ≤ at + 733 → (q ≤ at + 733 → Wrote b at t q e) → Wrote b at (ending d) q e × (q ≤ at + 733)
+  unfolding ending
+  ended a t h g o v = (
+    wrote-as b e at q t (endLines (completing d noSheet) (completed d noSheet))
+        (g ∙ (λ i. endLines ((ap completeAnswer (sym h) ∙ C .answer) i) (C .sheet i))) (v o),
+    o,
+  )
+
+  pub end-filled : (n set ones : ℕ) (y z : List ℕ) (j i : ℕ) → r ≡ Filled n set ones → Wrote x k (item (bytes "ok") space) j y × (j ≡ k + 2 + 1) → Wrote y j (item (decimal n) newline) i z × (i ≤ j + 21) → Wrote z i (fieldLines s slots) q e × (q ≤ i + 705) → Wrote b at (ending d) q e × (q ≤ at + 733)
+  unfolding endLines completeAnswer
+  end-filled n set ones y z j i h (v, lv) (u, lu) (o, lo) =
+      let E = item (bytes "end") space in
+      let O = item (bytes "ok") space in
+      let N = item (decimal n) newline in
+      let a = wrote-then b x y at k j E O w v (omega arith) in
+      let c = wrote-then b y z at j i (E ++ O) N a u (omega arith) in
+      ended (Filled n set ones) (E ++ O ++ N ++ fieldLines s slots) h (ap (λ (t : Text). t ++ fieldLines s slots) (append-assoc E O N)) (omega arith)
+      (λ m. wrote-then b z e at i q (E ++ O ++ N) (fieldLines s slots) c o (omega arith))
+
+  pub end-impossible : (n : ℕ) (y : List ℕ) (j : ℕ) → r ≡ Impossible n → Wrote x k (item (decimal 10) space) j y × (j ≤ k + 21) → Wrote y j (item (decimal n) newline) q e × (q ≤ j + 21) → Wrote b at (ending d) q e × (q ≤ at + 733)
+  unfolding endLines completeAnswer
+  end-impossible n y j h (v, lv) (u, lu) =
+      let E = item (bytes "end") space in
+      let T = item (decimal 10) space in
+      let N = item (decimal n) newline in
+      ended (Impossible n) (E ++ T ++ N) h (append-assoc E T N) (omega arith)
+      (λ m. wrote-then b y e at j q (E ++ T) N (wrote-then b x y at k j E T w v (omega arith)) u (omega arith))
+
+  pub end-broken : (f : Field) (p : Rule) (g m : ℕ) (y z : List ℕ) (j i : ℕ) → r ≡ Broken f p → g ≡ f .0 → m ≡ p .0 → Wrote x k (item (decimal 8) space) j y × (j ≤ k + 21) → Wrote y j (item (decimal g) space) i z × (i ≤ j + 21) → Wrote z i (item (decimal m) newline) q e × (q ≤ i + 21) → Wrote b at (ending d) q e × (q ≤ at + 733)
+  unfolding endLines completeAnswer
+  end-broken f p g m y z j i h hg hm (v, lv) (u, lu) (o, lo) =
+      let E = item (bytes "end") space in
+      let T = item (decimal 8) space in
+      let F = item (decimal (f .0)) space in
+      let N = item (decimal (p .0)) newline in
+      let a = wrote-then b x y at k j E T w v (omega arith) in
+      let c = wrote-then b y z at j i (E ++ T) F a (number-as y z j i g (f .0) space hg u) (omega arith) in
+      ended (Broken f p) (E ++ T ++ F ++ N) h (append-assoc (E ++ T) F N ∙ append-assoc E T (F ++ N)) (omega arith)
+      (λ l'. wrote-then b z e at i q (E ++ T ++ F) N c (number-as z e i q m (p .0) newline hm o) (omega arith))
+
+  pub end-refused : (n : Refusal) (m : ℕ) → r ≡ Refused n → m ≡ n .0 → Wrote x k (item (decimal m) newline) q e × (q ≤ k + 21) → Wrote b at (ending d) q e × (q ≤ at + 733)
+  unfolding endLines completeAnswer
+  end-refused n m h hm (v, lv) =
+      ended (Refused n) (item (bytes "end") space ++ item (decimal (n .0)) newline) h refl (omega arith)
+      (λ l'. wrote-then b x e at k q (item (bytes "end") space) (item (decimal (n .0)) newline) w (number-as x e k q m (n .0) newline hm v) (omega arith))
+
+-- ---- the whole
+
+-- a draft of 450 bytes made fresh
+pub fresh-is : (d : List ℕ) (r : Begun) (e : List ℕ) → Freshens d r e → length d ≡ 450 → e ≡ freshDraft
+unfolding postedAll
+fresh-is d r e F l = F .start l .draft
+
+module _ (i b : List ℕ) where
+  nothing : reported i b ≡ [] → Reports i b 0 b
+  nothing h = record { count = ap length (sym h); buffer = sym (ap (put b 0) h ∙ put-none b); text = sym h }
+
+  pub report-long : 32768 < length i → Reports i b 0 b
+  unfolding reported
+  report-long h = nothing (simp (lt-leb (length i) 32768 h))
+
+  pub report-small : length b < 46080 → Reports i b 0 b
+  unfolding reported
+  report-small h = nothing (simp (lt-leb 46080 (length b) h, and-false (leb (length i) 32768)))
+
+  pub report-whole : (d x e : List ℕ) (at r : ℕ) → length i ≤ 32768 → 46080 ≤ length b → Told i b at d x → Wrote x at (ending d) r e → r ≤ length b → Reports i b r e
+  unfolding reported
+  report-whole d x e at r h l T w u =
+      let v = wrote-then b x e 0 at r (T .text) (ending d) (T .buffer, T .count ∙ omega arith) w u in
+      let g : T .text ++ ending d ≡ reported i b = T .rest ∙ sym (simp (le-leb (length i) 32768 h, le-leb 46080 (length b) l)) in
+      let o : Wrote b 0 (reported i b) r e = wrote-as b e 0 r (T .text ++ ending d) (reported i b) g v in
+      let n : length (reported i b) ≡ r = omega (arith, o .1) in
+      record { count = sym n; buffer = o .0; text = ap (take r) (o .0) ∙ mid-put b 0 (reported i b) r n (omega arith) }
