@@ -1,13 +1,26 @@
 # The Rust side has its own target folder; `rt ci` removes the repository's.
-.PHONY: test lib fuzz bench
+.PHONY: run test lib fuzz bench
+
+CRATES := $(shell find crates -name '*.rt' -o -name '*.antt') crates.txt
+
+# Completes an order written as lines FIELD REVISION TEXT, and prints what budgetorder says of it.
+ORDER ?= bindings/samples/order.txt
+run: target/bin/budgetorder target/staticlib/libcapi.a
+	@./tools/run $(ORDER)
 
 # Proves every crate from nothing, tries the must-fail edits, runs the programs, then the checks from outside.
 test:
 	@./tools/test
 
 # The static library for C and Rust: target/staticlib/libcapi.a
-lib:
+lib: target/staticlib/libcapi.a
+
+target/staticlib/libcapi.a: $(CRATES)
 	rt staticlib capi
+
+target/bin/budgetorder: $(CRATES)
+	rt check budgetorder
+	@touch $@
 
 # The library against the second implementation on N generated cases.
 N ?= 20000000

@@ -12,3 +12,4 @@ pub mod Whole
 pub mod Completing
 pub mod Streaming
 pub mod Examples
+pub mod Counts
