@@ -199,13 +199,14 @@ module _ (d s : List ℕ) (b : Bool) (eb : b ≡ draftFormed d) where
     copy-none = sym (put-none s)
 
     module _ (z : length s ≡ 390) (x : List ℕ) (n : ℕ) (ex : x ≡ put s 0 (cells d n)) where
-      pub copy-more : (u c y : List ℕ) (w : ℕ) → n < 15 → u ≡ slotIn d n → c ≡ slotCell u → w ≡ n → y ≡ putAt x (w * 26) c → y ≡ put s 0 (cells d (n + 1))
+      pub copy-more : (u c v y : List ℕ) (w : ℕ) → n < 15 → u ≡ slotIn d n → c ≡ slotCell u → v ≡ putAt (replicate {A = ℕ} 26 0) 0 c → w ≡ n → y ≡ putAt x (w * 26) v → y ≡ put s 0 (cells d (n + 1))
       unfolding cells
-      copy-more u c y w h eu ec ew ey =
+      copy-more u c v y w h eu ec ev ew ey =
           let l = formed-means d whole .sized in
           let lc : length c ≡ 26 = rw (ec, eu) (length-cell d l n h) in
+          let vc : v ≡ c = ev ∙ put-fits (replicate {A = ℕ} 26 0) 0 c (omega arith) ∙ put-whole (replicate {A = ℕ} 26 0) c lc in
           let p : putAt x (n * 26) c ≡ put s 0 (cells d n ++ c) = put-next s (cells d n) c x (n * 26) (length-cells d l n (omega arith)) (omega arith) ex in
-          ey ∙ rw (ew, p, add-one, ec, eu)
+          ey ∙ ap (putAt x (w * 26)) vc ∙ rw (ew, p, add-one, ec, eu)
 
       pub copy-made : n ≤ 15 → 15 ≤ n → Copies d s copied.Made x
       unfolding copyingOf copiedTo copyTests sheetOf

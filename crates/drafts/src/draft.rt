@@ -1,7 +1,7 @@
 // The draft: a fresh one, posting to it, and its sheet.
 ghost use mathlib.Core.Path.{_≡_};
 ghost use Prim.Native.Nat.{_*_, _≤_};
-ghost use lib.ListN.{length};
+ghost use lib.ListN.{length, replicate};
 ghost use Rattle.texts.specs.Buffers.{putAt};
 ghost use Rattle.drafts.specs.Draft.{slotSize, slotIn, slotRevision, slotCell, slotFormed, draftFormed, slotStanding, slotBytes};
 ghost use Rattle.drafts.specs.Promises.{Freshens, Posts, Copies};
@@ -168,6 +168,15 @@ pub fn post(draft: &mut [u8], message: &[u8]) -> Posted
     }
 }
 
+// A cell as an array: the compiler knows its size, and that it does not overlap the sheet.
+fn cell_bytes(cell: &[u8]) -> [u8; CELL_SIZE]
+    ensures { λ r. ⌜ r ≡ putAt (replicate 26 0) 0 (now (cell .entry)) ⌝ }
+{
+    let mut bytes = [0u8; CELL_SIZE];
+    put(&mut bytes, 0, cell);
+    bytes
+}
+
 // "Copying a draft to a sheet drops the revisions".
 pub fn copy(draft: &[u8], sheet: &mut [u8]) -> Copied
     ensures { λ r. ⌜ Copies (now (draft .entry)) (now (sheet .entry)) r (now (sheet .exit)) ⌝ }
@@ -180,11 +189,8 @@ pub fn copy(draft: &[u8], sheet: &mut [u8]) -> Copied
     }
     let mut slot: u8 = 0;
     while slot < SLOTS {
-        put(
-            sheet,
-            wide(slot) * CELL_SIZE,
-            slot_cell(slot_in(draft, slot)),
-        );
+        let cell = cell_bytes(slot_cell(slot_in(draft, slot)));
+        put(sheet, wide(slot) * CELL_SIZE, &cell);
         slot += 1;
     }
     Copied::Made

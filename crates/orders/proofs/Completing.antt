@@ -9,18 +9,22 @@ use lib.Count.{ones}
 use lib.Dec.{eqb}
 use lib.ListN.{length, getD}
 use Rattle.texts.specs.Texts.{every}
+use Rattle.texts.specs.Answers.{Answer, success, refusal}
 use Rattle.texts.specs.Buffers.{putAt}
 use Rattle.texts.proofs.Puts.{put-fits, put-whole}
 use Rattle.rules.specs.Rules.{budget, rules, fieldOf, keeps, firstBroken, testOf}
 use Rattle.rules.specs.Sheet.{slotOf, textOf, _⟨_⟩}
-use Rattle.rules.specs.Facts.{factsOf, headOf, generalOf, accountOf, standingOf, holds, ordinary, firstFailed}
+use Rattle.rules.specs.Facts.{factsOf, factsIn, headOf, generalOf, accountOf, standingOf, holds, ordinary, firstFailed}
 use Rattle.rules.proofs.On.{ordinary-on}
+use Rattle.rules.proofs.Ways.{facts-sized}
 use Rattle.rules.proofs.Means.{numbered, none-kept}
 use Rattle.rules.specs.declared.facts.Facts.{Facts}
 use Rattle.rules.specs.declared.sheet.Field.{Field}
-use Rattle.drafts.specs.Draft.{draftFormed, sheetOf, copyTests, copiedTo}
+use Rattle.drafts.specs.Draft.{draftFormed, sheetOf, copyTests, copyingOf, copiedTo, copyAnswer}
 use Rattle.drafts.specs.Promises.{Copies}
 use Rattle.drafts.specs.declared.draft.Copied.{Copied}
+use Rattle.drafts.specs.declared.draft.Copied.the-variants as copied
+use Rattle.drafts.specs.declared.message.Refusal.{Refusal}
 use Rattle.orders.specs.Fillings.{Look, found, none, firstFilling}
 use Rattle.orders.specs.Search.{firstPick}
 use Rattle.orders.specs.Found.{pickOf, foundOf}
@@ -32,7 +36,7 @@ use Rattle.orders.specs.declared.search.Found.{Found}
 use Rattle.orders.specs.declared.search.Found.the-variants.{Place, Nothing}
 use Rattle.orders.specs.declared.complete.Completed.{Completed}
 use Rattle.orders.specs.declared.complete.Completed.the-variants.{Filled, Impossible, Broken, Refused}
-use Rattle.orders.proofs.Keeping.{mapLook, first-is, picked-length}
+use Rattle.orders.proofs.Keeping.{mapLook, base-budget, base-broken, base-length, first-is, picked-length}
 use Rattle.orders.proofs.Whole.{completes-by, length-sheetOf}
 
 -- what the search answered
@@ -59,63 +63,105 @@ copied-is : (d z : List ℕ) → draftFormed d ≡ true → length z ≡ 390 →
 unfolding copiedTo copyTests
 copied-is d z f l = simp (f, eq-eqb (length z) 390 l)
 
-module _ (d b : List ℕ) (w : Bool) (e : w ≡ draftFormed d) where
-  pub refused-1 : not w ≡ true → Completes d b (Refused (record { 0 = 1 })) b
-  unfolding completing completed completeAnswer
-  refused-1 n = completes-by d b (Refused (record { 0 = 1 })) b (cc (not-true w n)) (cc (not-true w n))
+-- a refusal is no success
+differ : (n : ℕ) → refusal n [] ≡ success [] → ⊥
+differ n e = let z : _≡_ {A = ℕ} 0 1 = cc in omega arith
 
-  module _ (n : not w ≡ false) where
+-- a copy to a sheet of 390 bytes is made exactly where the draft is well formed
+module _ (d z : List ℕ) (l : length z ≡ 390) where
+  refused-case : (n : ℕ) (w : Bool) → draftFormed d ≡ w → refusal n [] ≡ copyingOf d z → w ≡ false
+  unfolding copyingOf copyTests
+  refused-case n false h e = refl
+  refused-case n true h e = absurd (differ n (e ∙ simp (h, eq-eqb (length z) 390 l)))
+
+  made-case : (w : Bool) → draftFormed d ≡ w → success [] ≡ copyingOf d z → w ≡ true
+  unfolding copyingOf copyTests
+  made-case true h e = refl
+  made-case false h e = absurd (differ 1 (sym (e ∙ simp h)))
+
+  copy-refused : (n : ℕ) → refusal n [] ≡ copyingOf d z → draftFormed d ≡ false
+  copy-refused n e = refused-case n (draftFormed d) refl e
+
+  copy-made : success [] ≡ copyingOf d z → draftFormed d ≡ true
+  copy-made e = made-case (draftFormed d) refl e
+
+-- the fields of rules 1 to 3 are the same of every sheet
+basic-case : (s t : List ℕ) (n : ℕ) (a b c : Bool) → n ≡ cond a (cond b (cond c 0 3) 2) 1 → fieldOf rules n s ≡ fieldOf rules n t
+unfolding fieldOf rules
+basic-case s t n true true true e = rw e
+basic-case s t n true true false e = rw e
+basic-case s t n true false c e = rw e
+basic-case s t n false b c e = rw e
+
+basic-field : (s t : List ℕ) (n : ℕ) → n ≡ firstBroken s basic → fieldOf rules n t ≡ fieldOf rules n s
+unfolding firstBroken
+basic-field s t n e = basic-case t s n (keeps s 1) (keeps s 2) (keeps s 3) e
+
+module _ (d b o s : List ℕ) (c : Copied) (lo : length o ≡ 390) (hs : Copies d o c s) where
+  pub refused-1 : (n : Refusal) → c ≡ copied.Refused n → Completes d b (Refused (record { 0 = 1 })) b
+  unfolding completing completed completeAnswer
+  refused-1 n h =
+      let f : draftFormed d ≡ false = copy-refused d o lo (n .0) (sym (ap copyAnswer h) ∙ hs .answer) in
+      completes-by d b (Refused (record { 0 = 1 })) b (sym (simp f)) (sym (simp f))
+
+  module _ (h : c ≡ copied.Made) where
     formed : draftFormed d ≡ true
-    formed = sym e ∙ not-false w n
+    formed = copy-made d o lo (sym (ap copyAnswer h) ∙ hs .answer)
+
+    sheet : s ≡ sheetOf d
+    sheet = hs .sheet ∙ copied-is d o formed lo
+
+    size : length (sheetOf d) ≡ 390
+    size = length-sheetOf d formed
 
     pub refused-7 : (length b ≡ 390 → ⊥) → Completes d b (Refused (record { 0 = 7 })) b
     unfolding completing completed completeAnswer
     refused-7 z = completes-by d b (Refused (record { 0 = 7 })) b (cc (formed, ne-eqb (length b) 390 z)) (cc (formed, ne-eqb (length b) 390 z))
 
-    module _ (z : length b ≡ 390) (o s : List ℕ) (c : Copied) (x : Facts) (g : ℕ) (lo : length o ≡ 390) (hs : Copies d o c s) (hx : x ≡ factsOf s) (hg : g ≡ firstFailed x basic) where
-      sheet : s ≡ sheetOf d
-      sheet = hs .sheet ∙ copied-is d o formed lo
+    module _ (z : length b ≡ 390) (u : List ℕ) (x : Facts) (g : ℕ) (hu : u ≡ baseOf s) (hx : x ≡ factsIn u) (hg : g ≡ firstFailed x basic) where
+      base : u ≡ baseOf (sheetOf d)
+      base = hu ∙ ap baseOf sheet
+
+      facts : x ≡ factsOf (baseOf (sheetOf d))
+      facts = hx ∙ ap factsIn base ∙ facts-sized (baseOf (sheetOf d)) (base-length (sheetOf d) size)
 
       first : firstBroken (sheetOf d) basic ≡ g
-      first = sym (hg ∙ ap (λ (f : Facts). firstFailed f basic) (hx ∙ ap factsOf sheet) ∙ basic-on (sheetOf d))
+      first = sym (hg ∙ ap (λ (f : Facts). firstFailed f basic) facts ∙ basic-on (baseOf (sheetOf d)) ∙ base-broken (sheetOf d) size)
 
       -- the answer and the buffer where the draft is well formed and the buffer has its size
       answer-is : classAnswer (sheetOf d) g ≡ completing d b
       unfolding completing
       answer-is = sym (simp (formed, eq-eqb (length b) 390 z) (ap (classAnswer (sheetOf d)) first))
 
-      pub broken-8 : (f : Field) → (g ≡ 0 → ⊥) → f .0 ≡ fieldOf rules g s → Completes d b (Broken f (record { 0 = g })) b
+      pub broken-8 : (f : Field) → (g ≡ 0 → ⊥) → f .0 ≡ fieldOf rules g u → Completes d b (Broken f (record { 0 = g })) b
       unfolding completed completeAnswer classAnswer
-      broken-8 f y h =
+      broken-8 f y j =
           completes-by d b (Broken f (record { 0 = g })) b
-          (cc (answer-is, ne-eqb g 0 y, sheet))
+          (cc (answer-is, ne-eqb g 0 y, basic-field (sheetOf d) u g (sym first)))
           (sym (simp (formed, eq-eqb (length b) 390 z, first, ne-eqb g 0 y)))
 
       module _ (y : g ≡ 0) (r : Bool) (hr : r ≡ ordinary x) where
         zero : firstBroken (sheetOf d) basic ≡ 0
         zero = first ∙ y
 
+        class : r ≡ not (budget (sheetOf d))
+        class = hr ∙ ap ordinary facts ∙ ordinary-on (baseOf (sheetOf d)) ∙ ap not (base-budget (sheetOf d) size)
+
         pub refused-9 : r ≡ true → Completes d b (Refused (record { 0 = 9 })) b
         unfolding completed completeAnswer classAnswer
         refused-9 t =
-            let p : budget (sheetOf d) ≡ false = not-true (budget (sheetOf d)) (cc (ordinary-on (sheetOf d), sheet)) in
+            let p : budget (sheetOf d) ≡ false = not-true (budget (sheetOf d)) (sym class ∙ t) in
             completes-by d b (Refused (record { 0 = 9 })) b (cc (answer-is, p)) (sym (simp (formed, eq-eqb (length b) 390 z, zero, p)))
 
-        module _ (t : r ≡ false) (u : List ℕ) (k : Facts) (m : Found) (hu : u ≡ baseOf s) (hk : k ≡ factsOf u) (hm : m ≡ foundOf (firstPick k)) where
+        module _ (t : r ≡ false) (m : Found) (hm : m ≡ foundOf (firstPick x)) where
           pays : budget (sheetOf d) ≡ true
-          pays = not-false (budget (sheetOf d)) (cc (ordinary-on (sheetOf d), sheet))
-
-          size : length (sheetOf d) ≡ 390
-          size = length-sheetOf d formed
-
-          base : u ≡ baseOf (sheetOf d)
-          base = hu ∙ ap baseOf sheet
+          pays = not-false (budget (sheetOf d)) (sym class ∙ t)
 
           -- what the search found, as a look through the fillings
-          looks : (l : Look (List ℕ)) → firstPick k ≡ l → firstFilling (sheetOf d) ≡ mapLook (pickedOf (baseOf (sheetOf d))) l
-          looks l h =
+          looks : (l : Look (List ℕ)) → firstPick x ≡ l → firstFilling (sheetOf d) ≡ mapLook (pickedOf (baseOf (sheetOf d))) l
+          looks l e =
               first-is (sheetOf d) size pays (none-kept (sheetOf d) basic basic-numbered zero)
-              ∙ ap (mapLook (pickedOf (baseOf (sheetOf d)))) (ap firstPick (sym (hk ∙ ap factsOf base)) ∙ h)
+              ∙ ap (mapLook (pickedOf (baseOf (sheetOf d)))) (ap firstPick (sym facts) ∙ e)
 
           found-answer : lookAnswer (sheetOf d) (firstFilling (sheetOf d)) ≡ completing d b
           unfolding classAnswer
@@ -127,16 +173,16 @@ module _ (d b : List ℕ) (w : Bool) (e : w ≡ draftFormed d) where
 
           pub refused-10 : (n : ℕ) → m ≡ Nothing n → Completes d b (Impossible n) b
           unfolding completeAnswer lookAnswer lookSheet
-          refused-10 n h =
-              let l = looks (none n) (none-cases (firstPick k) n (sym h ∙ hm)) in
+          refused-10 n e =
+              let l = looks (none n) (none-cases (firstPick x) n (sym e ∙ hm)) in
               completes-by d b (Impossible n) b
               (ap (lookAnswer (sheetOf d)) (sym l) ∙ found-answer)
               (ap (lookSheet b) (sym l) ∙ found-sheet)
 
           pub filled-first : (n set : ℕ) (p : Pick) (v f : List ℕ) → set ≡ setOf s → m ≡ Place n p → v ≡ pickedOf u (p .status ∷ p .basis ∷ p .document ∷ p .day ∷ []) → f ≡ putAt b 0 v → Completes d b (Filled n set (ones set)) f
           unfolding completeAnswer lookAnswer lookSheet pickedOf
-          filled-first n set p v f hset h hv hf =
-              let (q, lq, pq) = place-cases (firstPick k) n p (sym h ∙ hm) in
+          filled-first n set p v f hset e hv hf =
+              let (q, lq, pq) = place-cases (firstPick x) n p (sym e ∙ hm) in
               let l = looks (found n q) lq in
               let c1 : v ≡ pickedOf (baseOf (sheetOf d)) q = hv ∙ (λ i. pickedOf (base i) (pq i .status ∷ pq i .basis ∷ pq i .document ∷ pq i .day ∷ [])) in
               let c2 : length v ≡ 390 = ap length c1 ∙ picked-length (sheetOf d) size q in

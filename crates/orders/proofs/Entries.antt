@@ -1,13 +1,16 @@
 -- The facts of a list's entry, read off the code's tables. Assumes nothing.
 use mathlib.Core.Path.{_≡_, refl, ap, sym, _∙_}
-use mathlib.Core.Bool.{Bool, true, false, cond}
+use mathlib.Core.Bool.{Bool, true, false, cond, _&&_}
 use mathlib.Core.List.{List, [], _∷_, map}
 use Prim.Native.Nat.{ℕ, zero, suc, _≤_, _<_}
 use native.Mathlib.Omega.{arith}
+use borrow.Author.Tests.{le-leb, lt-leb, ne-eqb}
+use lib.Dec.{leb, eqb}
 use lib.ListN.{length, getD, List·getD-map, List·getD-eq-default}
 use Rattle.texts.specs.Quoted.{Text}
-use Rattle.texts.specs.Texts.{between}
+use Rattle.texts.specs.Texts.{every, any, same, between, _isOneOf_}
 use Rattle.rules.specs.Sheet.{cellText}
+use Rattle.rules.specs.Forms.{person, document, date}
 use Rattle.rules.specs.Facts.{standingOf, basisOf, documentOf, dayOf}
 use Rattle.rules.specs.declared.facts.Standing.{Standing}
 use Rattle.rules.specs.declared.facts.Basis.{Basis}
@@ -15,7 +18,7 @@ use Rattle.rules.specs.declared.facts.Document.{Document}
 use Rattle.rules.specs.declared.facts.Day.{Day}
 use Rattle.rules.specs.declared.facts.Facts.{Facts}
 use Rattle.orders.specs.Search.{statusTexts, basisTexts, zeroTexts, statusAt, basisAt, documentAt, dayAt}
-use Rattle.orders.specs.Rows.{statusRows, basisRows, zeroRows, noRow}
+use Rattle.orders.specs.Rows.{statusRows, noRow}
 
 -- a table's row holds the list's text
 row-text : (rows : List (List ℕ)) (texts : List Text) → map cellText rows ≡ texts → (k : ℕ) → cellText (getD rows k noRow) ≡ getD texts k []
@@ -26,32 +29,59 @@ status-rows : map cellText statusRows ≡ statusTexts
 unfolding cellText between
 status-rows = refl
 
-basis-rows : map cellText basisRows ≡ basisTexts
-unfolding cellText between
-basis-rows = refl
-
-zero-rows : map cellText zeroRows ≡ zeroTexts
-unfolding cellText between
-zero-rows = refl
-
 module _ (f : Facts) (k : ℕ) (row t : List ℕ) (u : t ≡ cellText row) where
   pub status-listed : (r : Standing) → row ≡ getD statusRows k noRow → r ≡ standingOf t → f .status .blank ≡ true → r ≡ statusAt f k
   unfolding statusAt
   status-listed r e h b = cc (row-text statusRows statusTexts status-rows k)
 
-  pub basis-listed : (r : Basis) → row ≡ getD basisRows k noRow → r ≡ basisOf t → f .basis .blank ≡ true → r ≡ basisAt f k
-  unfolding basisAt
-  basis-listed r e h b = cc (row-text basisRows basisTexts basis-rows k)
+-- the facts of an entry, by its place
+past-12 : (k : ℕ) → 12 ≤ k → record { blank = leb 12 k; zero = eqb k 0; zeros = eqb k 1; letters = leb 2 k && leb k 11 } ≡ basisOf []
+unfolding basisOf same _isOneOf_ any
+past-12 k h = simp (le-leb 12 k h, ne-eqb k 0 (λ e. omega arith), ne-eqb k 1 (λ e. omega arith), le-leb 2 k (omega arith), lt-leb k 11 (omega arith))
 
-  pub document-listed : (r : Document) → row ≡ getD zeroRows k noRow → r ≡ documentOf t → f .document .blank ≡ true → r ≡ documentAt f k
-  unfolding documentAt
-  document-listed r e h b = cc (row-text zeroRows zeroTexts zero-rows k)
+pub basis-entry : (k : ℕ) → record { blank = leb 12 k; zero = eqb k 0; zeros = eqb k 1; letters = leb 2 k && leb k 11 } ≡ basisOf (getD basisTexts k [])
+unfolding basisOf same _isOneOf_ any
+basis-entry zero = refl
+basis-entry (suc zero) = refl
+basis-entry (suc (suc zero)) = refl
+basis-entry (suc (suc (suc zero))) = refl
+basis-entry (suc (suc (suc (suc zero)))) = refl
+basis-entry (suc (suc (suc (suc (suc zero))))) = refl
+basis-entry (suc (suc (suc (suc (suc (suc zero)))))) = refl
+basis-entry (suc (suc (suc (suc (suc (suc (suc zero))))))) = refl
+basis-entry (suc (suc (suc (suc (suc (suc (suc (suc zero)))))))) = refl
+basis-entry (suc (suc (suc (suc (suc (suc (suc (suc (suc zero))))))))) = refl
+basis-entry (suc (suc (suc (suc (suc (suc (suc (suc (suc (suc zero)))))))))) = refl
+basis-entry (suc (suc (suc (suc (suc (suc (suc (suc (suc (suc (suc zero))))))))))) = refl
+basis-entry (suc (suc (suc (suc (suc (suc (suc (suc (suc (suc (suc (suc k)))))))))))) = past-12 (suc (suc (suc (suc (suc (suc (suc (suc (suc (suc (suc (suc k)))))))))))) (omega arith)
 
-  pub day-listed : (r : Day) → row ≡ getD zeroRows k noRow → r ≡ dayOf t → f .day .blank ≡ true → r ≡ dayAt f k
-  unfolding dayAt
-  day-listed r e h b = cc (row-text zeroRows zeroTexts zero-rows k)
+pub document-entry : (k : ℕ) → record { blank = leb 2 k; fit = leb k 1; person = false; zero = eqb k 0; zeros = eqb k 1 } ≡ documentOf (getD zeroTexts k [])
+unfolding documentOf document person same _isOneOf_ any every between
+document-entry zero = refl
+document-entry (suc zero) = refl
+document-entry (suc (suc k)) =
+    simp (le-leb 2 (suc (suc k)) (omega arith), lt-leb (suc (suc k)) 1 (omega arith), ne-eqb (suc (suc k)) 0 (λ e. omega arith), ne-eqb (suc (suc k)) 1 (λ e. omega arith))
+
+pub day-entry : (k : ℕ) → record { blank = leb 2 k; zero = eqb k 0; zeros = eqb k 1; date = false } ≡ dayOf (getD zeroTexts k [])
+unfolding dayOf date same
+day-entry zero = refl
+day-entry (suc zero) = refl
+day-entry (suc (suc k)) =
+    simp (le-leb 2 (suc (suc k)) (omega arith), ne-eqb (suc (suc k)) 0 (λ e. omega arith), ne-eqb (suc (suc k)) 1 (λ e. omega arith))
 
 module _ (f : Facts) (k : ℕ) where
+  pub basis-listed : (r : Basis) → r ≡ basisOf (getD basisTexts k []) → f .basis .blank ≡ true → r ≡ basisAt f k
+  unfolding basisAt
+  basis-listed r h b = cc
+
+  pub document-listed : (r : Document) → r ≡ documentOf (getD zeroTexts k []) → f .document .blank ≡ true → r ≡ documentAt f k
+  unfolding documentAt
+  document-listed r h b = cc
+
+  pub day-listed : (r : Day) → r ≡ dayOf (getD zeroTexts k []) → f .day .blank ≡ true → r ≡ dayAt f k
+  unfolding dayAt
+  day-listed r h b = cc
+
   pub status-given : f .status .blank ≡ false → f .status ≡ statusAt f k
   unfolding statusAt
   status-given b = cc

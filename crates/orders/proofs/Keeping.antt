@@ -194,6 +194,18 @@ module _ (s : List ℕ) (size : length s ≡ 390) where
   unfolding textOf
   blank-base k h e = base-text s size k h ∙ e
 
+  -- 14, 15 and 17 stay in the base, and so do the rules of completion and the class
+  pub base-budget : budget (baseOf s) ≡ budget s
+  unfolding _⟨_⟩ slotOf
+  base-budget = cc (blank-base 0 (omega arith) refl, blank-base 1 (omega arith) refl, blank-base 2 (omega arith) refl)
+
+  pub base-broken : firstBroken (baseOf s) basic ≡ firstBroken s basic
+  unfolding firstBroken keeps rules testOf _⟨_⟩ slotOf
+  base-broken = cc (blank-base 0 (omega arith) refl, blank-base 1 (omega arith) refl, blank-base 2 (omega arith) refl)
+
+  pub base-length : length (baseOf s) ≡ 390
+  base-length = ap length (base-joined s size) ∙ length-joined (baseCells s) (base-sized s size)
+
   fillings-are : fillings s ≡ map (pickedOf (baseOf s)) (picks (factsOf (baseOf s)))
   unfolding picks factsOf standingOf basisOf documentOf dayOf toFill listOf
   fillings-are =

@@ -5,8 +5,8 @@ use crate::fill::fill_zeros;
 use crate::fill::filled_set;
 use crate::search::Found;
 use crate::search::search;
+use drafts::draft::Copied;
 use drafts::draft::copy;
-use drafts::draft::well_formed;
 use drafts::message::Refusal;
 use rules::Rule;
 use rules::facts::facts_of;
@@ -29,28 +29,30 @@ const SHEET_SIZE: usize = 390;
 // "In completion only 1 to 3".
 const BASIC: [u8; 3] = [1, 2, 3];
 
+// A copy to a sheet of its size is refused only where the draft is malformed. "0" goes into the fields that take nothing else first, and
+// leaves 14, 15 and 17, so that the facts are read once.
 pub fn complete(draft: &[u8], sheet: &mut [u8]) -> Completed
     ensures { λ r. ⌜ Completes (now (draft .entry)) (now (sheet .entry)) r (now (sheet .exit)) ⌝ }
 {
-    if !well_formed(draft) {
+    let mut work = [0u8; SHEET_SIZE];
+    let copied = copy(draft, &mut work);
+    let Copied::Made = copied else {
         return Completed::Refused(Refusal(1));
-    }
+    };
     if sheet.len() != SHEET_SIZE {
         return Completed::Refused(Refusal(7));
     }
-    let mut work = [0u8; SHEET_SIZE];
-    copy(draft, &mut work);
-    let given = facts_of(&work);
-    let broken = first_broken(given, &BASIC);
+    let set = filled_set(&work);
+    fill_zeros(&mut work);
+    let f = facts_of(&work);
+    let broken = first_broken(f, &BASIC);
     if broken != 0 {
         return Completed::Broken(field_of(Rule(broken), &work), Rule(broken));
     }
-    if is_ordinary(given) {
+    if is_ordinary(f) {
         return Completed::Refused(Refusal(9));
     }
-    let set = filled_set(&work);
-    fill_zeros(&mut work);
-    match search(facts_of(&work)) {
+    match search(f) {
         Found::Nothing(count) => Completed::Impossible(count),
         Found::Place(count, pick) => {
             fill_picked(&mut work, pick);

@@ -2,7 +2,8 @@
 ghost use mathlib.Core.Path.{_≡_};
 ghost use Prim.Native.Nat.{_≤_};
 ghost use lib.ListN.{getD};
-ghost use Rattle.rules.specs.Sheet.{cellText};
+ghost use mathlib.Core.List.{[]};
+ghost use Rattle.rules.specs.Facts.{basisOf, documentOf, dayOf};
 ghost use Rattle.orders.specs.Search.{statusTexts, basisTexts, zeroTexts, statusAt, basisAt, documentAt, dayAt, width, withAll, firstPick};
 ghost use Rattle.orders.specs.Rows.{statusRows, basisRows, zeroRows, noRow};
 ghost use Rattle.orders.specs.Found.{foundOf};
@@ -11,9 +12,6 @@ use rules::facts::Day;
 use rules::facts::Document;
 use rules::facts::Facts;
 use rules::facts::Standing;
-use rules::facts::basis_of;
-use rules::facts::day_of;
-use rules::facts::document_of;
 use rules::facts::standing_of;
 use rules::kept_basis;
 use rules::kept_day;
@@ -93,6 +91,42 @@ pub fn zero_row(k: usize) -> [u8; 3]
     ZEROS[k]
 }
 
+// The facts of an entry of the lists of 106, 108 and 109, which the search asks for again and again: "0", "00", for 106 ten letter
+// pairs, and the blank past the end.
+fn basis_entry(k: usize) -> Basis
+    ensures { λ r. ⌜ r ≡ basisOf (getD basisTexts k []) ⌝ }
+{
+    Basis {
+        blank: 12 <= k,
+        zero: k == 0,
+        zeros: k == 1,
+        letters: (2 <= k) & (k <= 11),
+    }
+}
+
+fn document_entry(k: usize) -> Document
+    ensures { λ r. ⌜ r ≡ documentOf (getD zeroTexts k []) ⌝ }
+{
+    Document {
+        blank: 2 <= k,
+        fit: k <= 1,
+        person: false,
+        zero: k == 0,
+        zeros: k == 1,
+    }
+}
+
+fn day_entry(k: usize) -> Day
+    ensures { λ r. ⌜ r ≡ dayOf (getD zeroTexts k []) ⌝ }
+{
+    Day {
+        blank: 2 <= k,
+        zero: k == 0,
+        zeros: k == 1,
+        date: false,
+    }
+}
+
 fn status_at(f: Facts, k: usize) -> Standing
     ensures { λ r. ⌜ r ≡ statusAt f k ⌝ }
 {
@@ -106,7 +140,7 @@ fn basis_at(f: Facts, k: usize) -> Basis
     ensures { λ r. ⌜ r ≡ basisAt f k ⌝ }
 {
     if f.basis.blank {
-        return basis_of(cell_text(&basis_row(k)));
+        return basis_entry(k);
     }
     f.basis
 }
@@ -115,7 +149,7 @@ fn document_at(f: Facts, k: usize) -> Document
     ensures { λ r. ⌜ r ≡ documentAt f k ⌝ }
 {
     if f.document.blank {
-        return document_of(cell_text(&zero_row(k)));
+        return document_entry(k);
     }
     f.document
 }
@@ -124,7 +158,7 @@ fn day_at(f: Facts, k: usize) -> Day
     ensures { λ r. ⌜ r ≡ dayAt f k ⌝ }
 {
     if f.day.blank {
-        return day_of(cell_text(&zero_row(k)));
+        return day_entry(k);
     }
     f.day
 }

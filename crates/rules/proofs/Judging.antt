@@ -14,9 +14,9 @@ use Rattle.texts.specs.Answers.{success, refusal}
 use Rattle.texts.proofs.Bools.{both}
 use Rattle.texts.proofs.Arms.{Rest, rest-first}
 use Rattle.texts.proofs.Every.{every-append, every-same}
-use Rattle.rules.specs.Sheet.{wellFormed, fieldIn, slotOf}
+use Rattle.rules.specs.Sheet.{slots, slotOk, wellFormed, fieldIn, slotOf}
 use Rattle.rules.specs.Rules.{Sheet, Rule, classA, classB, budget, given, needed, firstBlank, general, special, forBudget, rules, order, fieldOf, keeps, firstBroken, classOf}
-use Rattle.rules.specs.Facts.{factsOf, ordinary, classOn, generalOn, specialOn, look, holds, firstFailed, generalOrder, specialOrder, fixedRules, statusRules, basisRules, documentRules, dayRules, grouped}
+use Rattle.rules.specs.Facts.{factsOf, factsIn, ordinary, classOn, generalOn, specialOn, look, holds, firstFailed, generalOrder, specialOrder, fixedRules, statusRules, basisRules, documentRules, dayRules, grouped}
 use Rattle.rules.specs.Verdicts.{className, verdictAnswer, judged, checked, Checked}
 use Rattle.rules.specs.declared.Class.{Class}
 use Rattle.rules.specs.declared.Class.the-variants.{A, B, O}
@@ -26,6 +26,7 @@ use Rattle.rules.specs.declared.Verdict.{Verdict}
 use Rattle.rules.specs.declared.Verdict.the-variants.{Malformed, Broken, Accepted}
 use Rattle.rules.specs.declared.facts.Facts.{Facts}
 use Rattle.rules.proofs.On.{budget-keeps, ordinary-keeps, class-on, ordinary-on, general-on}
+use Rattle.rules.proofs.Ways.{facts-sized}
 use Rattle.rules.proofs.Means.{numbered, kept-none, checked-by}
 
 -- ---- keeps: an arm, and the last one
@@ -236,12 +237,15 @@ module _ (s : Sheet) where
   unfolding checked judged verdictAnswer
   accepted-is w k e n h i = checked-by s (Accepted k) (cc (not-false w n))
 
-  module _ (w : Bool) (x : Facts) (g : ℕ) (e : w ≡ wellFormed s) (n : not w ≡ false) (h : x ≡ factsOf s) (i : g ≡ firstFailed x generalOrder) where
+  module _ (w : Bool) (x : Facts) (g : ℕ) (e : w ≡ wellFormed s) (n : not w ≡ false) (j : x ≡ factsIn s) (i : g ≡ firstFailed x generalOrder) where
+    h : x ≡ factsOf s
+    h = j ∙ facts-sized s (eqb-true (length s) 390 (both (eqb (length s) 390) (every (slotOk s) slots) (sym e ∙ not-false w n) .0))
+
     general-is : firstBroken s generalOrder ≡ g
-    general-is = cc (general-on s)
+    general-is = cc (general-on s, h)
 
     pub check-general : (f : Field) → (g ≡ 0 → ⊥) → f .0 ≡ fieldOf rules g s → Checked s (Broken f (record { 0 = g }))
-    check-general f z j = broken-is w g f e n (broken-first generalOrder specialOrder (λ q. z (sym general-is ∙ q)) ∙ general-is) z j
+    check-general f z k = broken-is w g f e n (broken-first generalOrder specialOrder (λ q. z (sym general-is ∙ q)) ∙ general-is) z k
 
     module _ (o : Bool) (z : g ≡ 0) (p : o ≡ ordinary x) where
       special-is : firstBroken s order ≡ firstBroken s specialOrder
@@ -249,17 +253,17 @@ module _ (s : Sheet) where
 
       pub check-ordinary : o ≡ true → Checked s (Accepted O)
       check-ordinary t =
-          let b : budget s ≡ false = not-true (budget s) (cc (ordinary-on s)) in
+          let b : budget s ≡ false = not-true (budget s) (cc (ordinary-on s, h)) in
           accepted-is w O e n (special-is ∙ kept-none s specialOrder (ordinary-kept specialOrder five-on b)) (sym (ordinary-class b))
 
       module _ (b : ℕ) (t : o ≡ false) (q : b ≡ firstFailed x specialOrder) where
         broken-special-is : firstBroken s order ≡ b
         broken-special-is =
-            let y : budget s ≡ true = not-false (budget s) (cc (ordinary-on s)) in
-            special-is ∙ budget-broken specialOrder y ∙ cc
+            let y : budget s ≡ true = not-false (budget s) (cc (ordinary-on s, h)) in
+            special-is ∙ budget-broken specialOrder y ∙ cc h
 
         pub check-special : (f : Field) → (b ≡ 0 → ⊥) → f .0 ≡ fieldOf rules b s → Checked s (Broken f (record { 0 = b }))
-        check-special f y j = broken-is w b f e n broken-special-is y j
+        check-special f y m = broken-is w b f e n broken-special-is y m
 
         pub check-accepted : (k : Class) → b ≡ 0 → k ≡ classOn x → Checked s (Accepted k)
-        check-accepted k y j = accepted-is w k e n (broken-special-is ∙ y) (cc (class-on s))
+        check-accepted k y m = accepted-is w k e n (broken-special-is ∙ y) (cc (class-on s, h))

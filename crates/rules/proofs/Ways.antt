@@ -14,7 +14,7 @@ use Rattle.texts.specs.Texts.{every, any, are, among, between, same, digits, nu
 use Rattle.texts.proofs.Arms.{AnyOf, arm, outside}
 use Rattle.rules.specs.Sheet.{textOf}
 use Rattle.rules.specs.Forms.{foreignCode, inn10, inn12, person, leap, monthDays, gregorian, date}
-use Rattle.rules.specs.Facts.{payerOf, holds, generalOrder, fixedRules, statusRules, basisRules, documentRules, dayRules, on1, on2, on3, on4, on5, on6, on7, on8, on9, on10, on11, on12, on13, on14, on15, on16, on17, on18, on19, on20, on21, on22, on23, on24, on25, on26, on27, on28, on29, on30, on31, on32, on33, on34, isA, isB, accountOf, groupsBy, groupsOf, standingOf, wantedBy, basisOf, documentOf, dayOf, headOf, sidesOf, restOf, factsOf}
+use Rattle.rules.specs.Facts.{payerOf, holds, generalOrder, fixedRules, statusRules, basisRules, documentRules, dayRules, on1, on2, on3, on4, on5, on6, on7, on8, on9, on10, on11, on12, on13, on14, on15, on16, on17, on18, on19, on20, on21, on22, on23, on24, on25, on26, on27, on28, on29, on30, on31, on32, on33, on34, isA, isB, accountOf, groupsBy, groupsOf, standingOf, wantedBy, basisOf, documentOf, dayOf, headOf, sidesOf, restOf, factsOf, noFacts, factsIn}
 use Rattle.rules.specs.declared.forms.Wanted.{Wanted}
 use Rattle.rules.specs.declared.forms.Wanted.the-variants.{Any, Inn, Ten, Twelve, Zero}
 use Rattle.rules.specs.declared.facts.Account.{Account}
@@ -112,17 +112,26 @@ account-is bik bank account u v w x z m n o a b h f e1 e2 e3 e4 e5 e6 e7 e8 e9 e
     cc (a-is bank account, b-is bik account (between account 13 14 is "4"), to03100-is account, to03212-is account)
 
 -- facts_of
+pub facts-sized : (s : List ℕ) → length s ≡ 390 → factsIn s ≡ factsOf s
+unfolding factsIn
+facts-sized s l = simp (eq-eqb (length s) 390 l)
+
+pub facts-other : (s : List ℕ) (r : Facts) → (length s ≡ 390 → ⊥) → r ≡ noFacts → r ≡ factsIn s
+unfolding factsIn
+facts-other s r l e = simp (ne-eqb (length s) 390 l) e
+
 pub facts-is : (s : List ℕ) (h : Head) (d : Sides) (r : Rest) (a : Standing) (b : Basis) (c : Document) (y : Day) (t u v w : Text)
     → h ≡ headOf s → d ≡ sidesOf s → r ≡ restOf s → t ≡ textOf s 6 → a ≡ standingOf t → u ≡ textOf s 11 → b ≡ basisOf u
     → v ≡ textOf s 13 → c ≡ documentOf v → w ≡ textOf s 14 → y ≡ dayOf w
-    → record { head = h; sides = d; rest = r; status = a; basis = b; document = c; day = y } ≡ factsOf s
+    → length s ≡ 390 → record { head = h; sides = d; rest = r; status = a; basis = b; document = c; day = y } ≡ factsIn s
 unfolding factsOf
-facts-is s h d r a b c y t u v w eh ed er et ea eu eb ev ec ew ey =
+facts-is s h d r a b c y t u v w eh ed er et ea eu eb ev ec ew ey l =
     let fa : a ≡ standingOf (textOf s 6) = ea ∙ ap standingOf et in
     let fb : b ≡ basisOf (textOf s 11) = eb ∙ ap basisOf eu in
     let fc : c ≡ documentOf (textOf s 13) = ec ∙ ap documentOf ev in
     let fy : y ≡ dayOf (textOf s 14) = ey ∙ ap dayOf ew in
-    λ i. record { head = eh i; sides = ed i; rest = er i; status = fa i; basis = fb i; document = fc i; day = fy i }
+    (λ i. record { head = eh i; sides = ed i; rest = er i; status = fa i; basis = fb i; document = fc i; day = fy i })
+    ∙ sym (facts-sized s l)
 
 -- kept_general and the groups of the rest
 pub kept-general : (f : Facts) (a1 a2 a3 a4 : Bool) → a1 ≡ on1 f → a2 ≡ on2 f → a3 ≡ on3 f → a4 ≡ on4 f → (a1 && (a2 && (a3 && (a4 && true)))) ≡ every (holds f) generalOrder

@@ -4,6 +4,7 @@ use mathlib.Core.Bool.{Bool, true, false, not, cond, _&&_, _||_}
 use mathlib.Core.List.{List, [], _∷_, _++_}
 use Prim.Native.Nat.{ℕ}
 use lib.Dec.{eqb}
+use lib.ListN.{length}
 use Rattle.texts.specs.Quoted.{Text}
 use Rattle.texts.specs.Texts.{every, any, among, between, blank, _is_, _isOneOf_, _begins_, _beginsOneOf_, digits, digitsNotZero, digitsNot00, number}
 use Rattle.rules.specs.Sheet.{textOf}
@@ -171,6 +172,46 @@ factsOf s =
       document = documentOf (textOf s 13);
       day = dayOf (textOf s 14);
     }
+
+-- what the code answers of a sheet that has another size: nothing holds. The test of the size tells the compiler where every field
+-- stands; no promise depends on these facts.
+unfoldable pub noFacts : Facts
+noFacts =
+    record {
+      head =
+          record {
+            general = record { bik = false; bank = false; account = false };
+            account = record { a = false; b = false; home = false; to03100 = false; to03212 = false };
+            given = false;
+          };
+      sides =
+          record {
+            code = record { zero = false; uin = false; four = false };
+            payer = record { zero = false; foreign = false; inn10 = false; inn12 = false; five = false; ten = false; twelve = false };
+            payee = false;
+            kpp = record { zero = false; full = false };
+            payeekpp = false;
+          };
+      rest =
+          record {
+            kbk = record { zero = false; full = false };
+            oktmo = record { zero = false; full = false };
+            office = record { zero = false; full = false };
+          };
+      status =
+          record {
+            blank = false;
+            listed = false;
+            groups = record { customs = false; treasury = false; courts = false; personal = false; is01 = false; is13 = false; is31 = false };
+            wanted = Any;
+          };
+      basis = record { blank = false; zero = false; zeros = false; letters = false };
+      document = record { blank = false; fit = false; person = false; zero = false; zeros = false };
+      day = record { blank = false; zero = false; zeros = false; date = false };
+    }
+
+unfoldable pub factsIn : Sheet → Facts
+factsIn s = cond (eqb (length s) 390) (factsOf s) noFacts
 
 -- ---- the rules' tests on facts
 

@@ -3,7 +3,7 @@ ghost use mathlib.Core.Path.{_≡_};
 ghost use Rattle.texts.specs.Texts.{every, digits, digitsNotZero};
 ghost use Rattle.rules.specs.Forms.{kpp};
 ghost use Rattle.rules.specs.Rules.{given};
-ghost use Rattle.rules.specs.Facts.{generalOf, isA, isB, accountOf, codeOf, payerOf, formOf, groupsBy, standingOf, basisOf, documentOf, dayOf, fixed, headOf, sidesOf, restOf, factsOf};
+ghost use Rattle.rules.specs.Facts.{generalOf, isA, isB, accountOf, codeOf, payerOf, formOf, groupsBy, standingOf, basisOf, documentOf, dayOf, fixed, headOf, sidesOf, restOf, noFacts, factsIn};
 use crate::forms::Status;
 use crate::forms::Wanted;
 use crate::forms::is_date;
@@ -419,9 +419,105 @@ fn rest_of(sheet: &[u8]) -> Rest
     }
 }
 
-pub fn facts_of(sheet: &[u8]) -> Facts
-    ensures { λ r. ⌜ r ≡ factsOf (now (sheet .entry)) ⌝ }
+// Nothing holds, of a sheet that has another size.
+fn no_facts() -> Facts
+    ensures { λ r. ⌜ r ≡ noFacts ⌝ }
 {
+    Facts {
+        head: Head {
+            general: General {
+                bik: false,
+                bank: false,
+                account: false,
+            },
+            account: Account {
+                a: false,
+                b: false,
+                home: false,
+                to03100: false,
+                to03212: false,
+            },
+            given: false,
+        },
+        sides: Sides {
+            code: Code {
+                zero: false,
+                uin: false,
+                four: false,
+            },
+            payer: Payer {
+                zero: false,
+                foreign: false,
+                inn10: false,
+                inn12: false,
+                five: false,
+                ten: false,
+                twelve: false,
+            },
+            payee: false,
+            kpp: Form {
+                zero: false,
+                full: false,
+            },
+            payeekpp: false,
+        },
+        rest: Rest {
+            kbk: Form {
+                zero: false,
+                full: false,
+            },
+            oktmo: Form {
+                zero: false,
+                full: false,
+            },
+            office: Form {
+                zero: false,
+                full: false,
+            },
+        },
+        status: Standing {
+            blank: false,
+            listed: false,
+            groups: Groups {
+                customs: false,
+                treasury: false,
+                courts: false,
+                personal: false,
+                is01: false,
+                is13: false,
+                is31: false,
+            },
+            wanted: Wanted::Any,
+        },
+        basis: Basis {
+            blank: false,
+            zero: false,
+            zeros: false,
+            letters: false,
+        },
+        document: Document {
+            blank: false,
+            fit: false,
+            person: false,
+            zero: false,
+            zeros: false,
+        },
+        day: Day {
+            blank: false,
+            zero: false,
+            zeros: false,
+            date: false,
+        },
+    }
+}
+
+// The test of the size tells the compiler where every field stands.
+pub fn facts_of(sheet: &[u8]) -> Facts
+    ensures { λ r. ⌜ r ≡ factsIn (now (sheet .entry)) ⌝ }
+{
+    if sheet.len() != 390 {
+        return no_facts();
+    }
     let head = head_of(sheet);
     let sides = sides_of(sheet);
     let rest = rest_of(sheet);

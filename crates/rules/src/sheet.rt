@@ -98,10 +98,13 @@ fn all_zero(t: &[u8], w: usize) -> bool
     good
 }
 
-// The bytes of a cell from n on are zero, by two windows that overlap.
+// The bytes of a cell from n on are zero, by two windows that overlap. The test of the size fixes their widths.
 fn is_padded(c: &[u8], n: usize) -> bool
     ensures { λ r. ⌜ r ≡ every (are 0) (between (now (c .entry)) n 26) ⌝ }
 {
+    if c.len() != 26 {
+        return all_are(part(c, n, 26), 0);
+    }
     if n <= 10 {
         return all_zero(part(c, n, n + 16), 16) & all_zero(part(c, 10, 26), 16);
     }

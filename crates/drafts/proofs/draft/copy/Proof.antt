@@ -17,10 +17,11 @@ abbrev μ-loop : tie.MeasureT-loop
 loop-again : tie.Need-loop-again Inv-loop μ-loop
 loop-again c =
     let p = c .before .before in
-    let l = p .before .before .before .before .before .before in
+    let q = p .before .before .before .before in
+    let l = q .before .before .before .before in
     let more =
-    copy-more _ _ _ (l .before .before .before .well-formed .ensures) (l .before .before .if1 .left) (l .before .if2 .left) _ _ (l .loop .inv .1) _ _ _ _ (p .before .before .before .before .before .loop-test .taken) (p .before .before .slot-in .ensures) (p .before .slot-cell .ensures) (p .before .before .before .wide .ensures) (p .put .ensures) in
+    copy-more _ _ _ (l .before .before .before .well-formed .ensures) (l .before .before .if1 .left) (l .before .if2 .left) _ _ (l .loop .inv .1) _ _ _ _ _ (q .before .before .before .loop-test .taken) (q .before .before .slot-in .ensures) (q .before .slot-cell .ensures) (q .cell-bytes .ensures) (p .before .before .wide .ensures) (p .put .ensures) in
     (omega arith, more, search copies, search copies)
 
 pub copy-spec : {M : Type 1} → statement M
-copy-spec = tie.close (tie.spec Inv-loop μ-loop (λ c κs. search copies) (λ c. search copies) (λ c. search copies) (λ c. search copies) (λ c κs. search copies) (λ c. search copies) (λ c κs. search copies) (λ c κs. search copies) (λ c κs. search copies) (λ c. search copies) (λ c. search copies) loop-again (λ c. search copies) (λ c. search copies))
+copy-spec = tie.close (tie.spec Inv-loop μ-loop (λ c κs. search copies) (λ c. search copies) (λ c. search copies) (λ c. search copies) (λ c κs. search copies) (λ c κs. search copies) (λ c κs. search copies) (λ c κs. search copies) (λ c. search copies) (λ c. search copies) (λ c κs. search copies) (λ c. search copies) (λ c. search copies) loop-again (λ c. search copies) (λ c. search copies))

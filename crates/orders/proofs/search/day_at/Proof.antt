@@ -4,4 +4,4 @@ use Rattle.orders.proofs.search.day_at.Statement.{statement}
 use Rattle.orders.proofs.search.day_at.Tie as tie
 
 pub day-at-spec : {M : Type 1} → statement M
-day-at-spec = tie.close (tie.spec (λ c κs. search needs) (λ c. search needs) (λ c κs. search needs) (λ c κs. search needs) (λ c. search (needs, day-listed, day-given)) (λ c. search (needs, day-listed, day-given)))
+day-at-spec = tie.close (tie.spec (λ c κs. search needs) (λ c. search (needs, day-listed)) (λ c. search (needs, day-given)))

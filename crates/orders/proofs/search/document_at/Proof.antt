@@ -4,4 +4,4 @@ use Rattle.orders.proofs.search.document_at.Statement.{statement}
 use Rattle.orders.proofs.search.document_at.Tie as tie
 
 pub document-at-spec : {M : Type 1} → statement M
-document-at-spec = tie.close (tie.spec (λ c κs. search needs) (λ c. search needs) (λ c κs. search needs) (λ c κs. search needs) (λ c. search (needs, document-listed, document-given)) (λ c. search (needs, document-listed, document-given)))
+document-at-spec = tie.close (tie.spec (λ c κs. search needs) (λ c. search (needs, document-listed)) (λ c. search (needs, document-given)))
