@@ -14,7 +14,7 @@ use Rattle.texts.specs.Buffers.{putAt}
 use Rattle.texts.proofs.Puts.{put-fits, put-whole}
 use Rattle.rules.specs.Rules.{budget, rules, fieldOf, keeps, firstBroken, testOf}
 use Rattle.rules.specs.Sheet.{slotOf, textOf, _⟨_⟩}
-use Rattle.rules.specs.Facts.{factsOf, factsIn, headOf, generalOf, accountOf, standingOf, holds, ordinary, firstFailed}
+use Rattle.rules.specs.Facts.{factsOf, factsIn, headOf, generalOf, accountOf, standingOf, holds, on1, on2, on3, ordinary, firstFailed}
 use Rattle.rules.proofs.On.{ordinary-on}
 use Rattle.rules.proofs.Ways.{facts-sized}
 use Rattle.rules.proofs.Means.{numbered, none-kept}
@@ -58,6 +58,11 @@ basic-numbered = refl
 basic-on : (s : List ℕ) → firstFailed (factsOf s) basic ≡ firstBroken s basic
 unfolding firstFailed firstBroken keeps rules testOf holds factsOf headOf generalOf accountOf standingOf slotOf _⟨_⟩
 basic-on s = refl
+
+-- kept_basic
+pub basic-kept : (f : Facts) (a b c : Bool) → a ≡ on1 f → b ≡ on2 f → c ≡ on3 f → (a && (b && (c && true))) ≡ every (holds f) basic
+unfolding every holds
+basic-kept f a b c ea eb ec = λ i. ea i && (eb i && (ec i && true))
 
 copied-is : (d z : List ℕ) → draftFormed d ≡ true → length z ≡ 390 → copiedTo d z ≡ sheetOf d
 unfolding copiedTo copyTests

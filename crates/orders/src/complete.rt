@@ -1,4 +1,8 @@
 // Completion: the first filling of a draft that keeps the rules.
+ghost use mathlib.Core.Path.{_≡_};
+ghost use Rattle.texts.specs.Texts.{every};
+ghost use Rattle.rules.specs.Facts.{holds, firstFailed};
+ghost use Rattle.orders.specs.Complete.{basic};
 ghost use Rattle.orders.specs.Whole.{Completes};
 use crate::fill::fill_picked;
 use crate::fill::fill_zeros;
@@ -9,11 +13,15 @@ use drafts::draft::Copied;
 use drafts::draft::copy;
 use drafts::message::Refusal;
 use rules::Rule;
+use rules::facts::Facts;
 use rules::facts::facts_of;
 use rules::field_of;
 use rules::first_broken;
 use rules::sheet::Field;
 use rules::tests::is_ordinary;
+use rules::tests::keeps1;
+use rules::tests::keeps2;
+use rules::tests::keeps3;
 use texts::buffers::put;
 
 // The first filling with its count, the set of filled slots and how many bits are set; 10 with the count of all; 8; 1, 7 or 9.
@@ -28,6 +36,22 @@ const SHEET_SIZE: usize = 390;
 
 // "In completion only 1 to 3".
 const BASIC: [u8; 3] = [1, 2, 3];
+
+fn kept_basic(f: Facts) -> bool
+    ensures { λ r. ⌜ r ≡ every (holds f) basic ⌝ }
+{
+    keeps1(f) & (keeps2(f) & (keeps3(f) & true))
+}
+
+// Where all are kept, as they mostly are, no rule is looked for.
+fn broken_basic(f: Facts) -> u8
+    ensures { λ r. ⌜ r ≡ firstFailed f basic ⌝ }
+{
+    if kept_basic(f) {
+        return 0;
+    }
+    first_broken(f, &BASIC)
+}
 
 // A copy to a sheet of its size is refused only where the draft is malformed. "0" goes into the fields that take nothing else first, and
 // leaves 14, 15 and 17, so that the facts are read once.
@@ -45,7 +69,7 @@ pub fn complete(draft: &[u8], sheet: &mut [u8]) -> Completed
     let set = filled_set(&work);
     fill_zeros(&mut work);
     let f = facts_of(&work);
-    let broken = first_broken(f, &BASIC);
+    let broken = broken_basic(f);
     if broken != 0 {
         return Completed::Broken(field_of(Rule(broken), &work), Rule(broken));
     }
