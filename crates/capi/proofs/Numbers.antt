@@ -11,7 +11,7 @@ use Rattle.rules.specs.declared.Rule.{Rule}
 use Rattle.rules.specs.declared.sheet.Field.{Field}
 use Rattle.rules.specs.declared.Verdict.{Verdict}
 use Rattle.rules.specs.declared.Verdict.the-variants.{Malformed, Broken, Accepted}
-use Rattle.texts.specs.Answers.{Answer}
+use Rattle.texts.specs.Answers.{Answer, numberOf}
 use Rattle.drafts.specs.Message.{readAnswer, readingOf, writeAnswer, writingOf, writtenOf}
 use Rattle.drafts.specs.Draft.{beginAnswer, beginningOf, begunFrom, postAnswer, postingOf, postedTo, copyAnswer, copyingOf, copiedTo}
 use Rattle.drafts.specs.Promises.{Reads, Writes, Freshens, Posts, Copies}
@@ -31,7 +31,7 @@ use Rattle.orders.specs.Complete.{completeAnswer, completing, completed}
 use Rattle.orders.specs.Whole.{Completes}
 use Rattle.orders.specs.declared.complete.Completed.{Completed}
 use Rattle.orders.specs.declared.complete.Completed.the-variants as completion
-use Rattle.capi.specs.Numbers.{checkNumbers, readNumbers, writeNumbers, postNumbers, justNumber, completeNumbers}
+use Rattle.capi.specs.Numbers.{checkNumbers, readNumbers, writeNumbers, postNumbers, completeNumbers}
 use Rattle.capi.specs.declared.Check.{Check}
 use Rattle.capi.specs.declared.Read.{Read}
 use Rattle.capi.specs.declared.Write.{Write}
@@ -89,13 +89,11 @@ module _ (f r : ℕ) (t b : List ℕ) (v : Written) (x : List ℕ) (p : Writes f
   write-refused n e = arm writeAnswer writeNumbers v (written.Refused n) (writingOf f r t b) (p .answer) e
 
 module _ (d : List ℕ) (v : Begun) (x : List ℕ) (p : Freshens d v x) where
-  pub fresh-made : v ≡ begun.Made → 0 ≡ justNumber (beginningOf d)
-  unfolding justNumber
-  fresh-made e = arm beginAnswer justNumber v begun.Made (beginningOf d) (p .answer) e
+  pub fresh-made : v ≡ begun.Made → 0 ≡ numberOf (beginningOf d)
+  fresh-made e = arm beginAnswer numberOf v begun.Made (beginningOf d) (p .answer) e
 
-  pub fresh-refused : (n : Refusal) → v ≡ begun.Refused n → n .0 ≡ justNumber (beginningOf d)
-  unfolding justNumber
-  fresh-refused n e = arm beginAnswer justNumber v (begun.Refused n) (beginningOf d) (p .answer) e
+  pub fresh-refused : (n : Refusal) → v ≡ begun.Refused n → n .0 ≡ numberOf (beginningOf d)
+  fresh-refused n e = arm beginAnswer numberOf v (begun.Refused n) (beginningOf d) (p .answer) e
 
 module _ (d m : List ℕ) (v : Posted) (x : List ℕ) (p : Posts d m v x) where
   pub post-newer : v ≡ posted.Newer → record { number = 0; standing = 110 } ≡ postNumbers (postingOf d m)
@@ -115,13 +113,11 @@ module _ (d m : List ℕ) (v : Posted) (x : List ℕ) (p : Posts d m v x) where
   post-refused n e = arm postAnswer postNumbers v (posted.Refused n) (postingOf d m) (p .answer) e
 
 module _ (d b : List ℕ) (v : Copied) (x : List ℕ) (p : Copies d b v x) where
-  pub copy-made : v ≡ copied.Made → 0 ≡ justNumber (copyingOf d b)
-  unfolding justNumber
-  copy-made e = arm copyAnswer justNumber v copied.Made (copyingOf d b) (p .answer) e
+  pub copy-made : v ≡ copied.Made → 0 ≡ numberOf (copyingOf d b)
+  copy-made e = arm copyAnswer numberOf v copied.Made (copyingOf d b) (p .answer) e
 
-  pub copy-refused : (n : Refusal) → v ≡ copied.Refused n → n .0 ≡ justNumber (copyingOf d b)
-  unfolding justNumber
-  copy-refused n e = arm copyAnswer justNumber v (copied.Refused n) (copyingOf d b) (p .answer) e
+  pub copy-refused : (n : Refusal) → v ≡ copied.Refused n → n .0 ≡ numberOf (copyingOf d b)
+  copy-refused n e = arm copyAnswer numberOf v (copied.Refused n) (copyingOf d b) (p .answer) e
 
 -- a refusal that returns no values
 flat : (b : Bool) → _≡_ {A = ℕ} (cond b 0 0) 0

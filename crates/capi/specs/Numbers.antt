@@ -29,11 +29,6 @@ unfoldable pub postNumbers : Answer → Post
 postNumbers (success vs) = record { number = 0; standing = getD vs 0 0 }
 postNumbers (refusal n vs) = record { number = n; standing = 0 }
 
--- fresh and copy
-unfoldable pub justNumber : Answer → ℕ
-justNumber (success vs) = 0
-justNumber (refusal n vs) = n
-
 unfoldable pub completeNumbers : Answer → Complete
 completeNumbers (success vs) = record { number = 0; field = 0; rule = 0; set = getD vs 1 0; ones = getD vs 2 0; count = getD vs 0 0 }
 completeNumbers (refusal n vs) =

@@ -1,10 +1,11 @@
 // The library for C and for what links like C. Each function forwards to a proved one, and gives document 01's numbers.
 ghost use mathlib.Core.Path.{_≡_};
+ghost use Rattle.texts.specs.Answers.{numberOf};
 ghost use Rattle.rules.specs.Verdicts.{checked};
 ghost use Rattle.drafts.specs.Message.{readingOf, writingOf, writtenOf};
 ghost use Rattle.drafts.specs.Draft.{beginningOf, begunFrom, postingOf, postedTo, copyingOf, copiedTo};
 ghost use Rattle.orders.specs.Complete.{completing, completed};
-ghost use Rattle.capi.specs.Numbers.{checkNumbers, readNumbers, writeNumbers, postNumbers, justNumber, completeNumbers};
+ghost use Rattle.capi.specs.Numbers.{checkNumbers, readNumbers, writeNumbers, postNumbers, completeNumbers};
 use drafts::draft::Begun;
 use drafts::draft::Copied;
 use drafts::draft::Posted;
@@ -138,7 +139,7 @@ pub extern "C" fn kieselbrot_write(
 
 #[no_mangle]
 pub extern "C" fn kieselbrot_fresh(draft: &mut [u8]) -> u8
-    ensures { λ r. ⌜ (r ≡ justNumber (beginningOf (now (draft .entry)))) × (now (draft .exit) ≡ begunFrom (now (draft .entry))) ⌝ }
+    ensures { λ r. ⌜ (r ≡ numberOf (beginningOf (now (draft .entry)))) × (now (draft .exit) ≡ begunFrom (now (draft .entry))) ⌝ }
 {
     let v = drafts::draft::fresh(draft);
     match v {
@@ -174,7 +175,7 @@ pub extern "C" fn kieselbrot_post(draft: &mut [u8], message: &[u8]) -> Post
 
 #[no_mangle]
 pub extern "C" fn kieselbrot_copy(draft: &[u8], sheet: &mut [u8]) -> u8
-    ensures { λ r. ⌜ (r ≡ justNumber (copyingOf (now (draft .entry)) (now (sheet .entry)))) × (now (sheet .exit) ≡ copiedTo (now (draft .entry)) (now (sheet .entry))) ⌝ }
+    ensures { λ r. ⌜ (r ≡ numberOf (copyingOf (now (draft .entry)) (now (sheet .entry)))) × (now (sheet .exit) ≡ copiedTo (now (draft .entry)) (now (sheet .entry))) ⌝ }
 {
     let v = drafts::draft::copy(draft, sheet);
     match v {

@@ -15,7 +15,7 @@ use lib.ListN.{length, getD, replicate}
 use Rattle.texts.specs.Numbers.{bytes4}
 use Rattle.texts.specs.Buffers.{put, putAt, zeroed}
 use Rattle.texts.proofs.Puts.{put-fits, length-put, put-put, put-none, put-next, put-whole}
-use Rattle.rules.specs.Sheet.{slotOf}
+use Rattle.rules.specs.Sheet.{cell, slotOf}
 use Rattle.rules.specs.declared.sheet.Field.{Field}
 use Rattle.drafts.specs.Tests.{_⇒_}
 use Rattle.drafts.specs.Message.{Bytes, fieldOf, revisionOf, messageText, readTests, readable, readingOf, readAnswer}
@@ -63,7 +63,7 @@ put-zeros s n k e = rw (zero-add, e, drop-zeros n k)
 
 pub slot-made : (r : ℕ) (t d x y : List ℕ) → length t ≤ 25 → d ≡ bytes4 r
     → x ≡ putAt (replicate slotSize 0) 0 (getD d 0 0 ∷ getD d 1 0 ∷ getD d 2 0 ∷ getD d 3 0 ∷ length t ∷ []) → y ≡ putAt x 5 t → y ≡ slotBytes r t
-unfolding slotBytes
+unfolding slotBytes cell
 slot-made r t d x y l ed ex ey =
     let z : List ℕ = replicate slotSize 0 in
     let s : List ℕ = getD d 0 0 ∷ getD d 1 0 ∷ getD d 2 0 ∷ getD d 3 0 ∷ length t ∷ [] in

@@ -16,7 +16,7 @@ use Rattle.texts.specs.Texts.{between, every, are}
 use Rattle.texts.specs.Buffers.{put}
 use Rattle.texts.proofs.Bools.{both}
 use Rattle.texts.proofs.Puts.{length-put, take-put, drop-put, mid-put}
-use Rattle.rules.specs.Sheet.{fields, placeOf, slotOf, cellOk}
+use Rattle.rules.specs.Sheet.{cell, fields, placeOf, slotOf, cellOk}
 use Rattle.drafts.specs.Draft.{slotSize, draftSize, slotIn, slotRevision, slotCell, slotBytes, slotFormed, slotsFormed, draftFormed}
 use Rattle.drafts.proofs.Messages.{be4-bytes4}
 
@@ -26,15 +26,15 @@ pub drop-zeros : (n k : ℕ) → drop {A = ℕ} n (replicate (n + k) 0) ≡ repl
 drop-zeros n k = rw (← replicate-append-replicate {A = ℕ} n k 0) (drop-at {A = ℕ} (replicate n 0) (replicate k 0) n (length-replicate {A = ℕ} n 0))
 
 pub length-slot : (r : ℕ) (t : List ℕ) → length t ≤ 25 → length (slotBytes r t) ≡ slotSize
-unfolding slotBytes
+unfolding slotBytes cell
 length-slot r t h = simp (length-append, length-replicate) (omega arith)
 
 pub slot-revision : (r : ℕ) (t : List ℕ) → r < 2 ^ 32 → slotRevision (slotBytes r t) ≡ r
-unfolding slotBytes
+unfolding slotBytes cell
 slot-revision r t h = be4-bytes4 r h
 
 slot-cell : (r : ℕ) (t : List ℕ) → length t ≤ 25 → slotCell (slotBytes r t) ≡ length t ∷ (t ++ replicate (25 - length t) 0)
-unfolding slotCell slotBytes between
+unfolding slotCell slotBytes cell between
 slot-cell r t h =
     let e : length (t ++ replicate (25 - length t) 0) ≡ 25 = length-append t (replicate (25 - length t) 0) ∙ simp length-replicate (omega arith) in
     take-all 26 (length t ∷ (t ++ replicate (25 - length t) 0)) (omega arith)

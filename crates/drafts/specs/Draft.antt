@@ -9,7 +9,7 @@ use Rattle.texts.specs.Texts.{between, same, blank}
 use Rattle.texts.specs.Numbers.{be4, bytes4}
 use Rattle.texts.specs.Buffers.{put}
 use Rattle.texts.specs.Answers.{Answer, success, refusal}
-use Rattle.rules.specs.Sheet.{slotOf, cellText, cellOk}
+use Rattle.rules.specs.Sheet.{slotOf, sheetSize, cell, cellText, cellOk}
 use Rattle.drafts.specs.Tests.{Test, _⇒_, answerBy, bufferBy}
 use Rattle.drafts.specs.Message.{fieldOf, revisionOf, messageText, readTests}
 use Rattle.drafts.specs.declared.revision.Standing.{Standing}
@@ -42,7 +42,7 @@ unfoldable pub slotText : List ℕ → Text
 slotText s = cellText (slotCell s)
 
 unfoldable pub slotBytes : ℕ → Text → List ℕ
-slotBytes r t = bytes4 r ++ (length t ∷ (t ++ replicate (25 - length t) 0))
+slotBytes r t = bytes4 r ++ cell t
 
 -- "Malformed: another size, a length above 25, a nonzero pad byte; in a draft also revision 0 with a text"
 unfoldable pub slotFormed : List ℕ → Bool
@@ -133,7 +133,7 @@ sheetOf d = cells d 15
 
 -- "draft or sheet malformed", "output: a sheet not of 390"
 unfoldable pub copyTests : List ℕ → List ℕ → List Test
-copyTests d s = (not (draftFormed d) ⇒ 1) ∷ (not (eqb (length s) 390) ⇒ 7) ∷ []
+copyTests d s = (not (draftFormed d) ⇒ 1) ∷ (not (eqb (length s) sheetSize) ⇒ 7) ∷ []
 
 unfoldable pub copyingOf : List ℕ → List ℕ → Answer
 copyingOf d s = answerBy (copyTests d s) []

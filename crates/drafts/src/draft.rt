@@ -11,6 +11,8 @@ use crate::message::message_text;
 use crate::message::read;
 use crate::revision::Revision;
 use crate::revision::Standing;
+use rules::sheet::CELL_SIZE;
+use rules::sheet::SHEET_SIZE;
 use rules::sheet::cell_ok;
 use rules::sheet::cell_text;
 use rules::sheet::slot_of;
@@ -25,16 +27,12 @@ use texts::texts::wide;
 
 const SLOT_SIZE: usize = 30;
 
-const DRAFT_SIZE: usize = 450;
+pub const DRAFT_SIZE: usize = 450;
 
 // Where a slot's cell begins, and the text in it.
 const CELL_PLACE: usize = 4;
 
 const TEXT_PLACE: usize = 5;
-
-const CELL_SIZE: usize = 26;
-
-const SHEET_SIZE: usize = 390;
 
 const SLOTS: u8 = 15;
 

@@ -17,7 +17,8 @@ use Rattle.rules.specs.declared.facts.Basis.{Basis}
 use Rattle.rules.specs.declared.facts.Document.{Document}
 use Rattle.rules.specs.declared.facts.Day.{Day}
 use Rattle.rules.specs.declared.facts.Facts.{Facts}
-use Rattle.orders.specs.Search.{statusTexts, basisTexts, zeroTexts, statusAt, basisAt, documentAt, dayAt}
+use Rattle.orders.specs.Fillings.{statusTexts, basisTexts, zeroTexts}
+use Rattle.orders.specs.Search.{statusAt, basisAt, documentAt, dayAt}
 use Rattle.orders.specs.Rows.{statusRows, noRow}
 
 -- a table's row holds the list's text

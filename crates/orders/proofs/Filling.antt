@@ -9,9 +9,8 @@ use lib.ListN.{length, getD, List·getD-map}
 use Rattle.texts.specs.Quoted.{Text}
 use Rattle.texts.specs.Texts.{blank}
 use Rattle.texts.specs.Buffers.{putAt}
-use Rattle.rules.specs.Sheet.{textOf}
-use Rattle.orders.specs.Fillings.{cell, listOf, toFill}
-use Rattle.orders.specs.Search.{statusTexts, basisTexts, zeroTexts}
+use Rattle.rules.specs.Sheet.{cell, textOf}
+use Rattle.orders.specs.Fillings.{statusTexts, basisTexts, zeroTexts, listOf, toFill}
 use Rattle.orders.specs.Rows.{statusRows, basisRows, zeroRows, noRow}
 use Rattle.orders.specs.Filled.{rowCell, filledAt, filledWith, baseOf, pickedOf}
 use Rattle.orders.specs.Complete.{bits, setOf}

@@ -11,13 +11,13 @@ use Rattle.texts.specs.Quoted.{Text}
 use Rattle.texts.specs.Texts.{blank, every}
 use Rattle.texts.proofs.Every.{every-append}
 use Rattle.texts.proofs.Bools.{both}
-use Rattle.rules.specs.Sheet.{slots, slotOf, cellText, cellOf, textOf, _⟨_⟩}
+use Rattle.rules.specs.Sheet.{cell, slots, slotOf, cellText, cellOf, textOf, _⟨_⟩}
 use Rattle.rules.specs.Rules.{given, budget, rules, testOf, order, keeps, keepsAll, firstBroken}
 use Rattle.rules.specs.Facts.{generalOf, accountOf, headOf, sidesOf, restOf, standingOf, basisOf, documentOf, dayOf, factsOf, ordinary, holds, firstFailed, generalOrder, specialOrder, fixed}
 use Rattle.rules.specs.declared.facts.Facts.{Facts}
 use Rattle.rules.proofs.On.{budget-keeps, ordinary-on}
-use Rattle.orders.specs.Fillings.{listOf, cell, toFill, each, joined, fillings, Look, found, none, look, firstFilling}
-use Rattle.orders.specs.Search.{statusTexts, basisTexts, zeroTexts, statusAt, basisAt, documentAt, dayAt, withAll, withAt, passesAt, width, places, picks, firstPick}
+use Rattle.orders.specs.Fillings.{statusTexts, basisTexts, zeroTexts, listOf, toFill, each, joined, fillings, Look, found, none, look, firstFilling}
+use Rattle.orders.specs.Search.{statusAt, basisAt, documentAt, dayAt, withAll, withAt, passesAt, width, places, picks, firstPick}
 use Rattle.orders.specs.Filled.{filledWith, zeroEntries, baseOf, pickEntries, pickedOf}
 use Rattle.orders.specs.Complete.{basic}
 use Rattle.orders.proofs.Cells.{Cells, Sized, Fit, fillCells, length-joined, joined-cells, sized-cells, cell-joined, filled-joined, filled-sized, text-cell, length-cell, entry-short}

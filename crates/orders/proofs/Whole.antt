@@ -18,7 +18,8 @@ use Rattle.drafts.proofs.Perms.{held-by}
 use Rattle.drafts.proofs.Sheets.{length-sheet}
 use Rattle.orders.specs.Fillings.{Filling, Place, Look, found, none, fillings, firstFilling}
 use Rattle.orders.specs.Complete.{basic, budgetPayment, completeAnswer, lookAnswer, lookSheet, classAnswer, completing, completed}
-use Rattle.orders.specs.Whole.{numberOf, countOf, FirstFilling, Whole, Completes}
+use Rattle.texts.specs.Answers.{numberOf}
+use Rattle.orders.specs.Whole.{countOf, FirstFilling, Whole, Completes}
 use Rattle.orders.specs.declared.complete.Completed.{Completed}
 use Rattle.orders.proofs.Fills.{filling-of, of-filling, unchanged}
 use Rattle.orders.proofs.Looking.{First, look-found, look-none}

@@ -9,7 +9,7 @@ use lib.Dec.{eqb}
 use lib.ListN.{length}
 use Rattle.texts.specs.Texts.{every}
 use Rattle.texts.specs.Answers.{Answer, success, refusal}
-use Rattle.rules.specs.Sheet.{slots}
+use Rattle.rules.specs.Sheet.{slots, sheetSize}
 use Rattle.rules.specs.Rules.{budget, rules, fieldOf, keeps, firstBroken}
 use Rattle.drafts.specs.Draft.{draftFormed, sheetOf}
 use Rattle.orders.specs.Fillings.{toFill, Look, found, none, firstFilling}
@@ -57,13 +57,13 @@ classAnswer s g =
 unfoldable pub completing : List ℕ → List ℕ → Answer
 completing d b =
     cond (draftFormed d)
-    (cond (eqb (length b) 390) (classAnswer (sheetOf d) (firstBroken (sheetOf d) basic)) (refusal 7 []))
+    (cond (eqb (length b) sheetSize) (classAnswer (sheetOf d) (firstBroken (sheetOf d) basic)) (refusal 7 []))
     (refusal 1 [])
 
 unfoldable pub completed : List ℕ → List ℕ → List ℕ
 completed d b =
     cond (draftFormed d)
-    (cond (eqb (length b) 390)
+    (cond (eqb (length b) sheetSize)
     (cond (eqb (firstBroken (sheetOf d) basic) 0) (cond (budget (sheetOf d)) (lookSheet b (firstFilling (sheetOf d))) b) b)
     b)
     b

@@ -7,9 +7,8 @@ use lib.ListN.{getD, replicate}
 use Rattle.texts.specs.Quoted.{bytes}
 use Rattle.texts.specs.Texts.{blank}
 use Rattle.texts.specs.Buffers.{putAt}
-use Rattle.rules.specs.Sheet.{textOf}
-use Rattle.orders.specs.Fillings.{cell}
-use Rattle.orders.specs.Search.{statusTexts, basisTexts, zeroTexts}
+use Rattle.rules.specs.Sheet.{cell, textOf}
+use Rattle.orders.specs.Fillings.{statusTexts, basisTexts, zeroTexts}
 
 -- a table's row as a cell
 abbrev pub rowCell : List ℕ → List ℕ

@@ -8,23 +8,28 @@ use lib.Dec.{ltb}
 use lib.ListN.{length, getD, replicate}
 use Rattle.texts.specs.Quoted.{Text, words}
 use Rattle.texts.specs.Texts.{blank, same}
-use Rattle.rules.specs.Sheet.{slots, slotOf, cellOf, textOf}
+use Rattle.rules.specs.Sheet.{slots, slotOf, sheetSize, cell, cellOf, textOf}
 use Rattle.rules.specs.Forms.{statuses, letterPairs}
 use Rattle.rules.specs.Rules.{keepsAll}
 
--- "Lists: 22, 60, 102, 104, 105, 107: "0". 101: rule 10's order. 106: rule 15's order. 108 and 109: "0", "00"": by slot, no
--- entry for a field that has no list
+-- "101: rule 10's order. 106: rule 15's order. 108 and 109: "0", "00""
+abbrev pub statusTexts : List Text
+statusTexts = words statuses
+
+abbrev pub basisTexts : List Text
+basisTexts = words "0 00" ++ words letterPairs
+
+abbrev pub zeroTexts : List Text
+zeroTexts = words "0 00"
+
+-- "Lists: 22, 60, 102, 104, 105, 107: "0"", and these: by slot, no entry for a field that has no list
 abbrev pub lists : List (List Text)
 lists =
-    [] ∷ [] ∷ [] ∷ words "0" ∷ words "0" ∷ [] ∷ words statuses ∷ words "0" ∷ [] ∷ words "0" ∷ words "0" ∷ (words "0 00" ++ words letterPairs)
-    ∷ words "0" ∷ words "0 00" ∷ words "0 00" ∷ []
+    [] ∷ [] ∷ [] ∷ words "0" ∷ words "0" ∷ [] ∷ statusTexts ∷ words "0" ∷ [] ∷ words "0" ∷ words "0" ∷ basisTexts ∷ words "0" ∷ zeroTexts
+    ∷ zeroTexts ∷ []
 
 unfoldable pub listOf : ℕ → List Text
 listOf k = getD lists k []
-
--- a text as a cell holds it
-unfoldable pub cell : Text → List ℕ
-cell t = length t ∷ (t ++ replicate (25 - length t) 0)
 
 -- a blank field that has a list
 unfoldable pub toFill : List ℕ → ℕ → Bool
@@ -37,7 +42,7 @@ choices s k = cond (toFill s k) (map cell (listOf k)) (cellOf s k ∷ [])
 
 -- f is a filling of s
 pub record Filling (s f : List ℕ) : Type 0 where
-  pub sized : length f ≡ 390
+  pub sized : length f ≡ sheetSize
   pub slot : (k : ℕ) → k < 15 → List·Memᴰ (cellOf f k) (choices s k)
 
 -- how many entries of a list stand before x

@@ -4,25 +4,15 @@ use mathlib.Core.Bool.{Bool, true, false, cond}
 use mathlib.Core.List.{List, [], _∷_, _++_}
 use Prim.Native.Nat.{ℕ, zero, suc, _+_}
 use lib.ListN.{length, getD}
-use Rattle.texts.specs.Quoted.{Text, words}
+use Rattle.texts.specs.Quoted.{Text}
 use Rattle.texts.specs.Texts.{every}
-use Rattle.rules.specs.Forms.{statuses, letterPairs}
 use Rattle.rules.specs.Facts.{standingOf, basisOf, documentOf, dayOf, holds, specialOrder}
 use Rattle.rules.specs.declared.facts.Standing.{Standing}
 use Rattle.rules.specs.declared.facts.Basis.{Basis}
 use Rattle.rules.specs.declared.facts.Document.{Document}
 use Rattle.rules.specs.declared.facts.Day.{Day}
 use Rattle.rules.specs.declared.facts.Facts.{Facts}
-use Rattle.orders.specs.Fillings.{product, look, Look, found, none}
-
-abbrev pub statusTexts : List Text
-statusTexts = words statuses
-
-abbrev pub basisTexts : List Text
-basisTexts = words "0 00" ++ words letterPairs
-
-abbrev pub zeroTexts : List Text
-zeroTexts = words "0 00"
+use Rattle.orders.specs.Fillings.{statusTexts, basisTexts, zeroTexts, product, look, Look, found, none}
 
 -- the facts with entry k of a field's list, where the field is blank
 unfoldable pub statusAt : Facts → ℕ → Standing

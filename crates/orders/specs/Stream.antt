@@ -5,10 +5,11 @@ use mathlib.Core.List.{List, [], _∷_}
 use Prim.Native.Nat.{ℕ, zero, suc, _+_}
 use lib.Dec.{eqb}
 use lib.ListN.{length, take, drop}
+use Rattle.texts.specs.Answers.{numberOf}
 use Rattle.drafts.specs.Message.{lengthOf, readingOf}
 use Rattle.drafts.specs.History.{postedAll}
 use Rattle.orders.specs.Complete.{completing, completed, completeAnswer}
-use Rattle.orders.specs.Whole.{numberOf, Whole}
+use Rattle.orders.specs.Whole.{Whole}
 use Rattle.orders.specs.declared.complete.Completed.{Completed}
 
 -- the first message: "2 + L bytes or what is left if that is less"

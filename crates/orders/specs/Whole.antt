@@ -6,8 +6,8 @@ use mathlib.Core.List.{List, [], _∷_}
 use Prim.Native.Nat.{ℕ, _<_}
 use lib.ListN.{length, getD}
 use Rattle.texts.specs.Texts.{blank}
-use Rattle.texts.specs.Answers.{Answer, success, refusal}
-use Rattle.rules.specs.Sheet.{cellOf, textOf}
+use Rattle.texts.specs.Answers.{Answer, success, refusal, numberOf}
+use Rattle.rules.specs.Sheet.{sheetSize, cellOf, textOf}
 use Rattle.rules.specs.Rules.{keepsAll}
 use Rattle.drafts.specs.Draft.{sheetOf}
 use Rattle.drafts.specs.Promises.{Left, Held}
@@ -15,11 +15,7 @@ use Rattle.orders.specs.Fillings.{Filling, Earlier, Place}
 use Rattle.orders.specs.Complete.{budgetPayment, completing, completed, completeAnswer}
 use Rattle.orders.specs.declared.complete.Completed.{Completed}
 
--- the number of an answer, 0 for success; and its first value, the count
-abbrev pub numberOf : Answer → ℕ
-numberOf (success vs) = 0
-numberOf (refusal n vs) = n
-
+-- the first value of an answer, the count
 abbrev pub countOf : Answer → ℕ
 countOf (success vs) = getD vs 0 0
 countOf (refusal n vs) = getD vs 0 0
@@ -42,11 +38,11 @@ pub record Whole (ms : List (List ℕ)) (d b : List ℕ) (a : Answer) (t : List 
   -- "Whenever that draft is a budget payment, completing it into a sheet buffer of the right size is refused (10) exactly when no
   -- filling of its blanks keeps all the rules"
   pub refused :
-      length b ≡ 390
+      length b ≡ sheetSize
       → budgetPayment (sheetOf d) ≡ true
       → (numberOf a ≡ 10) ↔ ((f : List ℕ) → Filling (sheetOf d) f → keepsAll f ≡ false)
   -- "else the sheet returned is a filling that keeps them .."
-  pub filled : length b ≡ 390 → budgetPayment (sheetOf d) ≡ true → (numberOf a ≡ 10 → ⊥) → FirstFilling (sheetOf d) t (countOf a)
+  pub filled : length b ≡ sheetSize → budgetPayment (sheetOf d) ≡ true → (numberOf a ≡ 10 → ⊥) → FirstFilling (sheetOf d) t (countOf a)
 
 -- the promise of `complete`: completing d into a buffer that held b returned r and left t
 pub record Completes (d b : List ℕ) (r : Completed) (t : List ℕ) : Type 0 where

@@ -18,6 +18,7 @@ use rules::facts::facts_of;
 use rules::field_of;
 use rules::first_broken;
 use rules::sheet::Field;
+use rules::sheet::SHEET_SIZE;
 use rules::tests::is_ordinary;
 use rules::tests::keeps1;
 use rules::tests::keeps2;
@@ -31,8 +32,6 @@ pub enum Completed {
     Broken(Field, Rule),
     Refused(Refusal),
 }
-
-const SHEET_SIZE: usize = 390;
 
 // "In completion only 1 to 3".
 const BASIC: [u8; 3] = [1, 2, 3];
@@ -79,13 +78,14 @@ pub fn complete(draft: &[u8], sheet: &mut [u8]) -> Completed
     match search(f) {
         Found::Nothing(count) => Completed::Impossible(count),
         Found::Place(count, pick) => {
-            fill_picked(&mut work, pick);
-            put(sheet, 0, &work);
-            Completed::Filled {
+            let success = Completed::Filled {
                 count: count,
                 set: set,
                 ones: u16::count_ones(set),
-            }
+            };
+            fill_picked(&mut work, pick);
+            put(sheet, 0, &work);
+            success
         }
     }
 }

@@ -11,11 +11,10 @@ use crate::search::Pick;
 use crate::search::basis_row;
 use crate::search::status_row;
 use crate::search::zero_row;
+use rules::sheet::CELL_SIZE;
 use rules::sheet::text;
 use texts::buffers::put;
 use texts::texts::wide;
-
-const CELL_SIZE: usize = 26;
 
 fn row_cell(row: [u8; 3]) -> [u8; CELL_SIZE]
     ensures { λ r. ⌜ r ≡ rowCell row ⌝ }

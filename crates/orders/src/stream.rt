@@ -5,6 +5,7 @@ ghost use Rattle.drafts.specs.Promises.{Left};
 ghost use Rattle.orders.specs.Stream.{pieceOf, endsStream, messagesOf, Streams};
 use crate::complete::Completed;
 use crate::complete::complete;
+use drafts::draft::DRAFT_SIZE;
 use drafts::draft::fresh;
 use drafts::draft::post;
 use drafts::message::Reading;
@@ -12,8 +13,6 @@ use drafts::message::read;
 use texts::numbers::number_of_2;
 use texts::texts::at;
 use texts::texts::part;
-
-const DRAFT_SIZE: usize = 450;
 
 // The first message: "2 + L bytes or what is left if that is less".
 pub fn piece(rest: &[u8]) -> &[u8]

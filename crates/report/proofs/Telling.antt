@@ -13,14 +13,13 @@ use lib.Seq.{drop-cons, drop-drop}
 use Rattle.texts.specs.Quoted.{Text}
 use Rattle.texts.specs.Texts.{between}
 use Rattle.texts.specs.Buffers.{put}
-use Rattle.texts.specs.Answers.{Answer, success, refusal}
+use Rattle.texts.specs.Answers.{Answer, success, refusal, numberOf}
 use Rattle.texts.proofs.Puts.{put-none}
 use Rattle.rules.specs.Sheet.{slots}
 use Rattle.drafts.specs.Message.{lengthOf, readTests, readingOf}
 use Rattle.drafts.specs.Draft.{freshDraft, postingOf, postedTo, postAnswer}
 use Rattle.drafts.specs.Promises.{Posts}
 use Rattle.drafts.specs.declared.draft.Posted.{Posted}
-use Rattle.orders.specs.Whole.{numberOf}
 use Rattle.orders.specs.Stream.{pieceOf, endsStream, messagesOf}
 use Rattle.orders.proofs.Streaming.{messages-none, messages-next, rest-is, first-is, some}
 use Rattle.report.specs.Lines.{Wrote}

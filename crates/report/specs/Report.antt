@@ -9,7 +9,7 @@ use Rattle.texts.specs.Quoted.{Text, bytes}
 use Rattle.texts.specs.Texts.{blank}
 use Rattle.texts.specs.Buffers.{put}
 use Rattle.texts.specs.Answers.{Answer, success, refusal}
-use Rattle.rules.specs.Sheet.{slots, fieldIn, textOf}
+use Rattle.rules.specs.Sheet.{slots, fieldIn, sheetSize, textOf}
 use Rattle.drafts.specs.Draft.{freshDraft, postingOf, postedTo}
 use Rattle.orders.specs.Complete.{completing, completed}
 use Rattle.orders.specs.Stream.{messagesOf}
@@ -39,7 +39,7 @@ endLines (refusal n vs) s = line (bytes "end") (decimal n ∷ map decimal vs)
 
 -- the sheet buffer that it completes into
 abbrev pub noSheet : List ℕ
-noSheet = replicate 390 0
+noSheet = replicate sheetSize 0
 
 -- "Then it completes the draft and prints the end"
 unfoldable pub ending : List ℕ → Text

@@ -9,11 +9,10 @@ use crate::lines::put_item;
 use crate::lines::put_number;
 use orders::complete::Completed;
 use orders::complete::complete;
+use rules::sheet::SHEET_SIZE;
 use rules::sheet::field_in;
 use rules::sheet::text;
 use texts::texts::wide;
-
-const SHEET_SIZE: usize = 390;
 
 const SLOTS: u8 = 15;
 

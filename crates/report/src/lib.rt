@@ -7,6 +7,7 @@ mod messages;
 
 use crate::end::put_end;
 use crate::messages::put_messages;
+use drafts::draft::DRAFT_SIZE;
 use drafts::draft::fresh;
 
 // "Reads at most 32,768 bytes of standard input".
@@ -14,8 +15,6 @@ pub const INPUT_SIZE: usize = 32768;
 
 // No report of such an input is longer.
 pub const REPORT_SIZE: usize = 46080;
-
-const DRAFT_SIZE: usize = 450;
 
 // Writes the report of an input at the buffer's start and answers how long it is; 0, and nothing is written, where the input is
 // longer than INPUT_SIZE or the buffer shorter than REPORT_SIZE.

@@ -1,13 +1,13 @@
 -- Document 01's starred examples as one table, shown true of the definitions by one computation. Assumes nothing.
 use mathlib.Core.Path.{_≡_, refl}
 use mathlib.Core.List.{List, [], _∷_, _++_, map}
-use Prim.Native.Nat.{ℕ, _-_}
+use Prim.Native.Nat.{ℕ}
 use Prim.Native.String.{String}
-use lib.ListN.{length, set, replicate}
+use lib.ListN.{set, replicate}
 use Rattle.texts.specs.Quoted.{Text, bytes}
 use Rattle.texts.specs.Texts.{every, any, same, between, are, among, valueOf, value, number, _isOneOf_, _beginsOneOf_}
 use Rattle.texts.specs.Answers.{Answer, success, refusal}
-use Rattle.rules.specs.Sheet.{slotOf, cellText, cellOk, cellOf, textOf, slotOk, _⟨_⟩}
+use Rattle.rules.specs.Sheet.{slotOf, cell, cellText, cellOk, cellOf, textOf, slotOk, _⟨_⟩}
 use Rattle.rules.specs.Forms.{person, document, leap, monthDays, gregorian, date}
 use Rattle.rules.specs.Rules.{classOf, given, firstBlank, rules, testOf, fieldOf, keeps, firstBroken}
 use Rattle.rules.specs.Verdicts.{judged, checked}
@@ -27,7 +27,7 @@ changed ts (c ∷ cs) = changed (set ts (slotOf (c .0)) (c .1)) cs
 
 sheetOf : List Text → List ℕ
 sheetOf [] = []
-sheetOf (t ∷ ts) = length t ∷ (t ++ replicate (25 - length t) 0) ++ sheetOf ts
+sheetOf (t ∷ ts) = cell t ++ sheetOf ts
 
 s : List Text
 s =
@@ -71,5 +71,5 @@ table =
     ∷ []
 
 examples : map (λ (e : List Change × Answer). checked (sheetOf (changed s (e .0)))) table ≡ map (λ (e : List Change × Answer). e .1) table
-unfolding _≔_ changed sheetOf s accepted broken table every any same between are among valueOf value number _isOneOf_ _beginsOneOf_ slotOf cellText cellOk cellOf textOf slotOk _⟨_⟩ person document leap monthDays gregorian date classOf given firstBlank rules testOf fieldOf keeps firstBroken judged checked
+unfolding _≔_ changed sheetOf s accepted broken table every any same between are among valueOf value number _isOneOf_ _beginsOneOf_ slotOf cell cellText cellOk cellOf textOf slotOk _⟨_⟩ person document leap monthDays gregorian date classOf given firstBlank rules testOf fieldOf keeps firstBroken judged checked
 examples = refl

@@ -7,7 +7,7 @@ use lib.Dec.{eqb}
 use lib.ListN.{length}
 use Rattle.texts.specs.Quoted.{Text}
 use Rattle.texts.specs.Texts.{every, any, among, between, blank, _is_, _isOneOf_, _begins_, _beginsOneOf_, digits, digitsNotZero, digitsNot00, number}
-use Rattle.rules.specs.Sheet.{textOf}
+use Rattle.rules.specs.Sheet.{sheetSize, textOf}
 use Rattle.rules.specs.Forms.{_⇒_, uin, foreignCode, inn10, inn12, kpp, statuses, customsGroup, letterPair, person, document, date}
 use Rattle.rules.specs.Rules.{Sheet, given}
 use Rattle.rules.specs.declared.Class.{Class}
@@ -211,7 +211,7 @@ noFacts =
     }
 
 unfoldable pub factsIn : Sheet → Facts
-factsIn s = cond (eqb (length s) 390) (factsOf s) noFacts
+factsIn s = cond (eqb (length s) sheetSize) (factsOf s) noFacts
 
 -- ---- the rules' tests on facts
 

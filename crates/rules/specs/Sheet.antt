@@ -1,9 +1,9 @@
 -- Fields and sheets (document 01, "Fields and messages", "Draft and sheet"). Assumes nothing.
 use mathlib.Core.Bool.{Bool, cond, _&&_}
-use mathlib.Core.List.{List, [], _∷_}
-use Prim.Native.Nat.{ℕ, suc, _+_, _*_}
+use mathlib.Core.List.{List, [], _∷_, _++_}
+use Prim.Native.Nat.{ℕ, suc, _+_, _-_, _*_}
 use lib.Dec.{leb, eqb}
-use lib.ListN.{length, getD}
+use lib.ListN.{length, getD, replicate}
 use Rattle.texts.specs.Quoted.{Text}
 use Rattle.texts.specs.Texts.{between, every, are}
 
@@ -28,6 +28,9 @@ abbrev pub fieldIn : ℕ → ℕ
 fieldIn k = getD fields k 0
 
 -- a cell, as a sheet's slot is one and a draft's ends in one: "text length, text padded to 25"
+unfoldable pub cell : Text → List ℕ
+cell t = length t ∷ (t ++ replicate (25 - length t) 0)
+
 unfoldable pub cellText : List ℕ → Text
 cellText c = between c 1 (1 + getD c 0 0)
 
@@ -36,8 +39,14 @@ unfoldable pub cellOk : List ℕ → Bool
 cellOk c = leb (getD c 0 0) 25 && every (are 0) (between c (1 + getD c 0 0) 26)
 
 -- "A sheet has 390 bytes, slot i at 26 × i"
+abbrev pub cellSize : ℕ
+cellSize = 26
+
+abbrev pub sheetSize : ℕ
+sheetSize = 390
+
 unfoldable pub cellOf : List ℕ → ℕ → List ℕ
-cellOf s k = between s (k * 26) (k * 26 + 26)
+cellOf s k = between s (k * cellSize) (k * cellSize + cellSize)
 
 -- the text in slot k
 unfoldable pub textOf : List ℕ → ℕ → Text
@@ -47,7 +56,7 @@ unfoldable pub slotOk : List ℕ → ℕ → Bool
 slotOk s k = cellOk (cellOf s k)
 
 abbrev pub wellFormed : List ℕ → Bool
-wellFormed s = eqb (length s) 390 && every (slotOk s) slots
+wellFormed s = eqb (length s) sheetSize && every (slotOk s) slots
 
 -- the text of field f
 unfoldable pub _⟨_⟩ : List ℕ → ℕ → Text

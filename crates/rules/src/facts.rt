@@ -12,6 +12,7 @@ use crate::forms::is_letter_pair;
 use crate::forms::is_person;
 use crate::forms::is_uin;
 use crate::forms::wanted_by;
+use crate::sheet::SHEET_SIZE;
 use crate::sheet::text;
 use texts::texts::equals;
 use texts::texts::has_digits;
@@ -515,7 +516,7 @@ fn no_facts() -> Facts
 pub fn facts_of(sheet: &[u8]) -> Facts
     ensures { λ r. ⌜ r ≡ factsIn (now (sheet .entry)) ⌝ }
 {
-    if sheet.len() != 390 {
+    if sheet.len() != SHEET_SIZE {
         return no_facts();
     }
     let head = head_of(sheet);

@@ -8,6 +8,11 @@ use texts::texts::at;
 use texts::texts::part;
 use texts::texts::wide;
 
+// "A sheet has 390 bytes, slot i at 26 × i".
+pub const CELL_SIZE: usize = 26;
+
+pub const SHEET_SIZE: usize = 390;
+
 // The number of a field of the order.
 pub struct Field(pub u8);
 
@@ -66,8 +71,8 @@ pub fn field_in(slot: u8) -> Field
 pub fn cell(sheet: &[u8], slot: u8) -> &[u8]
     ensures { λ r. ⌜ now r ≡ cellOf (now (sheet .entry)) slot ⌝ }
 {
-    let a = wide(slot) * 26;
-    part(sheet, a, a + 26)
+    let a = wide(slot) * CELL_SIZE;
+    part(sheet, a, a + CELL_SIZE)
 }
 
 pub fn cell_text(c: &[u8]) -> &[u8]
@@ -147,7 +152,7 @@ fn slots_ok(sheet: &[u8], slots: &[u8]) -> bool
 pub fn well_formed(sheet: &[u8]) -> bool
     ensures { λ r. ⌜ r ≡ wellFormed (now (sheet .entry)) ⌝ }
 {
-    if sheet.len() != 390 {
+    if sheet.len() != SHEET_SIZE {
         return false;
     }
     slots_ok(sheet, &SLOTS)

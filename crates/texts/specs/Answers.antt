@@ -6,3 +6,8 @@ use Prim.Native.Nat.{ℕ}
 pub data Answer : Type 0 where
   success : List ℕ → Answer
   refusal : ℕ → List ℕ → Answer
+
+-- the number of an answer, 0 for success
+abbrev pub numberOf : Answer → ℕ
+numberOf (success vs) = 0
+numberOf (refusal n vs) = n
