@@ -1,7 +1,12 @@
-// Runs the cases of its input and writes a line for each: document 01's examples and boundary cases, with what a second
+// Runs the cases of its input and writes what each answers: document 01's examples and boundary cases, with what a second
 // implementation answers as the expected output. A case: its kind in one byte, a length in two, big-endian, and so many bytes.
+use drafts::message::Reading;
+use drafts::message::message_text;
+use drafts::message::read;
 use libc::STDIN_FILENO;
 use libc::STDOUT_FILENO;
+use report::REPORT_SIZE;
+use report::report;
 use rules::Class;
 use rules::Verdict;
 use texts::numbers::number_of_2;
@@ -36,9 +41,46 @@ fn run_check(sheet: &[u8]) {
     }
 }
 
+// A text as it is, `-` for a blank.
+fn write_text(text: &[u8]) {
+    if text.len() == 0 {
+        io::write_all(STDOUT_FILENO, b"-");
+    }
+    io::write_all(STDOUT_FILENO, text);
+}
+
+// Kind 'm': a message is read.
+fn run_message(message: &[u8]) {
+    match read(message) {
+        Reading::Message(field, revision) => {
+            io::write_all(STDOUT_FILENO, b"ok ");
+            write_number(field.0);
+            io::write_all(STDOUT_FILENO, b" ");
+            io::print_decimal(STDOUT_FILENO, revision.number as u64);
+            io::write_all(STDOUT_FILENO, b" ");
+            write_text(message_text(message));
+        }
+        Reading::Refused(refusal) => write_number(refusal.0),
+    }
+}
+
+// Kind 'r': the report of an input of the program budgetorder, with all its lines.
+fn run_report(input: &[u8]) {
+    let mut out = [0u8; REPORT_SIZE];
+    let k = report(input, &mut out);
+    io::write_all(STDOUT_FILENO, part(&out, 0, k));
+}
+
 fn run_case(kind: u8, bytes: &[u8]) {
+    if kind == b'r' {
+        run_report(bytes);
+        return;
+    }
     if kind == b'c' {
         run_check(bytes);
+    }
+    if kind == b'm' {
+        run_message(bytes);
     }
     io::write_all(STDOUT_FILENO, b"\n");
 }

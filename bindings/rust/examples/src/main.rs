@@ -2,8 +2,8 @@
 //!
 //! `write DIR` writes DIR/stdin and DIR/stdout, `check DIR` compares them with
 //! what they should be. Each case of the input is one kind byte, a two-byte
-//! big-endian length and that many bytes; it has one line of output, which comes
-//! from the second implementation.
+//! big-endian length and that many bytes; its output, one line or the lines of a
+//! report, comes from the second implementation.
 
 use std::env;
 use std::fs;
@@ -11,8 +11,11 @@ use std::path::Path;
 use std::process::ExitCode;
 
 mod example;
+mod messages;
+mod reports;
+mod sheets;
 
-use example::{all, Example};
+use example::Example;
 
 fn main() -> ExitCode {
     let arguments: Vec<String> = env::args().skip(1).collect();
@@ -31,13 +34,17 @@ fn main() -> ExitCode {
     }
 }
 
+/// All examples, in the order in which they are stored.
+fn all() -> Vec<Example> {
+    [sheets::all(), messages::all(), reports::all()].concat()
+}
+
 fn input(examples: &[Example]) -> Vec<u8> {
     examples.iter().flat_map(Example::input).collect()
 }
 
 fn output(examples: &[Example]) -> Vec<u8> {
-    let lines = examples.iter().map(|example| example.line() + "\n");
-    lines.collect::<String>().into_bytes()
+    examples.iter().flat_map(Example::output).collect()
 }
 
 fn write(directory: &Path) -> Result<(), String> {
@@ -60,12 +67,11 @@ fn check(directory: &Path) -> Result<(), String> {
     let expected = output(&examples);
     match difference(&stored(&stdout)?, &expected) {
         None => Ok(()),
-        Some(number) => {
-            let about = examples
-                .get(number - 1)
-                .map_or("no case", |example| &example.name);
-            Err(format!("{}:{number}: differs ({about})", stdout.display()))
-        }
+        Some(number) => Err(format!(
+            "{}:{number}: differs ({})",
+            stdout.display(),
+            place(&examples, number)
+        )),
     }
 }
 
@@ -83,8 +89,28 @@ fn difference(stored: &[u8], expected: &[u8]) -> Option<usize> {
     })?
 }
 
+/// The case that a line of the output belongs to, and which of its lines it is.
+fn place(examples: &[Example], number: usize) -> String {
+    let mut before = 0;
+    for example in examples {
+        let lines = lines(&example.output());
+        if number <= before + lines {
+            let line = number - before;
+            return format!("line {line} of {lines}, {}", example.name);
+        }
+        before += lines;
+    }
+    "no case".into()
+}
+
+fn lines(output: &[u8]) -> usize {
+    output.iter().filter(|&&byte| byte == b'\n').count()
+}
+
 #[cfg(test)]
 mod tests {
+    use std::collections::HashSet;
+
     use super::*;
 
     #[test]
@@ -97,12 +123,48 @@ mod tests {
     }
 
     #[test]
-    fn every_example_has_one_line() {
+    fn a_line_has_its_case() {
+        let find = |name| {
+            let mut examples = all().into_iter();
+            examples.find(|example| example.name == name).expect(name)
+        };
+        let examples = [
+            "S",
+            "message: L 6",
+            "report: worked example",
+            "message: L 5",
+        ]
+        .map(find);
+        let expected = [
+            (1, "line 1 of 1, S"),
+            (2, "line 1 of 1, message: L 6"),
+            (3, "line 1 of 2, report: worked example"),
+            (4, "line 2 of 2, report: worked example"),
+            (5, "line 1 of 1, message: L 5"),
+            (6, "no case"),
+        ];
+        for (number, place_of_line) in expected {
+            assert_eq!(place(&examples, number), place_of_line);
+        }
+    }
+
+    #[test]
+    fn every_example_has_a_name_of_its_own() {
         let examples = all();
-        let lines = output(&examples)
-            .iter()
-            .filter(|&&byte| byte == b'\n')
-            .count();
-        assert_eq!(lines, examples.len());
+        let names: HashSet<&str> = examples.iter().map(|e| e.name.as_str()).collect();
+        assert_eq!(names.len(), examples.len());
+    }
+
+    #[test]
+    fn every_example_ends_its_last_line() {
+        for example in all() {
+            assert_eq!(example.output().last(), Some(&b'\n'), "{}", example.name);
+        }
+    }
+
+    /// The example program has room for so much input.
+    #[test]
+    fn the_input_fits() {
+        assert!(input(&all()).len() < 262_144);
     }
 }
