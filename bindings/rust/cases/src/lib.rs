@@ -8,6 +8,7 @@ mod damage;
 mod forms;
 mod orders;
 mod random;
+mod streams;
 mod table;
 mod texts;
 
@@ -16,5 +17,6 @@ pub use forms::{list, BASES, CLASS_A, CLASS_B, STATUSES};
 pub use orders::{accepted, blanked, budget, class_a, class_b, disturb, with_forms};
 pub use orders::{Account, Basis, Code, Date, Document, Forms, Payer};
 pub use random::Random;
+pub use streams::messages;
 pub use table::{sheets, Case};
 pub use texts::{message, slot_of, Draft, Sheet, Text, Texts, FIELDS, FILLABLE};

@@ -1,6 +1,6 @@
 //! Lists of messages, and the draft that posting them ends in.
 
-use cases::{damaged_message, message, Draft, Random, FIELDS};
+use cases::{message, messages, Draft, Random, FIELDS};
 
 use crate::comparison::{hex, same, Comparison, Difference, Lent};
 use crate::library::Library;
@@ -59,38 +59,6 @@ fn same_end(draft: &Lent, expected: &[u8], list: &[Vec<u8>]) -> Outcome<()> {
         format!("the list {}", messages.join(", "))
     };
     same("post", draft.bytes(), expected, input)
-}
-
-/// An order's messages with corrections, shuffled; or few fields with many.
-fn messages(random: &mut Random) -> Vec<Vec<u8>> {
-    let texts = if random.percent(50) {
-        cases::blanked(cases::budget(random), random.below(1024))
-    } else {
-        cases::accepted(random)
-    };
-    let mut list: Vec<Vec<u8>> = FIELDS
-        .into_iter()
-        .filter(|_| random.percent(95))
-        .map(|field| message(field, 2, &texts.get(field)))
-        .collect();
-    for _ in 0..random.below(12) {
-        list.push(another(random, &list));
-    }
-    random.shuffle(&mut list);
-    list
-}
-
-/// A message that meets one of the list, or none, or is unreadable.
-fn another(random: &mut Random, list: &[Vec<u8>]) -> Vec<u8> {
-    let field = random.pick(&FIELDS);
-    let revision = random.pick(&[1, 1, 2, 3, 0x0100_0000, u32::MAX]);
-    let text = random.pick(&[&b""[..], b"0", b"00", b"4567"]);
-    let known = (!list.is_empty()).then(|| list[random.below(list.len())].clone());
-    match (random.below(5), known) {
-        (0, Some(known)) => known,
-        (1, Some(known)) => damaged_message(random, known),
-        _ => message(field, revision, text),
-    }
 }
 
 /// Posts every arrangement of a small list without clashes; all must end in one

@@ -1,0 +1,39 @@
+//! Lists of messages.
+
+use crate::damage::damaged_message;
+use crate::orders::{accepted, blanked, budget};
+use crate::random::Random;
+use crate::texts::{message, FIELDS};
+
+/// An order's messages with others among them, in any order: corrections, repeated
+/// and clashing ones, unreadable ones.
+pub fn messages(random: &mut Random) -> Vec<Vec<u8>> {
+    let texts = if random.percent(50) {
+        blanked(budget(random), random.below(1024))
+    } else {
+        accepted(random)
+    };
+    let mut list: Vec<Vec<u8>> = FIELDS
+        .into_iter()
+        .filter(|_| random.percent(95))
+        .map(|field| message(field, 2, &texts.get(field)))
+        .collect();
+    for _ in 0..random.below(12) {
+        list.push(another(random, &list));
+    }
+    random.shuffle(&mut list);
+    list
+}
+
+/// A message that meets one of the list, or none, or is unreadable.
+fn another(random: &mut Random, list: &[Vec<u8>]) -> Vec<u8> {
+    let field = random.pick(&FIELDS);
+    let revision = random.pick(&[1, 1, 2, 3, 0x0100_0000, u32::MAX]);
+    let text = random.pick(&[&b""[..], b"0", b"00", b"4567"]);
+    let known = (!list.is_empty()).then(|| list[random.below(list.len())].clone());
+    match (random.below(5), known) {
+        (0, Some(known)) => known,
+        (1, Some(known)) => damaged_message(random, known),
+        _ => message(field, revision, text),
+    }
+}
