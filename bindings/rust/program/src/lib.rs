@@ -1,0 +1,105 @@
+//! Runs the program `budgetorder` as it was built.
+
+#![forbid(unsafe_code)]
+#![warn(missing_docs)]
+
+use std::env;
+use std::io::{self, ErrorKind, Write};
+use std::path::{Path, PathBuf};
+use std::process::{Child, ChildStdin, Command, Stdio};
+use std::thread;
+use std::time::Duration;
+
+const BUILT: &str = concat!(
+    env!("CARGO_MANIFEST_DIR"),
+    "/../../../target/bin/budgetorder"
+);
+
+/// Where the program is: `KIESELBROT_PROGRAM`, or where the repository builds it.
+///
+/// # Panics
+///
+/// If it isn't there.
+#[must_use]
+pub fn path() -> PathBuf {
+    let path = env::var_os("KIESELBROT_PROGRAM").map_or(BUILT.into(), PathBuf::from);
+    assert!(
+        path.is_file(),
+        "the program is missing: {}. `rt check budgetorder` builds it; KIESELBROT_PROGRAM gives another place",
+        path.display()
+    );
+    path
+}
+
+/// What the program writes to standard output for this input.
+///
+/// # Panics
+///
+/// As [`run_with`].
+#[must_use]
+pub fn run(input: &[u8]) -> Vec<u8> {
+    run_with(Command::new(path()), |stdin| write(stdin, input))
+}
+
+/// Long enough for the program to start, and to wait for its input.
+const START: Duration = Duration::from_millis(50);
+
+/// What the program writes if its input comes in pieces of these sizes, the rest
+/// in one, with a pause after each. The first comes when the program waits for it.
+///
+/// # Panics
+///
+/// As [`run_with`].
+#[must_use]
+pub fn run_in_pieces(
+    input: &[u8],
+    sizes: impl IntoIterator<Item = usize> + Send,
+    pause: Duration,
+) -> Vec<u8> {
+    run_with(Command::new(path()), |stdin| {
+        thread::sleep(START);
+        let mut rest = input;
+        for size in sizes {
+            let (piece, behind) = rest.split_at(size.min(rest.len()));
+            write(stdin, piece);
+            thread::sleep(pause);
+            rest = behind;
+        }
+        write(stdin, rest);
+    })
+}
+
+/// What a command that runs the program writes to standard output, with its
+/// standard input given by `give`, which ends it by returning.
+///
+/// # Panics
+///
+/// If the command can't be run, fails, or writes to standard error.
+pub fn run_with(mut command: Command, give: impl FnOnce(&mut ChildStdin) + Send) -> Vec<u8> {
+    let mut child: Child = command
+        .stdin(Stdio::piped())
+        .stdout(Stdio::piped())
+        .stderr(Stdio::piped())
+        .spawn()
+        .unwrap_or_else(|error| panic!("{}: {error}", Path::new(command.get_program()).display()));
+    let mut stdin = child.stdin.take().expect("standard input is a pipe");
+    let output = thread::scope(|scope| {
+        scope.spawn(move || give(&mut stdin));
+        child.wait_with_output().expect("the program's output")
+    });
+    assert!(output.status.success(), "{}", output.status);
+    assert_eq!(output.stderr.escape_ascii().to_string(), "");
+    output.stdout
+}
+
+/// Writes as much as the program reads: it may end before the input does.
+///
+/// # Panics
+///
+/// On any other error of the pipe.
+pub fn write(stdin: &mut ChildStdin, bytes: &[u8]) {
+    let written: io::Result<()> = stdin.write_all(bytes);
+    if let Err(error) = written {
+        assert_eq!(error.kind(), ErrorKind::BrokenPipe, "{error}");
+    }
+}
