@@ -16,7 +16,7 @@ use Rattle.texts.proofs.Arms.{Rest, rest-first}
 use Rattle.texts.proofs.Every.{every-append, every-same}
 use Rattle.rules.specs.Sheet.{slots, slotOk, wellFormed, fieldIn, slotOf}
 use Rattle.rules.specs.Rules.{Sheet, Rule, classA, classB, budget, given, needed, firstBlank, general, special, forBudget, rules, order, fieldOf, keeps, firstBroken, classOf}
-use Rattle.rules.specs.Facts.{factsOf, factsIn, ordinary, classOn, generalOn, specialOn, look, holds, firstFailed, generalOrder, specialOrder, fixedRules, statusRules, basisRules, documentRules, dayRules, grouped}
+use Rattle.rules.specs.Facts.{factsOf, factsIn, ordinary, classOn, generalOn, specialOn, look, holds, firstFailed, generalOrder, firstTen, secondTen, lastTen, specialOrder, fixedRules, statusRules, basisRules, documentRules, dayRules, grouped}
 use Rattle.rules.specs.Verdicts.{className, verdictAnswer, judged, checked, Checked}
 use Rattle.rules.specs.declared.Class.{Class}
 use Rattle.rules.specs.declared.Class.the-variants.{A, B, O}
@@ -80,7 +80,7 @@ module _ (s : Sheet) (ks : List ℕ) (i : ℕ) where
   unfolding firstBlank
   blank-none e h = rw e (rw drop-of-length-le)
 
--- ---- kept_special, broken_general, broken_special
+-- ---- the groups of rules, broken_general, broken_special
 
 same-rules : (p : ℕ → Bool) → every p grouped ≡ every p specialOrder
 unfolding every any are among
@@ -101,6 +101,50 @@ none-failed f [] b e t = refl
 none-failed f (k ∷ ks) b e t =
     let q = both (holds f k) (every (holds f) ks) (sym e ∙ t) in
     cc (none-failed f ks (every (holds f) ks) refl (q .1), q .0)
+
+-- of two lists: the first has a broken one, or all of it is kept
+kept-case : (b h : Bool) (m n k : ℕ) → (h && b) ≡ true → (b ≡ true → m ≡ n) → cond h m k ≡ n
+kept-case true true m n k e f = f refl
+kept-case false true m n k e f = absurd (false≢true e)
+kept-case b false m n k e f = absurd (false≢true e)
+
+broken-case : (b h : Bool) (m n k : ℕ) → (h && b) ≡ false → (b ≡ false → m ≡ n) → cond h m k ≡ cond h n k
+broken-case true true m n k e f = absurd (false≢true (sym e))
+broken-case false true m n k e f = f refl
+broken-case b false m n k e f = refl
+
+module _ (f : Facts) (ls : List ℕ) where
+  pub kept-here : (ks : List ℕ) → every (holds f) ks ≡ true → firstFailed f (ks ++ ls) ≡ firstFailed f ls
+  unfolding every firstFailed
+  kept-here [] e = refl
+  kept-here (k ∷ ks) e = kept-case (every (holds f) ks) (holds f k) (firstFailed f (ks ++ ls)) (firstFailed f ls) k e (kept-here ks)
+
+  pub broken-here : (ks : List ℕ) → every (holds f) ks ≡ false → firstFailed f (ks ++ ls) ≡ firstFailed f ks
+  unfolding every firstFailed
+  broken-here [] e = absurd (false≢true (sym e))
+  broken-here (k ∷ ks) e = broken-case (every (holds f) ks) (holds f k) (firstFailed f (ks ++ ls)) (firstFailed f ks) k e (broken-here ks)
+
+-- the list with the first broken one
+module _ (f : Facts) (a : Bool) (ea : a ≡ every (holds f) firstTen) where
+  pub in-first : (r : ℕ) → not a ≡ true → r ≡ firstFailed f firstTen → r ≡ firstFailed f specialOrder
+  in-first r n e = e ∙ sym (broken-here f (secondTen ++ lastTen) firstTen (sym ea ∙ not-true a n))
+
+  module _ (na : not a ≡ false) (b : Bool) (eb : b ≡ every (holds f) secondTen) where
+    past-first : firstFailed f specialOrder ≡ firstFailed f (secondTen ++ lastTen)
+    past-first = kept-here f (secondTen ++ lastTen) firstTen (sym ea ∙ not-false a na)
+
+    pub in-second : (r : ℕ) → not b ≡ true → r ≡ firstFailed f secondTen → r ≡ firstFailed f specialOrder
+    in-second r n e = e ∙ sym (past-first ∙ broken-here f lastTen secondTen (sym eb ∙ not-true b n))
+
+    module _ (nb : not b ≡ false) (d : Bool) (ed : d ≡ every (holds f) lastTen) where
+      past-second : firstFailed f specialOrder ≡ firstFailed f lastTen
+      past-second = past-first ∙ kept-here f lastTen secondTen (sym eb ∙ not-false b nb)
+
+      pub in-last : (r : ℕ) → r ≡ firstFailed f lastTen → r ≡ firstFailed f specialOrder
+      in-last r e = e ∙ sym past-second
+
+      pub in-none : not d ≡ false → 0 ≡ firstFailed f specialOrder
+      in-none n = none-failed f lastTen d ed (not-false d n) ∙ sym past-second
 
 -- ---- class_of
 

@@ -353,10 +353,17 @@ firstFailed f (n ∷ ns) = cond (holds f n) (firstFailed f ns) n
 abbrev pub generalOrder : List ℕ
 generalOrder = 1 ∷ 2 ∷ 3 ∷ 4 ∷ []
 
+abbrev pub firstTen : List ℕ
+firstTen = 5 ∷ 6 ∷ 7 ∷ 8 ∷ 9 ∷ 10 ∷ 11 ∷ 12 ∷ 13 ∷ 14 ∷ []
+
+abbrev pub secondTen : List ℕ
+secondTen = 15 ∷ 16 ∷ 17 ∷ 18 ∷ 19 ∷ 20 ∷ 21 ∷ 22 ∷ 23 ∷ 24 ∷ []
+
+abbrev pub lastTen : List ℕ
+lastTen = 25 ∷ 26 ∷ 27 ∷ 28 ∷ 29 ∷ 30 ∷ 31 ∷ 32 ∷ 33 ∷ 34 ∷ []
+
 abbrev pub specialOrder : List ℕ
-specialOrder =
-    5 ∷ 6 ∷ 7 ∷ 8 ∷ 9 ∷ 10 ∷ 11 ∷ 12 ∷ 13 ∷ 14 ∷ 15 ∷ 16 ∷ 17 ∷ 18 ∷ 19 ∷ 20 ∷ 21 ∷ 22 ∷ 23 ∷ 24 ∷ 25 ∷ 26 ∷ 27 ∷ 28 ∷ 29 ∷ 30
-    ∷ 31 ∷ 32 ∷ 33 ∷ 34 ∷ []
+specialOrder = firstTen ++ (secondTen ++ lastTen)
 
 -- the second part by what a rule asks: nothing of 101, 106, 108, 109; of 101 at last; of 106; of 108; of 109
 abbrev pub fixedRules : List ℕ

@@ -2,7 +2,7 @@
 ghost use mathlib.Core.Path.{_≡_};
 ghost use Rattle.texts.specs.Texts.{every};
 ghost use Rattle.rules.specs.Rules.{given, firstBlank, needed, rules, fieldOf};
-ghost use Rattle.rules.specs.Facts.{classOn, holds, firstFailed, generalOrder, specialOrder, fixedRules, statusRules, basisRules, documentRules, dayRules};
+ghost use Rattle.rules.specs.Facts.{classOn, holds, firstFailed, generalOrder, firstTen, secondTen, lastTen, specialOrder, fixedRules, statusRules, basisRules, documentRules, dayRules};
 ghost use Rattle.rules.specs.Verdicts.{Checked};
 
 pub mod facts;
@@ -31,41 +31,14 @@ pub enum Verdict {
     Accepted(Class),
 }
 
-// "Tested in number order": the rules for every sheet, then those for classes A and B.
+// "Tested in number order": the rules for every sheet, then those for classes A and B, ten at a time.
 const GENERAL: [u8; 4] = [1, 2, 3, 4];
 
-const SPECIAL: [u8; 30] = [
-    5,
-    6,
-    7,
-    8,
-    9,
-    10,
-    11,
-    12,
-    13,
-    14,
-    15,
-    16,
-    17,
-    18,
-    19,
-    20,
-    21,
-    22,
-    23,
-    24,
-    25,
-    26,
-    27,
-    28,
-    29,
-    30,
-    31,
-    32,
-    33,
-    34,
-];
+const FIRST_TEN: [u8; 10] = [5, 6, 7, 8, 9, 10, 11, 12, 13, 14];
+
+const SECOND_TEN: [u8; 10] = [15, 16, 17, 18, 19, 20, 21, 22, 23, 24];
+
+const LAST_TEN: [u8; 10] = [25, 26, 27, 28, 29, 30, 31, 32, 33, 34];
 
 // "The field in brackets", by the rule's number; rule 6 names the first blank one.
 const RULE_FIELDS: [u8; 35] = [
@@ -221,13 +194,49 @@ pub fn kept_day(f: Facts) -> bool
     tests::keeps6(f) & (tests::keeps18(f) & (tests::keeps31(f) & (tests::keeps34(f) & true)))
 }
 
-pub fn kept_special(f: Facts) -> bool
-    ensures { λ r. ⌜ r ≡ every (holds f) specialOrder ⌝ }
+fn kept_first_ten(f: Facts) -> bool
+    ensures { λ r. ⌜ r ≡ every (holds f) firstTen ⌝ }
 {
-    kept_fixed(f) & (kept_status(f) & (kept_basis(f) & (kept_document(f) & kept_day(f))))
+    tests::keeps5(f)
+        & (tests::keeps6(f)
+            & (tests::keeps7(f)
+                & (tests::keeps8(f)
+                    & (tests::keeps9(f)
+                        & (tests::keeps10(f)
+                            & (tests::keeps11(f)
+                                & (tests::keeps12(f)
+                                    & (tests::keeps13(f) & (tests::keeps14(f) & true)))))))))
 }
 
-// Where all are kept, as they mostly are, no rule is looked for.
+fn kept_second_ten(f: Facts) -> bool
+    ensures { λ r. ⌜ r ≡ every (holds f) secondTen ⌝ }
+{
+    tests::keeps15(f)
+        & (tests::keeps16(f)
+            & (tests::keeps17(f)
+                & (tests::keeps18(f)
+                    & (tests::keeps19(f)
+                        & (tests::keeps20(f)
+                            & (tests::keeps21(f)
+                                & (tests::keeps22(f)
+                                    & (tests::keeps23(f) & (tests::keeps24(f) & true)))))))))
+}
+
+fn kept_last_ten(f: Facts) -> bool
+    ensures { λ r. ⌜ r ≡ every (holds f) lastTen ⌝ }
+{
+    tests::keeps25(f)
+        & (tests::keeps26(f)
+            & (tests::keeps27(f)
+                & (tests::keeps28(f)
+                    & (tests::keeps29(f)
+                        & (tests::keeps30(f)
+                            & (tests::keeps31(f)
+                                & (tests::keeps32(f)
+                                    & (tests::keeps33(f) & (tests::keeps34(f) & true)))))))))
+}
+
+// Where all are kept, as they mostly are, no rule is looked for; else in the first list that has a broken one.
 fn broken_general(f: Facts) -> u8
     ensures { λ r. ⌜ r ≡ firstFailed f generalOrder ⌝ }
 {
@@ -240,10 +249,16 @@ fn broken_general(f: Facts) -> u8
 fn broken_special(f: Facts) -> u8
     ensures { λ r. ⌜ r ≡ firstFailed f specialOrder ⌝ }
 {
-    if kept_special(f) {
-        return 0;
+    if !kept_first_ten(f) {
+        return first_broken(f, &FIRST_TEN);
     }
-    first_broken(f, &SPECIAL)
+    if !kept_second_ten(f) {
+        return first_broken(f, &SECOND_TEN);
+    }
+    if !kept_last_ten(f) {
+        return first_broken(f, &LAST_TEN);
+    }
+    0
 }
 
 pub fn class_of(f: Facts) -> Class
