@@ -1,5 +1,5 @@
 # The Rust side has its own target folder; `rt ci` removes the repository's.
-.PHONY: run test lib fuzz bench
+.PHONY: run test edits lib fuzz bench
 
 CRATES := $(shell find crates -name '*.rt' -o -name '*.antt') crates.txt
 
@@ -11,6 +11,10 @@ run: target/bin/budgetorder target/staticlib/libcapi.a
 # Proves every crate from nothing, tries the must-fail edits, runs the programs, then the checks from outside.
 test:
 	@./tools/test
+
+# The must-fail edits that the gate leaves out.
+edits:
+	@./tools/edits
 
 # The static library for C and Rust: target/staticlib/libcapi.a
 lib: target/staticlib/libcapi.a
