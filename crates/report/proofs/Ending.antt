@@ -26,14 +26,7 @@ use Rattle.orders.specs.declared.complete.Completed.the-variants.{Filled, Impos
 use Rattle.report.specs.Lines.{decimal, item, space, newline, Wrote}
 use Rattle.report.specs.Report.{fieldLines, endLines, noSheet, ending, reportOf, reported, Reports}
 use Rattle.report.specs.Told.{Told}
-use Rattle.report.proofs.Writing.{wrote-then}
-
--- the same text by another name
-wrote-as : (b e : List ℕ) (at r : ℕ) (t u : Text) → t ≡ u → Wrote b at t r e → Wrote b at u r e
-wrote-as b e at r t u h w = (w .0 ∙ ap (put b at) h, w .1 ∙ ap (λ (x : Text). at + length x) h)
-
-number-as : (b e : List ℕ) (at r m n x : ℕ) → m ≡ n → Wrote b at (item (decimal m) x) r e → Wrote b at (item (decimal n) x) r e
-number-as b e at r m n x h w = wrote-as b e at r (item (decimal m) x) (item (decimal n) x) (ap (λ (k : ℕ). item (decimal k) x) h) w
+use Rattle.report.proofs.Writing.{wrote-as, number-as, wrote-then}
 
 module _ (d s b x : List ℕ) (at k : ℕ) (r : Completed) (C : Completes d noSheet r s) (w : Wrote b at (item (bytes "end") space) k x) (kw : k ≡ at + 3 + 1) (l : at + 733 ≤ length b) (e : List ℕ) (q : ℕ) where
   ended : (a : Completed) (t : Text) → r ≡ a → t ≡ endLines (completeAnswer a) s → q ≤ at + 733 → (q ≤ at + 733 → Wrote b at t q e) → Wrote b at (ending d) q e × (q ≤ at + 733)

@@ -20,12 +20,13 @@ use Rattle.drafts.specs.Message.{lengthOf, readTests, readingOf}
 use Rattle.drafts.specs.Draft.{freshDraft, postingOf, postedTo, postAnswer}
 use Rattle.drafts.specs.Promises.{Posts}
 use Rattle.drafts.specs.declared.draft.Posted.{Posted}
+use Rattle.orders.specs.Search.{places}
 use Rattle.orders.specs.Stream.{pieceOf, endsStream, messagesOf}
 use Rattle.orders.proofs.Streaming.{messages-none, messages-next, rest-is, first-is, some}
 use Rattle.report.specs.Lines.{Wrote}
 use Rattle.report.specs.Report.{messageLine, fieldLine, fieldLines, ending, reportFrom, reportOf}
 use Rattle.report.specs.Told.{Told}
-use Rattle.report.proofs.Writing.{wrote-then}
+use Rattle.report.proofs.Writing.{wrote-as, wrote-then}
 
 -- ---- the lines of the fields
 
@@ -36,17 +37,15 @@ pub record Listed (b s : List ℕ) (at slot next : ℕ) (e : List ℕ) : Type 0 
   pub rest : text ++ fieldLines s (drop slot slots) ≡ fieldLines s slots
 
 -- each slot stands in its own place
-abbrev upward : ℕ → ℕ → List ℕ
-upward zero i = []
-upward (suc n) i = i ∷ upward n (suc i)
-
-upward-at : (n i k : ℕ) → k < n → getD (upward n i) k 0 ≡ i + k
-upward-at zero i k h = absurd (omega arith)
-upward-at (suc n) i zero h = sym (add-zero i)
-upward-at (suc n) i (suc k) h = upward-at n (suc i) k (omega arith) ∙ omega arith
+places-at : (n i k : ℕ) → k < n → getD (places n i) k 0 ≡ i + k
+unfolding places
+places-at zero i k h = absurd (omega arith)
+places-at (suc n) i zero h = sym (add-zero i)
+places-at (suc n) i (suc k) h = places-at n (suc i) k (omega arith) ∙ omega arith
 
 slot-at : (k : ℕ) → k < 15 → getD slots k 0 ≡ k
-slot-at k h = upward-at 15 0 k h ∙ omega arith
+unfolding places
+slot-at k h = places-at 15 0 k h ∙ omega arith
 
 fields-step : (s : List ℕ) (k : ℕ) → k < 15 → fieldLines s (drop k slots) ≡ fieldLine s k ++ fieldLines s (drop (k + 1) slots)
 unfolding fieldLines
@@ -75,7 +74,7 @@ unfolding fieldLines
 listed-done b s e at slot next L h =
     let z : drop slot slots ≡ [] = drop-of-length-le slots h in
     let g : L .text ≡ fieldLines s slots = sym (append-nil (L .text)) ∙ ap (λ (l : List ℕ). L .text ++ fieldLines s l) (sym z) ∙ L .rest in
-    (L .wrote .0 ∙ ap (put b at) g, L .wrote .1 ∙ ap (λ (t : Text). at + length t) g)
+    wrote-as b e at next (L .text) (fieldLines s slots) g (L .wrote)
 
 -- ---- the lines of the messages
 

@@ -34,6 +34,13 @@ item-put b at t x c e h p q =
       omega (arith, length-append t (x ∷ [])),
     )
 
+-- the same text, and the same number, by another name
+pub wrote-as : (b e : List ℕ) (at r : ℕ) (t u : Text) → t ≡ u → Wrote b at t r e → Wrote b at u r e
+wrote-as b e at r t u h w = (w .0 ∙ ap (put b at) h, w .1 ∙ ap (λ (x : Text). at + length x) h)
+
+pub number-as : (b e : List ℕ) (at r m n x : ℕ) → m ≡ n → Wrote b at (item (decimal m) x) r e → Wrote b at (item (decimal n) x) r e
+number-as b e at r m n x h w = wrote-as b e at r (item (decimal m) x) (item (decimal n) x) (ap (λ (k : ℕ). item (decimal k) x) h) w
+
 -- what is written behind what was written
 pub wrote-then : (b c e : List ℕ) (at r q : ℕ) (t u : Text) → Wrote b at t r c → Wrote c r u q e → q ≤ length b → Wrote b at (t ++ u) q e
 wrote-then b c e at r q t u w v h = (
@@ -55,14 +62,14 @@ pub number-wrote : (b e ds t : List ℕ) (at n x f r : ℕ) → length ds ≡ 20
 number-wrote b e ds t at n x f r l d p w =
     let k = part-short ds t f l p in
     let g : item t x ≡ item (decimal n) x = ap (λ (u : Text). item u x) (number-part ds t n f l d p) in
-    ((w .0 ∙ ap (put b at) g, w .1 ∙ ap (λ (u : Text). at + length u) g), omega (arith, w .1, item-length t x))
+    (wrote-as b e at r (item t x) (item (decimal n) x) g w, omega (arith, w .1, item-length t x))
 
 -- ---- a message's line
 
 module _ (b e : List ℕ) (at r : ℕ) (p : Posted) where
   word : (t : Text) → shown (postAnswer p) ≡ t → length t ≤ 5 → Wrote b at (item t newline) r e → Wrote b at (item (shown (postAnswer p)) newline) r e × (r ≤ at + 6)
   word t h l w = (
-    (w .0 ∙ ap (λ (u : Text). put b at (item u newline)) (sym h), w .1 ∙ ap (λ (u : Text). at + length (item u newline)) (sym h)),
+    wrote-as b e at r (item t newline) (item (shown (postAnswer p)) newline) (ap (λ (u : Text). item u newline) (sym h)) w,
     omega (arith, w .1, item-length t newline),
   )
 
@@ -106,14 +113,11 @@ field-wrote b c e s at r q k t h f l w u v =
     let i = item-length t newline in
     let j : Wrote b at (item (decimal (fieldIn k)) space ++ item t newline) q e = wrote-then b c e at r q (item (decimal (fieldIn k)) space) (item t newline) w v (omega (arith, w .1)) in
     let g : item (decimal (fieldIn k)) space ++ item t newline ≡ line (decimal (fieldIn k)) (cond (blank (textOf s k)) (bytes "-") (textOf s k) ∷ []) = ap (λ (x : Text). item (decimal (fieldIn k)) space ++ item x newline) f in
-    ((j .0 ∙ ap (put b at) g, j .1 ∙ ap (λ (x : Text). at + length x) g), omega (arith, v .1))
-
-number-of : (b c : List ℕ) (at r m n : ℕ) → m ≡ n → Wrote b at (item (decimal m) space) r c → Wrote b at (item (decimal n) space) r c
-number-of b c at r m n e w = (w .0 ∙ ap (λ (k : ℕ). put b at (item (decimal k) space)) e, w .1 ∙ ap (λ (k : ℕ). at + length (item (decimal k) space)) e)
+    (wrote-as b e at q (item (decimal (fieldIn k)) space ++ item t newline) (line (decimal (fieldIn k)) (cond (blank (textOf s k)) (bytes "-") (textOf s k) ∷ [])) g j, omega (arith, v .1))
 
 module _ (b c e s x : List ℕ) (at r q k m n : ℕ) (h : at + 47 ≤ length b) (fm : m ≡ fieldIn k) (fn : n ≡ m) (w : Wrote b at (item (decimal n) space) r c) (u : r ≤ at + 21) (ex : x ≡ textOf s k) where
   pub field-blank : length x ≡ 0 → Wrote c r (item (bytes "-") newline) q e → Wrote b at (fieldLine s k) q e × (q ≤ at + 47)
-  field-blank z v = field-wrote b c e s at r q k (bytes "-") h (sym (simp (eq-eqb (length (textOf s k)) 0 (ap length (sym ex) ∙ z)))) (omega arith) (number-of b c at r n (fieldIn k) (fn ∙ fm) w) u v
+  field-blank z v = field-wrote b c e s at r q k (bytes "-") h (sym (simp (eq-eqb (length (textOf s k)) 0 (ap length (sym ex) ∙ z)))) (omega arith) (number-as b c at r n (fieldIn k) space (fn ∙ fm) w) u v
 
   pub field-given : (length x ≡ 0 → ⊥) → Wrote c r (item x newline) q e → Wrote b at (fieldLine s k) q e × (q ≤ at + 47)
-  field-given z v = field-wrote b c e s at r q k x h (ex ∙ sym (simp (ne-eqb (length (textOf s k)) 0 (λ y. z (ap length ex ∙ y))))) (shown-short s x k ex) (number-of b c at r n (fieldIn k) (fn ∙ fm) w) u v
+  field-given z v = field-wrote b c e s at r q k x h (ex ∙ sym (simp (ne-eqb (length (textOf s k)) 0 (λ y. z (ap length ex ∙ y))))) (shown-short s x k ex) (number-as b c at r n (fieldIn k) space (fn ∙ fm) w) u v

@@ -1,7 +1,7 @@
 -- What is written before the end. A reader of the promise needs none of this. Assumes nothing.
 use mathlib.Core.Path.{_≡_}
 use mathlib.Core.List.{List, _++_}
-use Prim.Native.Nat.{ℕ, _*_, _≤_}
+use Prim.Native.Nat.{ℕ, _≤_}
 use lib.ListN.{length}
 use Rattle.texts.specs.Quoted.{Text}
 use Rattle.texts.specs.Buffers.{put}
