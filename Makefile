@@ -1,4 +1,6 @@
 # The Rust side has its own target folder; `rt ci` removes the repository's.
+# Two proof runs would share one target folder.
+.NOTPARALLEL:
 .PHONY: run test edits lib fuzz bench
 
 CRATES := $(shell find crates -name '*.rt' -o -name '*.antt') crates.txt
@@ -6,7 +8,7 @@ CRATES := $(shell find crates -name '*.rt' -o -name '*.antt') crates.txt
 # Completes an order written as lines FIELD REVISION TEXT, and prints what budgetorder says of it.
 ORDER ?= bindings/samples/order.txt
 run: target/bin/budgetorder target/staticlib/libcapi.a
-	@./tools/run $(ORDER)
+	@./tools/run "$(ORDER)"
 
 # Proves every crate from nothing, tries the must-fail edits, runs the programs, then the checks from outside.
 test:
