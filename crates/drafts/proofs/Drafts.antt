@@ -163,6 +163,27 @@ module _ (d m : List ℕ) (h : (k : ℕ) → Fits w8 (getD m k 0)) (b : Bool) (e
         pub post-clash : st ≡ Clash → Posts d m (posted.Refused (record { 0 = 6 })) d
         post-clash q = let p = post-read d m Clash formed (found .0) (sym q ∙ stood) in post _ d (p .0) (p .1)
 
+-- ---- sheet_of: the cells of the first n slots stand in what was there before
+
+module _ (d s : List ℕ) (l : length d ≡ draftSize) (z : length s ≡ 390) where
+  pub cells-none : s ≡ put s 0 (cells d 0)
+  unfolding cells
+  cells-none = sym (put-none s)
+
+  module _ (x : List ℕ) (n : ℕ) (ex : x ≡ put s 0 (cells d n)) where
+    pub cells-more : (u c y : List ℕ) (w : ℕ) → n < 15 → u ≡ slotIn d n → c ≡ slotCell u → w ≡ n → y ≡ putAt x (w * 26) c → y ≡ put s 0 (cells d (n + 1))
+    unfolding cells
+    cells-more u c y w h eu ec ew ey =
+        let lc : length c ≡ 26 = rw (ec, eu) (length-cell d l n h) in
+        let p : putAt x (n * 26) c ≡ put s 0 (cells d n ++ c) = put-next s (cells d n) c x (n * 26) (length-cells d l n (omega arith)) (omega arith) ex in
+        ey ∙ rw (ew, p, add-one, ec, eu)
+
+    pub cells-all : n ≤ 15 → 15 ≤ n → x ≡ sheetOf d
+    unfolding sheetOf
+    cells-all h g =
+        let e : n ≡ 15 = omega arith in
+        ex ∙ rw e (put-whole s (cells d 15) (length-cells d l 15 (omega arith) ∙ sym z))
+
 -- ---- copy
 
 -- the promise of `copy`, from its two equations
@@ -194,30 +215,20 @@ module _ (d s : List ℕ) (b : Bool) (eb : b ≡ draftFormed d) where
     unfolding copyingOf copiedTo copyTests
     copy-size n = copies-by d s _ s (simp (whole, ne-eqb _ _ n)) (simp (whole, ne-eqb _ _ n))
 
-    pub copy-none : s ≡ put s 0 (cells d 0)
-    unfolding cells
-    copy-none = sym (put-none s)
+    pub copy-sized : length d ≡ draftSize
+    copy-sized = formed-means d whole .sized
 
-    module _ (z : length s ≡ 390) (x : List ℕ) (n : ℕ) (ex : x ≡ put s 0 (cells d n)) where
-      pub copy-more : (u c v y : List ℕ) (w : ℕ) → n < 15 → u ≡ slotIn d n → c ≡ slotCell u → v ≡ putAt (replicate {A = ℕ} 26 0) 0 c → w ≡ n → y ≡ putAt x (w * 26) v → y ≡ put s 0 (cells d (n + 1))
-      unfolding cells
-      copy-more u c v y w h eu ec ev ew ey =
-          let l = formed-means d whole .sized in
-          let lc : length c ≡ 26 = rw (ec, eu) (length-cell d l n h) in
-          let vc : v ≡ c = ev ∙ put-fits (replicate {A = ℕ} 26 0) 0 c (omega arith) ∙ put-whole (replicate {A = ℕ} 26 0) c lc in
-          let p : putAt x (n * 26) c ≡ put s 0 (cells d n ++ c) = put-next s (cells d n) c x (n * 26) (length-cells d l n (omega arith)) (omega arith) ex in
-          ey ∙ ap (putAt x (w * 26)) vc ∙ rw (ew, p, add-one, ec, eu)
-
-      pub copy-made : n ≤ 15 → 15 ≤ n → Copies d s copied.Made x
-      unfolding copyingOf copiedTo copyTests sheetOf
-      copy-made h g =
-          let e : n ≡ 15 = omega arith in
-          let l = formed-means d whole .sized in
-          let p : put s 0 (cells d 15) ≡ cells d 15 = put-whole s (cells d 15) (length-cells d l 15 (omega arith) ∙ sym z) in
-          copies-by d s copied.Made x (simp (whole, eq-eqb _ _ z)) (ex ∙ rw (e, p) (simp (whole, eq-eqb _ _ z)))
+    pub copy-made : (x e : List ℕ) → length s ≡ 390 → x ≡ sheetOf d → e ≡ putAt s 0 x → Copies d s copied.Made e
+    unfolding copyingOf copiedTo copyTests sheetOf
+    copy-made x e z ex ee =
+        let l = length-cells d copy-sized 15 (omega arith) in
+        let p : putAt s 0 (cells d 15) ≡ cells d 15 = put-fits s 0 (cells d 15) (omega arith) ∙ put-whole s (cells d 15) (l ∙ sym z) in
+        copies-by d s copied.Made e (simp (whole, eq-eqb _ _ z)) (ee ∙ rw (ex, p) (simp (whole, eq-eqb _ _ z)))
 
 pub ruleset begins = (needs, stand-newer, stand-older, stand-same, stand-clash, slot-made, fresh-not, fresh-made)
 
 pub ruleset posts = (needs, post-malformed, post-unread, post-short, post-newer, post-same, post-older, post-clash)
 
-pub ruleset copies = (needs, copy-malformed, copy-size, copy-none, copy-more, copy-made)
+pub ruleset sheets = (needs, cells-none, cells-more, cells-all)
+
+pub ruleset copies = (needs, copy-malformed, copy-size, copy-sized, copy-made)

@@ -1,9 +1,9 @@
 // The draft: a fresh one, posting to it, and its sheet.
 ghost use mathlib.Core.Path.{_≡_};
 ghost use Prim.Native.Nat.{_*_, _≤_};
-ghost use lib.ListN.{length, replicate};
+ghost use lib.ListN.{length};
 ghost use Rattle.texts.specs.Buffers.{putAt};
-ghost use Rattle.drafts.specs.Draft.{slotSize, slotIn, slotRevision, slotCell, slotFormed, draftFormed, slotStanding, slotBytes};
+ghost use Rattle.drafts.specs.Draft.{slotSize, draftSize, slotIn, slotRevision, slotCell, slotFormed, draftFormed, slotStanding, slotBytes, sheetOf};
 ghost use Rattle.drafts.specs.Promises.{Freshens, Posts, Copies};
 use crate::message::Reading;
 use crate::message::Refusal;
@@ -166,13 +166,22 @@ pub fn post(draft: &mut [u8], message: &[u8]) -> Posted
     }
 }
 
-// A cell as an array: the compiler knows its size, and that it does not overlap the sheet.
-fn cell_bytes(cell: &[u8]) -> [u8; CELL_SIZE]
-    ensures { λ r. ⌜ r ≡ putAt (replicate 26 0) 0 (now (cell .entry)) ⌝ }
+// A draft's sheet, made in an array: the compiler knows that it does not overlap the draft.
+fn sheet_of(draft: &[u8]) -> [u8; SHEET_SIZE]
+    requires { ⌜ length (now draft) ≡ draftSize ⌝ }
+    ensures { λ r. ⌜ r ≡ sheetOf (now (draft .entry)) ⌝ }
 {
-    let mut bytes = [0u8; CELL_SIZE];
-    put(&mut bytes, 0, cell);
-    bytes
+    let mut sheet = [0u8; SHEET_SIZE];
+    let mut slot: u8 = 0;
+    while slot < SLOTS {
+        put(
+            &mut sheet,
+            wide(slot) * CELL_SIZE,
+            slot_cell(slot_in(draft, slot)),
+        );
+        slot += 1;
+    }
+    sheet
 }
 
 // "Copying a draft to a sheet drops the revisions".
@@ -185,11 +194,6 @@ pub fn copy(draft: &[u8], sheet: &mut [u8]) -> Copied
     if sheet.len() != SHEET_SIZE {
         return Copied::Refused(Refusal(7));
     }
-    let mut slot: u8 = 0;
-    while slot < SLOTS {
-        let cell = cell_bytes(slot_cell(slot_in(draft, slot)));
-        put(sheet, wide(slot) * CELL_SIZE, &cell);
-        slot += 1;
-    }
+    put(sheet, 0, &sheet_of(draft));
     Copied::Made
 }

@@ -1,23 +1,22 @@
 -- The ways through `complete`. Assumes nothing.
 use mathlib.Core.Path.{_≡_, refl, sym, ap, _∙_}
-use mathlib.Core.Bool.{Bool, true, false, not, cond, _&&_}
-use mathlib.Core.List.{List, [], _∷_}
-use Prim.Native.Nat.{ℕ, _≤_}
+use mathlib.Core.Bool.{Bool, true, false, not, cond}
+use mathlib.Core.List.{List, [], _∷_, map}
+use Prim.Native.Nat.{ℕ}
 use native.Mathlib.Omega.{arith}
 use borrow.Author.Tests.{eq-eqb, ne-eqb, not-true, not-false}
 use lib.Count.{ones}
-use lib.Dec.{eqb}
-use lib.ListN.{length, getD}
+use lib.ListN.{length}
 use Rattle.texts.specs.Texts.{every}
-use Rattle.texts.specs.Answers.{Answer, success, refusal}
+use Rattle.texts.specs.Answers.{success, refusal}
 use Rattle.texts.specs.Buffers.{putAt}
 use Rattle.texts.proofs.Puts.{put-fits, put-whole}
-use Rattle.rules.specs.Rules.{budget, rules, fieldOf, keeps, firstBroken, testOf}
-use Rattle.rules.specs.Sheet.{slotOf, textOf, _⟨_⟩}
+use Rattle.rules.specs.Rules.{budget, rules, fieldOf, keeps, firstNot, firstBroken, testOf}
+use Rattle.rules.specs.Sheet.{slotOf, _⟨_⟩}
 use Rattle.rules.specs.Facts.{factsOf, factsIn, headOf, generalOf, accountOf, standingOf, holds, on1, on2, on3, ordinary, firstFailed}
 use Rattle.rules.proofs.On.{ordinary-on}
 use Rattle.rules.proofs.Ways.{facts-sized}
-use Rattle.rules.proofs.Means.{numbered, none-kept}
+use Rattle.rules.proofs.First.{numbered, none-kept}
 use Rattle.rules.specs.declared.facts.Facts.{Facts}
 use Rattle.rules.specs.declared.sheet.Field.{Field}
 use Rattle.drafts.specs.Draft.{draftFormed, sheetOf, copyTests, copyingOf, copiedTo, copyAnswer}
@@ -34,7 +33,6 @@ use Rattle.orders.specs.Whole.{Completes}
 use Rattle.orders.specs.declared.search.Pick.{Pick}
 use Rattle.orders.specs.declared.search.Found.{Found}
 use Rattle.orders.specs.declared.search.Found.the-variants.{Place, Nothing}
-use Rattle.orders.specs.declared.complete.Completed.{Completed}
 use Rattle.orders.specs.declared.complete.Completed.the-variants.{Filled, Impossible, Broken, Refused}
 use Rattle.orders.proofs.Keeping.{mapLook, base-budget, base-broken, base-length, first-is, picked-length}
 use Rattle.orders.proofs.Whole.{completes-by, length-sheetOf}
@@ -56,13 +54,12 @@ unfolding every
 basic-numbered = refl
 
 basic-on : (s : List ℕ) → firstFailed (factsOf s) basic ≡ firstBroken s basic
-unfolding firstFailed firstBroken keeps rules testOf holds factsOf headOf generalOf accountOf standingOf slotOf _⟨_⟩
+unfolding firstNot keeps rules testOf holds factsOf headOf generalOf accountOf standingOf slotOf _⟨_⟩
 basic-on s = refl
 
--- kept_basic
-pub basic-kept : (f : Facts) (a b c : Bool) → a ≡ on1 f → b ≡ on2 f → c ≡ on3 f → (a && (b && (c && true))) ≡ every (holds f) basic
-unfolding every holds
-basic-kept f a b c ea eb ec = λ i. ea i && (eb i && (ec i && true))
+pub basic-outcomes : (f : Facts) (a b c : Bool) → a ≡ on1 f → b ≡ on2 f → c ≡ on3 f → (a ∷ b ∷ c ∷ []) ≡ map (holds f) basic
+unfolding holds
+basic-outcomes f a b c ea eb ec = λ i. ea i ∷ eb i ∷ ec i ∷ []
 
 copied-is : (d z : List ℕ) → draftFormed d ≡ true → length z ≡ 390 → copiedTo d z ≡ sheetOf d
 unfolding copiedTo copyTests
@@ -99,7 +96,7 @@ basic-case s t n true false c e = rw e
 basic-case s t n false b c e = rw e
 
 basic-field : (s t : List ℕ) (n : ℕ) → n ≡ firstBroken s basic → fieldOf rules n t ≡ fieldOf rules n s
-unfolding firstBroken
+unfolding firstNot
 basic-field s t n e = basic-case t s n (keeps s 1) (keeps s 2) (keeps s 3) e
 
 module _ (d b o s : List ℕ) (c : Copied) (lo : length o ≡ 390) (hs : Copies d o c s) where
@@ -165,7 +162,7 @@ module _ (d b o s : List ℕ) (c : Copied) (lo : length o ≡ 390) (hs : Copies 
           -- what the search found, as a look through the fillings
           looks : (l : Look (List ℕ)) → firstPick x ≡ l → firstFilling (sheetOf d) ≡ mapLook (pickedOf (baseOf (sheetOf d))) l
           looks l e =
-              first-is (sheetOf d) size pays (none-kept (sheetOf d) basic basic-numbered zero)
+              first-is (sheetOf d) size pays (none-kept (keeps (sheetOf d)) basic basic-numbered zero)
               ∙ ap (mapLook (pickedOf (baseOf (sheetOf d)))) (ap firstPick (sym facts) ∙ e)
 
           found-answer : lookAnswer (sheetOf d) (firstFilling (sheetOf d)) ≡ completing d b

@@ -1,23 +1,21 @@
 -- The filling that a pick makes keeps all rules exactly if the pick passes: the facts of a filling are those of the base with the
 -- four that vary replaced. Assumes nothing.
 use mathlib.Core.Path.{_≡_, refl, sym, ap, _∙_}
-use mathlib.Core.Bool.{Bool, true, false, not, cond, _&&_, _||_}
-use mathlib.Core.List.{List, [], _∷_, _++_, map}
-use Prim.Native.Nat.{ℕ, _+_, _<_, _≤_}
+use mathlib.Core.Bool.{Bool, true, false, not, cond, _&&_}
+use mathlib.Core.List.{List, [], _∷_, map}
+use Prim.Native.Nat.{ℕ, _+_, _<_}
 use native.Mathlib.Omega.{arith}
-use borrow.Author.Tests.{not-true, not-false}
 use lib.ListN.{length, getD}
 use Rattle.texts.specs.Quoted.{Text}
 use Rattle.texts.specs.Texts.{blank, every}
 use Rattle.texts.proofs.Every.{every-append}
-use Rattle.texts.proofs.Bools.{both}
 use Rattle.rules.specs.Sheet.{cell, slots, slotOf, cellText, cellOf, textOf, _⟨_⟩}
-use Rattle.rules.specs.Rules.{given, budget, rules, testOf, order, keeps, keepsAll, firstBroken}
-use Rattle.rules.specs.Facts.{generalOf, accountOf, headOf, sidesOf, restOf, standingOf, basisOf, documentOf, dayOf, factsOf, ordinary, holds, firstFailed, generalOrder, specialOrder, fixed}
+use Rattle.rules.specs.Rules.{given, budget, rules, testOf, keeps, keepsAll, firstNot, firstBroken}
+use Rattle.rules.specs.Facts.{generalOf, accountOf, headOf, sidesOf, restOf, standingOf, basisOf, documentOf, dayOf, factsOf, holds, specialOrder}
 use Rattle.rules.specs.declared.facts.Facts.{Facts}
-use Rattle.rules.proofs.On.{budget-keeps, ordinary-on}
-use Rattle.orders.specs.Fillings.{statusTexts, basisTexts, zeroTexts, listOf, toFill, each, joined, fillings, Look, found, none, look, firstFilling}
-use Rattle.orders.specs.Search.{statusAt, basisAt, documentAt, dayAt, withAll, withAt, passesAt, width, places, picks, firstPick}
+use Rattle.rules.proofs.On.{budget-keeps}
+use Rattle.orders.specs.Fillings.{statusTexts, basisTexts, zeroTexts, listOf, toFill, joined, fillings, Look, found, none, look, firstFilling}
+use Rattle.orders.specs.Search.{statusAt, basisAt, documentAt, dayAt, withAt, passesAt, width, picks, firstPick}
 use Rattle.orders.specs.Filled.{filledWith, zeroEntries, baseOf, pickEntries, pickedOf}
 use Rattle.orders.specs.Complete.{basic}
 use Rattle.orders.proofs.Cells.{Cells, Sized, Fit, fillCells, length-joined, joined-cells, sized-cells, cell-joined, filled-joined, filled-sized, text-cell, length-cell, entry-short}
@@ -200,7 +198,7 @@ module _ (s : List ℕ) (size : length s ≡ 390) where
   base-budget = cc (blank-base 0 (omega arith) refl, blank-base 1 (omega arith) refl, blank-base 2 (omega arith) refl)
 
   pub base-broken : firstBroken (baseOf s) basic ≡ firstBroken s basic
-  unfolding firstBroken keeps rules testOf _⟨_⟩ slotOf
+  unfolding firstNot keeps rules testOf _⟨_⟩ slotOf
   base-broken = cc (blank-base 0 (omega arith) refl, blank-base 1 (omega arith) refl, blank-base 2 (omega arith) refl)
 
   pub base-length : length (baseOf s) ≡ 390

@@ -2,14 +2,14 @@
 use mathlib.Core.Path.{_≡_, refl, sym, _∙_, subst}
 use mathlib.Core.Logic.{_↔_}
 use mathlib.Core.Bool.{true, false, true≢false}
-use mathlib.Core.List.{List, [], _∷_, List·Memᴰ, List·Memᴰ·head, Memᴰ·append-right}
+use mathlib.Core.List.{List, List·Memᴰ, List·Memᴰ·head, Memᴰ·append-right}
 use Prim.Native.Nat.{ℕ}
 use native.Mathlib.Omega.{arith}
 use lib.ListN.{length}
 use Rattle.texts.specs.Texts.{every}
 use Rattle.texts.proofs.Bools.{both}
-use Rattle.rules.specs.Rules.{budget, keeps, keepsAll, firstBroken}
-use Rattle.rules.proofs.Means.{kept-none}
+use Rattle.rules.specs.Rules.{budget, keeps, keepsAll}
+use Rattle.rules.proofs.First.{kept-none}
 use Rattle.drafts.specs.Draft.{draftFormed, sheetOf}
 use Rattle.drafts.specs.Promises.{Left}
 use Rattle.drafts.proofs.Slots.{Formed, formed-means, formed-by}
@@ -40,11 +40,11 @@ module _ (d b : List ℕ) (f : draftFormed d ≡ true) (z : length b ≡ 390) (p
 
   pub answer-is : completing d b ≡ lookAnswer (sheetOf d) (firstFilling (sheetOf d))
   unfolding completing classAnswer
-  answer-is = rw (f, z, kept-none (sheetOf d) basic (kept .0), kept .1)
+  answer-is = rw (f, z, kept-none (keeps (sheetOf d)) basic (kept .0), kept .1)
 
   pub sheet-is : completed d b ≡ lookSheet b (firstFilling (sheetOf d))
   unfolding completed
-  sheet-is = rw (f, z, kept-none (sheetOf d) basic (kept .0), kept .1)
+  sheet-is = rw (f, z, kept-none (keeps (sheetOf d)) basic (kept .0), kept .1)
 
 -- the promise, by what the look found
 module _ (s b : List ℕ) (z : length s ≡ 390) where

@@ -1,6 +1,6 @@
 // Completion: the first filling of a draft that keeps the rules.
 ghost use mathlib.Core.Path.{_≡_};
-ghost use Rattle.texts.specs.Texts.{every};
+ghost use mathlib.Core.List.{map};
 ghost use Rattle.rules.specs.Facts.{holds, firstFailed};
 ghost use Rattle.orders.specs.Complete.{basic};
 ghost use Rattle.orders.specs.Whole.{Completes};
@@ -36,20 +36,16 @@ pub enum Completed {
 // "In completion only 1 to 3".
 const BASIC: [u8; 3] = [1, 2, 3];
 
-fn kept_basic(f: Facts) -> bool
-    ensures { λ r. ⌜ r ≡ every (holds f) basic ⌝ }
+fn basic_outcomes(f: Facts) -> [bool; 3]
+    ensures { λ r. ⌜ r ≡ map (holds f) basic ⌝ }
 {
-    keeps1(f) & (keeps2(f) & (keeps3(f) & true))
+    [keeps1(f), keeps2(f), keeps3(f)]
 }
 
-// Where all are kept, as they mostly are, no rule is looked for.
 fn broken_basic(f: Facts) -> u8
     ensures { λ r. ⌜ r ≡ firstFailed f basic ⌝ }
 {
-    if kept_basic(f) {
-        return 0;
-    }
-    first_broken(f, &BASIC)
+    first_broken(&basic_outcomes(f), &BASIC)
 }
 
 // A copy to a sheet of its size is refused only where the draft is malformed. "0" goes into the fields that take nothing else first, and

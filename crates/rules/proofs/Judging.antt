@@ -5,65 +5,28 @@ use mathlib.Core.List.{List, [], _∷_, _++_, map}
 use Prim.Native.Nat.{ℕ, zero, suc, _+_, _-_, _≤_, _<_}
 use native.Mathlib.Numerals.{add-one}
 use native.Mathlib.Omega.{arith}
-use borrow.Author.Tests.{eqb-true, eqb-false, eq-eqb, ne-eqb, not-true, not-false, leb-true}
+use borrow.Author.Tests.{eqb-true, eqb-false, ne-eqb, not-true, not-false, leb-true}
 use lib.Dec.{eqb, leb}
 use lib.ListN.{length, getD, set, drop, drop-of-length-le}
 use lib.Seq.{drop-cons, getD-set-other}
 use Rattle.texts.specs.Texts.{every, any, are, among}
-use Rattle.texts.specs.Answers.{success, refusal}
 use Rattle.texts.proofs.Bools.{both}
-use Rattle.texts.proofs.Arms.{Rest, rest-first}
 use Rattle.texts.proofs.Every.{every-append, every-same}
 use Rattle.rules.specs.Sheet.{slots, slotOk, wellFormed, fieldIn, slotOf}
-use Rattle.rules.specs.Rules.{Sheet, Rule, classA, classB, budget, given, needed, firstBlank, general, special, forBudget, rules, order, fieldOf, keeps, firstBroken, classOf}
-use Rattle.rules.specs.Facts.{factsOf, factsIn, ordinary, classOn, generalOn, specialOn, look, holds, firstFailed, generalOrder, firstTen, secondTen, lastTen, specialOrder, fixedRules, statusRules, basisRules, documentRules, dayRules, grouped}
-use Rattle.rules.specs.Verdicts.{className, verdictAnswer, judged, checked, Checked}
+use Rattle.rules.specs.Rules.{Sheet, Rule, classA, classB, budget, given, firstBlank, rules, order, fieldOf, keeps, firstNot, firstBroken, classOf}
+use Rattle.rules.specs.Facts.{factsOf, factsIn, ordinary, classOn, look, holds, firstFalse, firstFailed, generalOrder, firstTen, secondTen, lastTen, specialOrder, fixedRules, statusRules, basisRules, documentRules, dayRules, grouped}
+use Rattle.rules.specs.Verdicts.{verdictAnswer, judged, checked, Checked}
 use Rattle.rules.specs.declared.Class.{Class}
 use Rattle.rules.specs.declared.Class.the-variants.{A, B, O}
-use Rattle.rules.specs.declared.Rule.{Rule as RuleNumber}
 use Rattle.rules.specs.declared.sheet.Field.{Field}
-use Rattle.rules.specs.declared.Verdict.{Verdict}
 use Rattle.rules.specs.declared.Verdict.the-variants.{Malformed, Broken, Accepted}
 use Rattle.rules.specs.declared.facts.Facts.{Facts}
 use Rattle.rules.proofs.On.{budget-keeps, ordinary-keeps, class-on, ordinary-on, general-on}
 use Rattle.rules.proofs.Ways.{facts-sized}
-use Rattle.rules.proofs.Means.{numbered, kept-none, checked-by}
+use Rattle.rules.proofs.First.{numbered, kept-none, not-first, not-then, place-is}
+use Rattle.rules.proofs.Means.{checked-by}
 
--- ---- keeps: an arm, and the last one
-
-pub held : (f : Facts) (n k : ℕ) (r : Bool) → n ≡ k → r ≡ look (generalOn ++ specialOn) k f → r ≡ holds f n
-unfolding holds
-held f n k r e h = h ∙ ap (λ (m : ℕ). look (generalOn ++ specialOn) m f) (sym e)
-
-numbers : List (ℕ × (Facts → Bool)) → List ℕ
-numbers [] = []
-numbers (o ∷ os) = o .0 ∷ numbers os
-
-unlisted : (acc : Type 0) (f : Facts) (n : ℕ) (os : List (ℕ × (Facts → Bool))) → unfold numbers in (Rest acc n (numbers os)) → true ≡ look os n f
-unfolding numbers
-unlisted acc f n [] t = refl
-unlisted acc f n (o ∷ os) t = simp (ne-eqb n (o .0) (rest-first acc n (o .0) (numbers os) t)) (unlisted (acc × (n ≡ o .0 → ⊥)) f n os t)
-
-pub held-none : (f : Facts) (n : ℕ) → Rest (Unit {0}) n (generalOrder ++ specialOrder) → true ≡ holds f n
-unfolding holds numbers
-held-none f n t = unlisted (Unit {0}) f n (generalOn ++ specialOn) t
-
--- ---- first_broken and first_blank: the answer for the whole is the answer for what is left from i
-
-module _ (f : Facts) (ks : List ℕ) (i : ℕ) where
-  failed-step : i < length ks → firstFailed f (drop i ks) ≡ cond (holds f (getD ks i 0)) (firstFailed f (drop (i + 1) ks)) (getD ks i 0)
-  unfolding firstFailed
-  failed-step h = rw (add-one, drop-cons ks i 0)
-
-  pub failed-found : (b : Bool) → firstFailed f ks ≡ firstFailed f (drop i ks) → i < length ks → b ≡ holds f (getD ks i 0) → not b ≡ true → getD ks i 0 ≡ firstFailed f ks
-  failed-found b e h q n = cc (failed-step h, not-true b n)
-
-  pub failed-more : (b : Bool) → firstFailed f ks ≡ firstFailed f (drop i ks) → i < length ks → b ≡ holds f (getD ks i 0) → not b ≡ false → firstFailed f ks ≡ firstFailed f (drop (i + 1) ks)
-  failed-more b e h q n = cc (failed-step h, not-false b n)
-
-  pub failed-none : firstFailed f ks ≡ firstFailed f (drop i ks) → length ks ≤ i → 0 ≡ firstFailed f ks
-  unfolding firstFailed
-  failed-none e h = rw e (rw drop-of-length-le)
+-- ---- first_blank: the answer for the whole is the answer for what is left from i
 
 module _ (s : Sheet) (ks : List ℕ) (i : ℕ) where
   blank-step : i < length ks → firstBlank s (drop i ks) ≡ cond (given s (getD ks i 0)) (firstBlank s (drop (i + 1) ks)) (fieldIn (getD ks i 0))
@@ -80,7 +43,7 @@ module _ (s : Sheet) (ks : List ℕ) (i : ℕ) where
   unfolding firstBlank
   blank-none e h = rw e (rw drop-of-length-le)
 
--- ---- the groups of rules, broken_general, broken_special
+-- ---- the groups of rules
 
 same-rules : (p : ℕ → Bool) → every p grouped ≡ every p specialOrder
 unfolding every any are among
@@ -95,56 +58,28 @@ groups-held f a b c d e x y z u v =
     let t = same-rules (holds f) in
     cc
 
-pub none-failed : (f : Facts) (ks : List ℕ) (b : Bool) → b ≡ every (holds f) ks → b ≡ true → 0 ≡ firstFailed f ks
-unfolding every firstFailed
-none-failed f [] b e t = refl
-none-failed f (k ∷ ks) b e t =
-    let q = both (holds f k) (every (holds f) ks) (sym e ∙ t) in
-    cc (none-failed f ks (every (holds f) ks) refl (q .1), q .0)
+-- ---- broken_general, broken_special
 
--- of two lists: the first has a broken one, or all of it is kept
-kept-case : (b h : Bool) (m n k : ℕ) → (h && b) ≡ true → (b ≡ true → m ≡ n) → cond h m k ≡ n
-kept-case true true m n k e f = f refl
-kept-case false true m n k e f = absurd (false≢true e)
-kept-case b false m n k e f = absurd (false≢true e)
+module _ (f : Facts) where
+  pub broken-in : (ks : List ℕ) (os : List Bool) (r : ℕ) → os ≡ map (holds f) ks → r ≡ getD ks (firstFalse os) 0 → r ≡ firstFailed f ks
+  broken-in ks os r e h = h ∙ ap (λ (l : List Bool). getD ks (firstFalse l) 0) e ∙ place-is (holds f) ks
 
-broken-case : (b h : Bool) (m n k : ℕ) → (h && b) ≡ false → (b ≡ false → m ≡ n) → cond h m k ≡ cond h n k
-broken-case true true m n k e f = absurd (false≢true (sym e))
-broken-case false true m n k e f = f refl
-broken-case b false m n k e f = refl
+  -- the list with the first broken one
+  module _ (a : ℕ) (ea : a ≡ firstFailed f firstTen) where
+    pub in-first : (a ≡ 0 → ⊥) → a ≡ firstFailed f specialOrder
+    in-first z = ea ∙ sym (not-first (holds f) firstTen (secondTen ++ lastTen) (λ q. z (ea ∙ q)))
 
-module _ (f : Facts) (ls : List ℕ) where
-  pub kept-here : (ks : List ℕ) → every (holds f) ks ≡ true → firstFailed f (ks ++ ls) ≡ firstFailed f ls
-  unfolding every firstFailed
-  kept-here [] e = refl
-  kept-here (k ∷ ks) e = kept-case (every (holds f) ks) (holds f k) (firstFailed f (ks ++ ls)) (firstFailed f ls) k e (kept-here ks)
+    module _ (za : a ≡ 0) (b : ℕ) (eb : b ≡ firstFailed f secondTen) where
+      past-first : firstFailed f specialOrder ≡ firstFailed f (secondTen ++ lastTen)
+      unfolding every
+      past-first = not-then (holds f) firstTen (secondTen ++ lastTen) refl (sym ea ∙ za)
 
-  pub broken-here : (ks : List ℕ) → every (holds f) ks ≡ false → firstFailed f (ks ++ ls) ≡ firstFailed f ks
-  unfolding every firstFailed
-  broken-here [] e = absurd (false≢true (sym e))
-  broken-here (k ∷ ks) e = broken-case (every (holds f) ks) (holds f k) (firstFailed f (ks ++ ls)) (firstFailed f ks) k e (broken-here ks)
+      pub in-second : (b ≡ 0 → ⊥) → b ≡ firstFailed f specialOrder
+      in-second z = eb ∙ sym (past-first ∙ not-first (holds f) secondTen lastTen (λ q. z (eb ∙ q)))
 
--- the list with the first broken one
-module _ (f : Facts) (a : Bool) (ea : a ≡ every (holds f) firstTen) where
-  pub in-first : (r : ℕ) → not a ≡ true → r ≡ firstFailed f firstTen → r ≡ firstFailed f specialOrder
-  in-first r n e = e ∙ sym (broken-here f (secondTen ++ lastTen) firstTen (sym ea ∙ not-true a n))
-
-  module _ (na : not a ≡ false) (b : Bool) (eb : b ≡ every (holds f) secondTen) where
-    past-first : firstFailed f specialOrder ≡ firstFailed f (secondTen ++ lastTen)
-    past-first = kept-here f (secondTen ++ lastTen) firstTen (sym ea ∙ not-false a na)
-
-    pub in-second : (r : ℕ) → not b ≡ true → r ≡ firstFailed f secondTen → r ≡ firstFailed f specialOrder
-    in-second r n e = e ∙ sym (past-first ∙ broken-here f lastTen secondTen (sym eb ∙ not-true b n))
-
-    module _ (nb : not b ≡ false) (d : Bool) (ed : d ≡ every (holds f) lastTen) where
-      past-second : firstFailed f specialOrder ≡ firstFailed f lastTen
-      past-second = past-first ∙ kept-here f lastTen secondTen (sym eb ∙ not-false b nb)
-
-      pub in-last : (r : ℕ) → r ≡ firstFailed f lastTen → r ≡ firstFailed f specialOrder
-      in-last r e = e ∙ sym past-second
-
-      pub in-none : not d ≡ false → 0 ≡ firstFailed f specialOrder
-      in-none n = none-failed f lastTen d ed (not-false d n) ∙ sym past-second
+      pub in-last : (r : ℕ) → b ≡ 0 → r ≡ firstFailed f lastTen → r ≡ firstFailed f specialOrder
+      unfolding every
+      in-last r z e = e ∙ sym (past-first ∙ not-then (holds f) secondTen lastTen refl (sym eb ∙ z))
 
 -- ---- class_of
 
@@ -216,28 +151,7 @@ field-six s n r e h = rw e h
 
 -- ---- check
 
-first-case : (k m n : ℕ) (h : Bool) → (cond h m k ≡ 0 → ⊥) → ((m ≡ 0 → ⊥) → n ≡ m) → cond h n k ≡ cond h m k
-first-case k m n true z f = f z
-first-case k m n false z f = refl
-
-then-case : (k m n l : ℕ) (h : Bool) → (k ≡ 0 → ⊥) → cond h m k ≡ 0 → (m ≡ 0 → n ≡ l) → cond h n k ≡ l
-then-case k m n l true z e f = f e
-then-case k m n l false z e f = absurd (z e)
-
 module _ (s : Sheet) where
-  -- the first broken one of two lists
-  broken-first : (ks ls : List ℕ) → (firstBroken s ks ≡ 0 → ⊥) → firstBroken s (ks ++ ls) ≡ firstBroken s ks
-  unfolding firstBroken
-  broken-first [] ls z = absurd (z refl)
-  broken-first (k ∷ ks) ls z = first-case k (firstBroken s ks) (firstBroken s (ks ++ ls)) (keeps s k) z (broken-first ks ls)
-
-  broken-then : (ks ls : List ℕ) → every numbered ks ≡ true → firstBroken s ks ≡ 0 → firstBroken s (ks ++ ls) ≡ firstBroken s ls
-  unfolding firstBroken every
-  broken-then [] ls z e = refl
-  broken-then (k ∷ ks) ls z e =
-      let q = both (numbered k) (every numbered ks) z in
-      then-case k (firstBroken s ks) (firstBroken s (ks ++ ls)) (firstBroken s ls) (keeps s k) (eqb-false k 0 (not-true (eqb k 0) (q .0))) e (broken-then ks ls (q .1))
-
   -- of an ordinary sheet, and of a budget payment
   ordinary-kept : (ks : List ℕ) → every (leb 5) ks ≡ true → budget s ≡ false → every (keeps s) ks ≡ true
   unfolding every
@@ -247,7 +161,7 @@ module _ (s : Sheet) where
       rw (ordinary-keeps s k (leb-true 5 k (q .0)) b) (ordinary-kept ks (q .1) b)
 
   budget-broken : (ks : List ℕ) → budget s ≡ true → firstBroken s ks ≡ firstFailed (factsOf s) ks
-  unfolding firstBroken firstFailed
+  unfolding firstNot
   budget-broken [] b = refl
   budget-broken (k ∷ ks) b = rw (budget-keeps s k b, budget-broken ks b)
 
@@ -289,16 +203,16 @@ module _ (s : Sheet) where
     general-is = cc (general-on s, h)
 
     pub check-general : (f : Field) → (g ≡ 0 → ⊥) → f .0 ≡ fieldOf rules g s → Checked s (Broken f (record { 0 = g }))
-    check-general f z k = broken-is w g f e n (broken-first generalOrder specialOrder (λ q. z (sym general-is ∙ q)) ∙ general-is) z k
+    check-general f z k = broken-is w g f e n (not-first (keeps s) generalOrder specialOrder (λ q. z (sym general-is ∙ q)) ∙ general-is) z k
 
     module _ (o : Bool) (z : g ≡ 0) (p : o ≡ ordinary x) where
       special-is : firstBroken s order ≡ firstBroken s specialOrder
-      special-is = broken-then generalOrder specialOrder general-numbered (general-is ∙ z)
+      special-is = not-then (keeps s) generalOrder specialOrder general-numbered (general-is ∙ z)
 
       pub check-ordinary : o ≡ true → Checked s (Accepted O)
       check-ordinary t =
           let b : budget s ≡ false = not-true (budget s) (cc (ordinary-on s, h)) in
-          accepted-is w O e n (special-is ∙ kept-none s specialOrder (ordinary-kept specialOrder five-on b)) (sym (ordinary-class b))
+          accepted-is w O e n (special-is ∙ kept-none (keeps s) specialOrder (ordinary-kept specialOrder five-on b)) (sym (ordinary-class b))
 
       module _ (b : ℕ) (t : o ≡ false) (q : b ≡ firstFailed x specialOrder) where
         broken-special-is : firstBroken s order ≡ b

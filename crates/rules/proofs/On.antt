@@ -1,6 +1,6 @@
 -- The tests on facts are the rules. Assumes nothing.
-use mathlib.Core.Path.{_≡_, refl, ap, sym, _∙_}
-use mathlib.Core.Logic.{_⊎_, inl, inr, ⊎-elim}
+use mathlib.Core.Path.{_≡_, refl, sym, _∙_}
+use mathlib.Core.Logic.{_⊎_, ⊎-elim}
 use mathlib.Core.Bool.{Bool, true, false, not, cond, _&&_, _||_, and-assoc, and-comm, and-true}
 use mathlib.Core.List.{List, [], _∷_, _++_, map}
 use Prim.Native.Nat.{ℕ, _≤_}
@@ -8,16 +8,13 @@ use native.Mathlib.Omega.{arith}
 use lib.Dec.{eqb}
 use native.Mathlib.Decide.{ℕ-discrete}
 use borrow.Author.Tests.{ne-eqb}
-use Rattle.texts.specs.Quoted.{Text, words}
-use Rattle.texts.specs.Texts.{every, any, are, among, digit, valueOf, value, number, _is_, _isOneOf_}
+use Rattle.texts.specs.Texts.{every, any, are, among, valueOf, value, number, _is_}
 use Rattle.texts.proofs.Codes.{is-one-of}
 use Rattle.texts.proofs.Arms.{outside}
 use Rattle.rules.specs.Sheet.{slotOf, textOf, _⟨_⟩}
 use Rattle.rules.specs.Forms.{_⇒_, inn, inn10, inn12}
-use Rattle.rules.specs.Rules.{Sheet, Rule, budget, classOf, general, special, forBudget, rules, testOf, keeps, firstBroken, rule6, rule23, given, needed}
+use Rattle.rules.specs.Rules.{Sheet, Rule, budget, classOf, general, special, forBudget, rules, testOf, keeps, firstNot, firstBroken, rule6, rule23, given}
 use Rattle.rules.specs.Facts.{payerOf, codeOf, formOf, groupsOf, standingOf, basisOf, documentOf, dayOf, generalOf, accountOf, headOf, sidesOf, restOf, factsOf, wantedBy, suits, classOn, ordinary, on6, on23, generalOn, specialOn, look, holds, firstFailed, generalOrder}
-use Rattle.rules.specs.declared.forms.Wanted.{Wanted}
-use Rattle.rules.specs.declared.forms.Wanted.the-variants.{Any, Inn, Ten, Twelve, Zero}
 use Rattle.rules.specs.declared.facts.Facts.{Facts}
 use Rattle.rules.specs.declared.facts.Payer.{Payer}
 
@@ -221,5 +218,5 @@ unfolding factsOf headOf accountOf slotOf _⟨_⟩
 ordinary-on s = refl
 
 pub general-on : (s : Sheet) → firstFailed (factsOf s) generalOrder ≡ firstBroken s generalOrder
-unfolding firstFailed firstBroken keeps rules testOf holds factsOf headOf generalOf accountOf standingOf slotOf _⟨_⟩
+unfolding firstNot keeps rules testOf holds factsOf headOf generalOf accountOf standingOf slotOf _⟨_⟩
 general-on s = refl

@@ -1,12 +1,12 @@
 -- What the ways through the functions come to: facts of plain values, of which `search` finds the premises. Assumes nothing.
 use mathlib.Core.Path.{_≡_, refl, ap, sym, _∙_}
-use mathlib.Core.Bool.{Bool, true, false, not, cond, _&&_, _||_}
-use mathlib.Core.List.{List, [], _∷_, _++_}
+use mathlib.Core.Bool.{Bool, true, false, _&&_}
+use mathlib.Core.List.{List, [], _∷_, map}
 use mathlib.Core.Logic.{_⊎_, inl, inr, ⊎-elim}
 use Prim.Native.Nat.{ℕ, _≤_, _<_}
 use native.Mathlib.Decide.{ℕ-discrete}
 use native.Mathlib.Omega.{arith}
-use borrow.Author.Tests.{eq-eqb, ne-eqb, not-true, not-false}
+use borrow.Author.Tests.{eq-eqb, ne-eqb}
 use lib.Dec.{eqb, leb}
 use lib.ListN.{length}
 use Rattle.texts.specs.Quoted.{Text}
@@ -14,10 +14,9 @@ use Rattle.texts.specs.Texts.{every, any, are, among, between, same, digits, nu
 use Rattle.texts.proofs.Arms.{AnyOf, arm, outside}
 use Rattle.rules.specs.Sheet.{textOf}
 use Rattle.rules.specs.Forms.{foreignCode, inn10, inn12, person, leap, monthDays, gregorian, date}
-use Rattle.rules.specs.Facts.{payerOf, holds, generalOrder, firstTen, secondTen, lastTen, fixedRules, statusRules, basisRules, documentRules, dayRules, on1, on2, on3, on4, on5, on6, on7, on8, on9, on10, on11, on12, on13, on14, on15, on16, on17, on18, on19, on20, on21, on22, on23, on24, on25, on26, on27, on28, on29, on30, on31, on32, on33, on34, isA, isB, accountOf, groupsBy, groupsOf, standingOf, wantedBy, basisOf, documentOf, dayOf, headOf, sidesOf, restOf, factsOf, noFacts, factsIn}
+use Rattle.rules.specs.Facts.{payerOf, holds, generalOrder, firstTen, secondTen, lastTen, fixedRules, statusRules, basisRules, documentRules, dayRules, on1, on2, on3, on4, on5, on6, on7, on8, on9, on10, on11, on12, on13, on14, on15, on16, on17, on18, on19, on20, on21, on22, on23, on24, on25, on26, on27, on28, on29, on30, on31, on32, on33, on34, isA, isB, accountOf, groupsBy, standingOf, wantedBy, basisOf, documentOf, dayOf, headOf, sidesOf, restOf, factsOf, noFacts, factsIn}
 use Rattle.rules.specs.declared.forms.Wanted.{Wanted}
 use Rattle.rules.specs.declared.forms.Wanted.the-variants.{Any, Inn, Ten, Twelve, Zero}
-use Rattle.rules.specs.declared.facts.Account.{Account}
 use Rattle.rules.specs.declared.facts.Groups.{Groups}
 use Rattle.rules.specs.declared.facts.Standing.{Standing}
 use Rattle.rules.specs.declared.facts.Basis.{Basis}
@@ -133,11 +132,7 @@ facts-is s h d r a b c y t u v w eh ed er et ea eu eb ev ec ew ey l =
     (λ i. record { head = eh i; sides = ed i; rest = er i; status = fa i; basis = fb i; document = fc i; day = fy i })
     ∙ sym (facts-sized s l)
 
--- kept_general and the groups of the rest
-pub kept-general : (f : Facts) (a1 a2 a3 a4 : Bool) → a1 ≡ on1 f → a2 ≡ on2 f → a3 ≡ on3 f → a4 ≡ on4 f → (a1 && (a2 && (a3 && (a4 && true)))) ≡ every (holds f) generalOrder
-unfolding every holds
-kept-general f a1 a2 a3 a4 e1 e2 e3 e4 = λ i. e1 i && (e2 i && (e3 i && (e4 i && true)))
-
+-- the groups of rules
 pub kept-fixed : (f : Facts) (a5 a7 a8 a9 a11 a12 a13 a14 a16 a22 a28 : Bool) → a5 ≡ on5 f → a7 ≡ on7 f → a8 ≡ on8 f → a9 ≡ on9 f → a11 ≡ on11 f → a12 ≡ on12 f → a13 ≡ on13 f → a14 ≡ on14 f → a16 ≡ on16 f → a22 ≡ on22 f → a28 ≡ on28 f → (a5 && (a7 && (a8 && (a9 && (a11 && (a12 && (a13 && (a14 && (a16 && (a22 && (a28 && true))))))))))) ≡ every (holds f) fixedRules
 unfolding every holds
 kept-fixed f a5 a7 a8 a9 a11 a12 a13 a14 a16 a22 a28 e5 e7 e8 e9 e11 e12 e13 e14 e16 e22 e28 = λ i. e5 i && (e7 i && (e8 i && (e9 i && (e11 i && (e12 i && (e13 i && (e14 i && (e16 i && (e22 i && (e28 i && true))))))))))
@@ -158,17 +153,22 @@ pub kept-day : (f : Facts) (a6 a18 a31 a34 : Bool) → a6 ≡ on6 f → a18 ≡ 
 unfolding every holds
 kept-day f a6 a18 a31 a34 e6 e18 e31 e34 = λ i. e6 i && (e18 i && (e31 i && (e34 i && true)))
 
-pub kept-first : (f : Facts) (a5 a6 a7 a8 a9 a10 a11 a12 a13 a14 : Bool) → a5 ≡ on5 f → a6 ≡ on6 f → a7 ≡ on7 f → a8 ≡ on8 f → a9 ≡ on9 f → a10 ≡ on10 f → a11 ≡ on11 f → a12 ≡ on12 f → a13 ≡ on13 f → a14 ≡ on14 f → (a5 && (a6 && (a7 && (a8 && (a9 && (a10 && (a11 && (a12 && (a13 && (a14 && true)))))))))) ≡ every (holds f) firstTen
-unfolding every holds
-kept-first f a5 a6 a7 a8 a9 a10 a11 a12 a13 a14 e5 e6 e7 e8 e9 e10 e11 e12 e13 e14 = λ i. e5 i && (e6 i && (e7 i && (e8 i && (e9 i && (e10 i && (e11 i && (e12 i && (e13 i && (e14 i && true)))))))))
+-- the outcomes of the rules, in the order of a list
+pub general-outcomes : (f : Facts) (a1 a2 a3 a4 : Bool) → a1 ≡ on1 f → a2 ≡ on2 f → a3 ≡ on3 f → a4 ≡ on4 f → (a1 ∷ a2 ∷ a3 ∷ a4 ∷ []) ≡ map (holds f) generalOrder
+unfolding holds
+general-outcomes f a1 a2 a3 a4 e1 e2 e3 e4 = λ i. e1 i ∷ e2 i ∷ e3 i ∷ e4 i ∷ []
 
-pub kept-second : (f : Facts) (a15 a16 a17 a18 a19 a20 a21 a22 a23 a24 : Bool) → a15 ≡ on15 f → a16 ≡ on16 f → a17 ≡ on17 f → a18 ≡ on18 f → a19 ≡ on19 f → a20 ≡ on20 f → a21 ≡ on21 f → a22 ≡ on22 f → a23 ≡ on23 f → a24 ≡ on24 f → (a15 && (a16 && (a17 && (a18 && (a19 && (a20 && (a21 && (a22 && (a23 && (a24 && true)))))))))) ≡ every (holds f) secondTen
-unfolding every holds
-kept-second f a15 a16 a17 a18 a19 a20 a21 a22 a23 a24 e15 e16 e17 e18 e19 e20 e21 e22 e23 e24 = λ i. e15 i && (e16 i && (e17 i && (e18 i && (e19 i && (e20 i && (e21 i && (e22 i && (e23 i && (e24 i && true)))))))))
+pub first-outcomes : (f : Facts) (a5 a6 a7 a8 a9 a10 a11 a12 a13 a14 : Bool) → a5 ≡ on5 f → a6 ≡ on6 f → a7 ≡ on7 f → a8 ≡ on8 f → a9 ≡ on9 f → a10 ≡ on10 f → a11 ≡ on11 f → a12 ≡ on12 f → a13 ≡ on13 f → a14 ≡ on14 f → (a5 ∷ a6 ∷ a7 ∷ a8 ∷ a9 ∷ a10 ∷ a11 ∷ a12 ∷ a13 ∷ a14 ∷ []) ≡ map (holds f) firstTen
+unfolding holds
+first-outcomes f a5 a6 a7 a8 a9 a10 a11 a12 a13 a14 e5 e6 e7 e8 e9 e10 e11 e12 e13 e14 = λ i. e5 i ∷ e6 i ∷ e7 i ∷ e8 i ∷ e9 i ∷ e10 i ∷ e11 i ∷ e12 i ∷ e13 i ∷ e14 i ∷ []
 
-pub kept-last : (f : Facts) (a25 a26 a27 a28 a29 a30 a31 a32 a33 a34 : Bool) → a25 ≡ on25 f → a26 ≡ on26 f → a27 ≡ on27 f → a28 ≡ on28 f → a29 ≡ on29 f → a30 ≡ on30 f → a31 ≡ on31 f → a32 ≡ on32 f → a33 ≡ on33 f → a34 ≡ on34 f → (a25 && (a26 && (a27 && (a28 && (a29 && (a30 && (a31 && (a32 && (a33 && (a34 && true)))))))))) ≡ every (holds f) lastTen
-unfolding every holds
-kept-last f a25 a26 a27 a28 a29 a30 a31 a32 a33 a34 e25 e26 e27 e28 e29 e30 e31 e32 e33 e34 = λ i. e25 i && (e26 i && (e27 i && (e28 i && (e29 i && (e30 i && (e31 i && (e32 i && (e33 i && (e34 i && true)))))))))
+pub second-outcomes : (f : Facts) (a15 a16 a17 a18 a19 a20 a21 a22 a23 a24 : Bool) → a15 ≡ on15 f → a16 ≡ on16 f → a17 ≡ on17 f → a18 ≡ on18 f → a19 ≡ on19 f → a20 ≡ on20 f → a21 ≡ on21 f → a22 ≡ on22 f → a23 ≡ on23 f → a24 ≡ on24 f → (a15 ∷ a16 ∷ a17 ∷ a18 ∷ a19 ∷ a20 ∷ a21 ∷ a22 ∷ a23 ∷ a24 ∷ []) ≡ map (holds f) secondTen
+unfolding holds
+second-outcomes f a15 a16 a17 a18 a19 a20 a21 a22 a23 a24 e15 e16 e17 e18 e19 e20 e21 e22 e23 e24 = λ i. e15 i ∷ e16 i ∷ e17 i ∷ e18 i ∷ e19 i ∷ e20 i ∷ e21 i ∷ e22 i ∷ e23 i ∷ e24 i ∷ []
+
+pub last-outcomes : (f : Facts) (a25 a26 a27 a28 a29 a30 a31 a32 a33 a34 : Bool) → a25 ≡ on25 f → a26 ≡ on26 f → a27 ≡ on27 f → a28 ≡ on28 f → a29 ≡ on29 f → a30 ≡ on30 f → a31 ≡ on31 f → a32 ≡ on32 f → a33 ≡ on33 f → a34 ≡ on34 f → (a25 ∷ a26 ∷ a27 ∷ a28 ∷ a29 ∷ a30 ∷ a31 ∷ a32 ∷ a33 ∷ a34 ∷ []) ≡ map (holds f) lastTen
+unfolding holds
+last-outcomes f a25 a26 a27 a28 a29 a30 a31 a32 a33 a34 e25 e26 e27 e28 e29 e30 e31 e32 e33 e34 = λ i. e25 i ∷ e26 i ∷ e27 i ∷ e28 i ∷ e29 i ∷ e30 i ∷ e31 i ∷ e32 i ∷ e33 i ∷ e34 i ∷ []
 
 -- payer_of
 pub payer-is : (t : Text) (a b c d e f g : Bool) → a ≡ (t is "0") → b ≡ foreignCode t → c ≡ inn10 t → d ≡ inn12 t → e ≡ digits 5 t → f ≡ digits 10 t → g ≡ digits 12 t

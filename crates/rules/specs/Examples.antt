@@ -9,7 +9,7 @@ use Rattle.texts.specs.Texts.{every, any, same, between, are, among, valueOf, v
 use Rattle.texts.specs.Answers.{Answer, success, refusal}
 use Rattle.rules.specs.Sheet.{slotOf, cell, cellText, cellOk, cellOf, textOf, slotOk, _⟨_⟩}
 use Rattle.rules.specs.Forms.{person, document, leap, monthDays, gregorian, date}
-use Rattle.rules.specs.Rules.{classOf, given, firstBlank, rules, testOf, fieldOf, keeps, firstBroken}
+use Rattle.rules.specs.Rules.{classOf, given, firstBlank, rules, testOf, fieldOf, keeps, firstNot, firstBroken}
 use Rattle.rules.specs.Verdicts.{judged, checked}
 
 infix 20 _≔_
@@ -71,5 +71,5 @@ table =
     ∷ []
 
 examples : map (λ (e : List Change × Answer). checked (sheetOf (changed s (e .0)))) table ≡ map (λ (e : List Change × Answer). e .1) table
-unfolding _≔_ changed sheetOf s accepted broken table every any same between are among valueOf value number _isOneOf_ _beginsOneOf_ slotOf cell cellText cellOk cellOf textOf slotOk _⟨_⟩ person document leap monthDays gregorian date classOf given firstBlank rules testOf fieldOf keeps firstBroken judged checked
+unfolding _≔_ changed sheetOf s accepted broken table every any same between are among valueOf value number _isOneOf_ _beginsOneOf_ slotOf cell cellText cellOk cellOf textOf slotOk _⟨_⟩ person document leap monthDays gregorian date classOf given firstBlank rules testOf fieldOf keeps firstNot judged checked
 examples = refl

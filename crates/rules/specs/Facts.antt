@@ -2,14 +2,14 @@
 -- of the promise needs none of this; proofs/On.antt shows that the tests on facts are the rules. Assumes nothing.
 use mathlib.Core.Bool.{Bool, true, false, not, cond, _&&_, _||_}
 use mathlib.Core.List.{List, [], _∷_, _++_}
-use Prim.Native.Nat.{ℕ}
+use Prim.Native.Nat.{ℕ, suc}
 use lib.Dec.{eqb}
 use lib.ListN.{length}
 use Rattle.texts.specs.Quoted.{Text}
-use Rattle.texts.specs.Texts.{every, any, among, between, blank, _is_, _isOneOf_, _begins_, _beginsOneOf_, digits, digitsNotZero, digitsNot00, number}
+use Rattle.texts.specs.Texts.{every, among, between, blank, _is_, _isOneOf_, _begins_, _beginsOneOf_, digits, digitsNotZero, number}
 use Rattle.rules.specs.Sheet.{sheetSize, textOf}
 use Rattle.rules.specs.Forms.{_⇒_, uin, foreignCode, inn10, inn12, kpp, statuses, customsGroup, letterPair, person, document, date}
-use Rattle.rules.specs.Rules.{Sheet, given}
+use Rattle.rules.specs.Rules.{Sheet, given, firstNot}
 use Rattle.rules.specs.declared.Class.{Class}
 use Rattle.rules.specs.declared.Class.the-variants.{A, B, O}
 use Rattle.rules.specs.declared.forms.Wanted.{Wanted}
@@ -345,9 +345,13 @@ unfoldable pub holds : Facts → ℕ → Bool
 holds f n = look (generalOn ++ specialOn) n f
 
 -- the first broken one of some rules, 0 where none is
-unfoldable pub firstFailed : Facts → List ℕ → ℕ
-firstFailed f [] = 0
-firstFailed f (n ∷ ns) = cond (holds f n) (firstFailed f ns) n
+abbrev pub firstFailed : Facts → List ℕ → ℕ
+firstFailed f ns = firstNot (holds f) ns
+
+-- the place of the first that is false, the length where none is
+unfoldable pub firstFalse : List Bool → ℕ
+firstFalse [] = 0
+firstFalse (b ∷ bs) = cond b (suc (firstFalse bs)) 0
 
 -- the order of testing in two parts: for every sheet, and for classes A and B
 abbrev pub generalOrder : List ℕ

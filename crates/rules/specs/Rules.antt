@@ -1,11 +1,9 @@
 -- Classes and rules 1 to 34 (document 01, "Rules"), judged knowing sheets only. Assumes nothing.
-use mathlib.Core.Bool.{Bool, true, false, not, cond, _&&_, _||_}
+use mathlib.Core.Bool.{Bool, true, not, cond, _&&_, _||_}
 use mathlib.Core.List.{List, [], _∷_, _++_, map}
 use Prim.Native.Nat.{ℕ}
 use Prim.Native.String.{String}
 use lib.Dec.{eqb}
-use lib.ListN.{getD}
-use Rattle.texts.specs.Quoted.{Text}
 use Rattle.texts.specs.Texts.{every, between, blank, _is_, _isOneOf_, _begins_, _beginsOneOf_, digits, digitsNotZero}
 use Rattle.rules.specs.Sheet.{fieldIn, slotOf, textOf, _⟨_⟩}
 use Rattle.rules.specs.Forms.{_⇒_, uin, foreignCode, inn10, inn12, inn, kpp, statuses, customsGroup, letterPair, person, document, date}
@@ -238,7 +236,11 @@ keeps s n = testOf rules n s
 unfoldable pub keepsAll : Sheet → Bool
 keepsAll s = every (keeps s) order
 
--- the first broken one of some rules, 0 where none is
-unfoldable pub firstBroken : Sheet → List ℕ → ℕ
-firstBroken s [] = 0
-firstBroken s (n ∷ ns) = cond (keeps s n) (firstBroken s ns) n
+-- the first of some numbers that fails a test, 0 where none does
+unfoldable pub firstNot : (ℕ → Bool) → List ℕ → ℕ
+firstNot p [] = 0
+firstNot p (n ∷ ns) = cond (p n) (firstNot p ns) n
+
+-- the first broken one of some rules
+abbrev pub firstBroken : Sheet → List ℕ → ℕ
+firstBroken s ns = firstNot (keeps s) ns

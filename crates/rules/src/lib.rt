@@ -1,8 +1,10 @@
 // The rules of budget payment orders, over sheets (document 01, "Rules").
 ghost use mathlib.Core.Path.{_≡_};
+ghost use mathlib.Core.List.{map};
+ghost use lib.ListN.{getD};
 ghost use Rattle.texts.specs.Texts.{every};
 ghost use Rattle.rules.specs.Rules.{given, firstBlank, needed, rules, fieldOf};
-ghost use Rattle.rules.specs.Facts.{classOn, holds, firstFailed, generalOrder, firstTen, secondTen, lastTen, specialOrder, fixedRules, statusRules, basisRules, documentRules, dayRules};
+ghost use Rattle.rules.specs.Facts.{classOn, holds, firstFalse, firstFailed, generalOrder, firstTen, secondTen, lastTen, specialOrder, fixedRules, statusRules, basisRules, documentRules, dayRules};
 ghost use Rattle.rules.specs.Verdicts.{Checked};
 
 pub mod facts;
@@ -81,69 +83,25 @@ const RULE_FIELDS: [u8; 35] = [
 
 const NEEDED: [u8; 12] = [3, 4, 5, 6, 7, 8, 9, 10, 11, 12, 13, 14];
 
-// Whether a rule is kept.
-pub fn keeps(rule: Rule, f: Facts) -> bool
-    ensures { λ r. ⌜ r ≡ holds f (rule .0) ⌝ }
-{
-    let n = rule.0;
-    match n {
-        1 => tests::keeps1(f),
-        2 => tests::keeps2(f),
-        3 => tests::keeps3(f),
-        4 => tests::keeps4(f),
-        5 => tests::keeps5(f),
-        6 => tests::keeps6(f),
-        7 => tests::keeps7(f),
-        8 => tests::keeps8(f),
-        9 => tests::keeps9(f),
-        10 => tests::keeps10(f),
-        11 => tests::keeps11(f),
-        12 => tests::keeps12(f),
-        13 => tests::keeps13(f),
-        14 => tests::keeps14(f),
-        15 => tests::keeps15(f),
-        16 => tests::keeps16(f),
-        17 => tests::keeps17(f),
-        18 => tests::keeps18(f),
-        19 => tests::keeps19(f),
-        20 => tests::keeps20(f),
-        21 => tests::keeps21(f),
-        22 => tests::keeps22(f),
-        23 => tests::keeps23(f),
-        24 => tests::keeps24(f),
-        25 => tests::keeps25(f),
-        26 => tests::keeps26(f),
-        27 => tests::keeps27(f),
-        28 => tests::keeps28(f),
-        29 => tests::keeps29(f),
-        30 => tests::keeps30(f),
-        31 => tests::keeps31(f),
-        32 => tests::keeps32(f),
-        33 => tests::keeps33(f),
-        34 => tests::keeps34(f),
-        _ => true,
-    }
-}
-
-// The first broken rule of a table, 0 where none is.
-pub fn first_broken(f: Facts, table: &[u8]) -> u8
-    ensures { λ r. ⌜ r ≡ firstFailed f (now (table .entry)) ⌝ }
+// The place of the first that is false, the length where none is.
+fn first_false(outcomes: &[bool]) -> usize
+    ensures { λ r. ⌜ r ≡ firstFalse (now (outcomes .entry)) ⌝ }
 {
     let mut i = 0;
-    while i < table.len() {
-        let n = table[i];
-        if !keeps(Rule(n), f) {
-            return n;
+    while i < outcomes.len() {
+        if !outcomes[i] {
+            return i;
         }
         i += 1;
     }
-    0
+    i
 }
 
-pub fn kept_general(f: Facts) -> bool
-    ensures { λ r. ⌜ r ≡ every (holds f) generalOrder ⌝ }
+// The first broken one of some rules, by whether each is kept; 0 where none is broken.
+pub fn first_broken(outcomes: &[bool], order: &[u8]) -> u8
+    ensures { λ r. ⌜ r ≡ getD (now (order .entry)) (firstFalse (now (outcomes .entry))) 0 ⌝ }
 {
-    tests::keeps1(f) & (tests::keeps2(f) & (tests::keeps3(f) & (tests::keeps4(f) & true)))
+    at(order, first_false(outcomes))
 }
 
 // Of the rules for classes A and B: those that ask nothing of 101, 106, 108 and 109; then, each with what the ones before
@@ -194,71 +152,87 @@ pub fn kept_day(f: Facts) -> bool
     tests::keeps6(f) & (tests::keeps18(f) & (tests::keeps31(f) & (tests::keeps34(f) & true)))
 }
 
-fn kept_first_ten(f: Facts) -> bool
-    ensures { λ r. ⌜ r ≡ every (holds f) firstTen ⌝ }
+// Whether each is kept, in the order of the list.
+fn general_outcomes(f: Facts) -> [bool; 4]
+    ensures { λ r. ⌜ r ≡ map (holds f) generalOrder ⌝ }
 {
-    tests::keeps5(f)
-        & (tests::keeps6(f)
-            & (tests::keeps7(f)
-                & (tests::keeps8(f)
-                    & (tests::keeps9(f)
-                        & (tests::keeps10(f)
-                            & (tests::keeps11(f)
-                                & (tests::keeps12(f)
-                                    & (tests::keeps13(f) & (tests::keeps14(f) & true)))))))))
+    [
+        tests::keeps1(f),
+        tests::keeps2(f),
+        tests::keeps3(f),
+        tests::keeps4(f),
+    ]
 }
 
-fn kept_second_ten(f: Facts) -> bool
-    ensures { λ r. ⌜ r ≡ every (holds f) secondTen ⌝ }
+fn first_outcomes(f: Facts) -> [bool; 10]
+    ensures { λ r. ⌜ r ≡ map (holds f) firstTen ⌝ }
 {
-    tests::keeps15(f)
-        & (tests::keeps16(f)
-            & (tests::keeps17(f)
-                & (tests::keeps18(f)
-                    & (tests::keeps19(f)
-                        & (tests::keeps20(f)
-                            & (tests::keeps21(f)
-                                & (tests::keeps22(f)
-                                    & (tests::keeps23(f) & (tests::keeps24(f) & true)))))))))
+    [
+        tests::keeps5(f),
+        tests::keeps6(f),
+        tests::keeps7(f),
+        tests::keeps8(f),
+        tests::keeps9(f),
+        tests::keeps10(f),
+        tests::keeps11(f),
+        tests::keeps12(f),
+        tests::keeps13(f),
+        tests::keeps14(f),
+    ]
 }
 
-fn kept_last_ten(f: Facts) -> bool
-    ensures { λ r. ⌜ r ≡ every (holds f) lastTen ⌝ }
+fn second_outcomes(f: Facts) -> [bool; 10]
+    ensures { λ r. ⌜ r ≡ map (holds f) secondTen ⌝ }
 {
-    tests::keeps25(f)
-        & (tests::keeps26(f)
-            & (tests::keeps27(f)
-                & (tests::keeps28(f)
-                    & (tests::keeps29(f)
-                        & (tests::keeps30(f)
-                            & (tests::keeps31(f)
-                                & (tests::keeps32(f)
-                                    & (tests::keeps33(f) & (tests::keeps34(f) & true)))))))))
+    [
+        tests::keeps15(f),
+        tests::keeps16(f),
+        tests::keeps17(f),
+        tests::keeps18(f),
+        tests::keeps19(f),
+        tests::keeps20(f),
+        tests::keeps21(f),
+        tests::keeps22(f),
+        tests::keeps23(f),
+        tests::keeps24(f),
+    ]
 }
 
-// Where all are kept, as they mostly are, no rule is looked for; else in the first list that has a broken one.
+fn last_outcomes(f: Facts) -> [bool; 10]
+    ensures { λ r. ⌜ r ≡ map (holds f) lastTen ⌝ }
+{
+    [
+        tests::keeps25(f),
+        tests::keeps26(f),
+        tests::keeps27(f),
+        tests::keeps28(f),
+        tests::keeps29(f),
+        tests::keeps30(f),
+        tests::keeps31(f),
+        tests::keeps32(f),
+        tests::keeps33(f),
+        tests::keeps34(f),
+    ]
+}
+
 fn broken_general(f: Facts) -> u8
     ensures { λ r. ⌜ r ≡ firstFailed f generalOrder ⌝ }
 {
-    if kept_general(f) {
-        return 0;
-    }
-    first_broken(f, &GENERAL)
+    first_broken(&general_outcomes(f), &GENERAL)
 }
 
 fn broken_special(f: Facts) -> u8
     ensures { λ r. ⌜ r ≡ firstFailed f specialOrder ⌝ }
 {
-    if !kept_first_ten(f) {
-        return first_broken(f, &FIRST_TEN);
+    let first = first_broken(&first_outcomes(f), &FIRST_TEN);
+    if first != 0 {
+        return first;
     }
-    if !kept_second_ten(f) {
-        return first_broken(f, &SECOND_TEN);
+    let second = first_broken(&second_outcomes(f), &SECOND_TEN);
+    if second != 0 {
+        return second;
     }
-    if !kept_last_ten(f) {
-        return first_broken(f, &LAST_TEN);
-    }
-    0
+    first_broken(&last_outcomes(f), &LAST_TEN)
 }
 
 pub fn class_of(f: Facts) -> Class
