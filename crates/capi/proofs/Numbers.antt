@@ -8,7 +8,7 @@ use Rattle.rules.specs.Verdicts.{verdictAnswer, checked, Checked}
 use Rattle.rules.specs.declared.Class.{Class}
 use Rattle.rules.specs.declared.Class.the-variants.{A, B, O}
 use Rattle.rules.specs.declared.Rule.{Rule}
-use Rattle.rules.specs.declared.sheet.Field.{Field}
+use Rattle.sheets.specs.declared.sheet.Field.{Field}
 use Rattle.rules.specs.declared.Verdict.{Verdict}
 use Rattle.rules.specs.declared.Verdict.the-variants.{Malformed, Broken, Accepted}
 use Rattle.texts.specs.Answers.{Answer, numberOf}

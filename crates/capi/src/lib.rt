@@ -15,7 +15,7 @@ use drafts::revision::Revision;
 use orders::complete::Completed;
 use rules::Class;
 use rules::Verdict;
-use rules::sheet::Field;
+use sheets::sheet::Field;
 
 #[repr(C)]
 pub struct Check {

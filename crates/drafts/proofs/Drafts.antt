@@ -15,8 +15,8 @@ use lib.ListN.{length, getD, replicate}
 use Rattle.texts.specs.Numbers.{bytes4}
 use Rattle.texts.specs.Buffers.{put, putAt, zeroed}
 use Rattle.texts.proofs.Puts.{put-fits, length-put, put-put, put-none, put-next, put-whole}
-use Rattle.rules.specs.Sheet.{cell, slotOf}
-use Rattle.rules.specs.declared.sheet.Field.{Field}
+use Rattle.sheets.specs.Sheet.{cell, slotOf}
+use Rattle.sheets.specs.declared.sheet.Field.{Field}
 use Rattle.drafts.specs.Tests.{_⇒_}
 use Rattle.drafts.specs.Message.{Bytes, fieldOf, revisionOf, messageText, readTests, readable, readingOf, readAnswer}
 use Rattle.drafts.specs.Draft.{slotSize, draftSize, standing, slotIn, slotCell, slotBytes, draftFormed, freshDraft, beginTests, beginningOf, begunFrom, slotStanding, standingOf, clashes, word, postTests, postingOf, stored, postedTo, postAnswer, cells, sheetOf, copyTests, copyingOf, copiedTo, copyAnswer}

@@ -12,7 +12,7 @@ use lib.ListN.{length, take, drop, replicate, length-replicate, replicate-append
 use lib.Seq.{take-at}
 use Rattle.texts.specs.Texts.{between, every, are, same}
 use Rattle.texts.proofs.Bools.{both}
-use Rattle.rules.specs.Sheet.{slotOf, cellText, cellOk}
+use Rattle.sheets.specs.Sheet.{slotOf, cellText, cellOk}
 use Rattle.drafts.specs.Tests.{_⇒_, answerBy, bufferBy}
 use Rattle.drafts.specs.Message.{Bytes, fieldOf, revisionOf, messageText, readTests, readable}
 use Rattle.drafts.specs.Draft.{slotSize, draftSize, slotIn, slotRevision, slotCell, slotText, slotBytes, slotFormed, draftFormed, freshDraft, standing, slotStanding, standingOf, clashes, word, kept, postTests, postingOf, stored, postedTo}

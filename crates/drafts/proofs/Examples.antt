@@ -6,7 +6,7 @@ use lib.ListN.{replicate}
 use Rattle.texts.specs.Quoted.{bytes}
 use Rattle.texts.specs.Texts.{between, every, are, same}
 use Rattle.texts.specs.Answers.{Answer, success, refusal}
-use Rattle.rules.specs.Sheet.{slotOf, cellText, cellOk}
+use Rattle.sheets.specs.Sheet.{slotOf, cellText, cellOk}
 use Rattle.drafts.specs.Message.{messageText, readTests, readable, readingOf, headOf, messageOf}
 use Rattle.drafts.specs.Draft.{slotIn, slotCell, slotText, slotBytes, slotFormed, slotsFormed, draftFormed, freshDraft, slotStanding, standingOf, postTests, postingOf}
 use Rattle.drafts.specs.History.{names, given, emptySlot, endSlot}

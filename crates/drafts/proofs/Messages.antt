@@ -16,8 +16,8 @@ use Rattle.texts.specs.Texts.{between}
 use Rattle.texts.specs.Numbers.{be2, be4, bytes4}
 use Rattle.texts.specs.Buffers.{put, putAt}
 use Rattle.texts.proofs.Puts.{put-fits, length-put, put-put, mid-put}
-use Rattle.rules.specs.Sheet.{slotOf}
-use Rattle.rules.specs.declared.sheet.Field.{Field}
+use Rattle.sheets.specs.Sheet.{slotOf}
+use Rattle.sheets.specs.declared.sheet.Field.{Field}
 use Rattle.drafts.specs.Tests.{passes}
 use Rattle.drafts.specs.Message.{Bytes, lengthOf, versionOf, fieldOf, revisionOf, messageText, readTests, readable, readingOf, readAnswer, headOf, messageOf, writeTests, writingOf, writtenOf, writeAnswer}
 use Rattle.drafts.specs.Promises.{Reads, Writes}

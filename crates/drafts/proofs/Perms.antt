@@ -10,7 +10,7 @@ use borrow.Author.Tests.{eqb-true, eqb-false}
 use lib.Dec.{eqb}
 use lib.ListN.{length, getD}
 use lib.Seq.{ext-getD, getD-take, getD-drop}
-use Rattle.rules.specs.Sheet.{fields, placeOf, slotOf}
+use Rattle.sheets.specs.Sheet.{fields, placeOf, slotOf}
 use Rattle.drafts.specs.Message.{fieldOf, revisionOf, readable}
 use Rattle.drafts.specs.Draft.{slotSize, draftSize, slotIn}
 use Rattle.drafts.specs.History.{postedAll, names, given, highest, firstText, endSlot, AllBytes, NoClash}

@@ -11,7 +11,7 @@ use lib.ListN.{length, take, drop, length-append, length-drop}
 use lib.Seq.{length-take-le, take-all, drop-at, take-append-le, drop-append-le}
 use Rattle.texts.specs.Texts.{between, every}
 use Rattle.texts.proofs.Bools.{both}
-use Rattle.rules.specs.Sheet.{slots, cellOk, cellOf, textOf, slotOk, wellFormed}
+use Rattle.sheets.specs.Sheet.{slots, cellOk, cellOf, textOf, slotOk, wellFormed}
 use Rattle.drafts.specs.Draft.{draftSize, slotIn, slotCell, slotText, slotFormed, draftFormed, cells, sheetOf}
 use Rattle.drafts.proofs.Slots.{length-slot-in, formed-means}
 

@@ -16,7 +16,7 @@ use Rattle.texts.specs.Texts.{between, every, are}
 use Rattle.texts.specs.Buffers.{put}
 use Rattle.texts.proofs.Bools.{both}
 use Rattle.texts.proofs.Puts.{length-put, take-put, drop-put, mid-put}
-use Rattle.rules.specs.Sheet.{cell, fields, placeOf, slotOf, cellOk}
+use Rattle.sheets.specs.Sheet.{cell, fields, placeOf, slotOf, cellOk}
 use Rattle.drafts.specs.Draft.{slotSize, draftSize, slotIn, slotRevision, slotCell, slotBytes, slotFormed, slotsFormed, draftFormed}
 use Rattle.drafts.proofs.Messages.{be4-bytes4}
 

@@ -9,7 +9,7 @@ use Rattle.texts.specs.Texts.{between, same, blank}
 use Rattle.texts.specs.Numbers.{be4, bytes4}
 use Rattle.texts.specs.Buffers.{put}
 use Rattle.texts.specs.Answers.{Answer, success, refusal}
-use Rattle.rules.specs.Sheet.{slotOf, sheetSize, cell, cellText, cellOk}
+use Rattle.sheets.specs.Sheet.{slotOf, sheetSize, cell, cellText, cellOk}
 use Rattle.drafts.specs.Tests.{Test, _⇒_, answerBy, bufferBy}
 use Rattle.drafts.specs.Message.{fieldOf, revisionOf, messageText, readTests}
 use Rattle.drafts.specs.declared.revision.Standing.{Standing}

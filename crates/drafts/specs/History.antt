@@ -7,7 +7,7 @@ use Prim.Native.Nat.{ℕ, _<_, _≤_, max}
 use lib.Dec.{eqb}
 use lib.ListN.{replicate}
 use Rattle.texts.specs.Quoted.{Text}
-use Rattle.rules.specs.Sheet.{slotOf}
+use Rattle.sheets.specs.Sheet.{slotOf}
 use Rattle.drafts.specs.Message.{Bytes, fieldOf, revisionOf, messageText, readable}
 use Rattle.drafts.specs.Draft.{slotSize, slotBytes, freshDraft, postedTo}
 

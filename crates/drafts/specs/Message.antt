@@ -8,7 +8,7 @@ use Rattle.texts.specs.Quoted.{Text}
 use Rattle.texts.specs.Numbers.{be2, be4, bytes4}
 use Rattle.texts.specs.Buffers.{put}
 use Rattle.texts.specs.Answers.{Answer, success, refusal}
-use Rattle.rules.specs.Sheet.{slotOf}
+use Rattle.sheets.specs.Sheet.{slotOf}
 use Rattle.drafts.specs.Tests.{Test, _⇒_, passes, answerBy, bufferBy}
 use Rattle.drafts.specs.declared.message.Reading.{Reading}
 use Rattle.drafts.specs.declared.message.Reading.the-variants as reading

@@ -5,8 +5,8 @@ use mathlib.Core.List.{List, [], _∷_, _++_, List·Permᴰ}
 use Prim.Native.Nat.{ℕ, _<_}
 use lib.ListN.{length, take}
 use Rattle.texts.specs.Answers.{success}
-use Rattle.rules.specs.Sheet.{textOf, wellFormed}
-use Rattle.rules.specs.declared.sheet.Field.{Field}
+use Rattle.sheets.specs.Sheet.{textOf, wellFormed}
+use Rattle.sheets.specs.declared.sheet.Field.{Field}
 use Rattle.drafts.specs.Message.{messageText, readingOf, readAnswer, messageOf, writingOf, writtenOf, writeAnswer}
 use Rattle.drafts.specs.Draft.{slotIn, slotText, draftSize, draftFormed, beginningOf, begunFrom, beginAnswer, postingOf, postedTo, postAnswer, copyingOf, copiedTo, copyAnswer}
 use Rattle.drafts.specs.History.{postedAll, endSlot, Ends, AllBytes, NoClash}

@@ -13,7 +13,7 @@ use Rattle.texts.specs.Texts.{between, blank, every}
 use Rattle.texts.specs.Buffers.{put, putAt}
 use Rattle.texts.proofs.Puts.{put-fits}
 use Rattle.texts.proofs.Bools.{both}
-use Rattle.rules.specs.Sheet.{cell, slots, cellText, cellOf, textOf}
+use Rattle.sheets.specs.Sheet.{cell, slots, cellText, cellOf, textOf}
 use Rattle.orders.specs.Fillings.{joined}
 use Rattle.orders.specs.Search.{places}
 use Rattle.orders.specs.Filled.{Entry, filledAt, filledWith}

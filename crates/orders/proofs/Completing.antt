@@ -12,13 +12,14 @@ use Rattle.texts.specs.Answers.{success, refusal}
 use Rattle.texts.specs.Buffers.{putAt}
 use Rattle.texts.proofs.Puts.{put-fits, put-whole}
 use Rattle.rules.specs.Rules.{budget, rules, fieldOf, keeps, firstNot, firstBroken, testOf}
-use Rattle.rules.specs.Sheet.{slotOf, _⟨_⟩}
-use Rattle.rules.specs.Facts.{factsOf, factsIn, headOf, generalOf, accountOf, standingOf, holds, on1, on2, on3, ordinary, firstFailed}
+use Rattle.sheets.specs.Sheet.{slotOf, _⟨_⟩}
+use Rattle.sheets.specs.Facts.{factsOf, factsIn, headOf, generalOf, accountOf, standingOf}
+use Rattle.rules.specs.Tests.{holds, on1, on2, on3, ordinary, firstFailed}
 use Rattle.rules.proofs.On.{ordinary-on}
-use Rattle.rules.proofs.Ways.{facts-sized}
+use Rattle.sheets.proofs.Ways.{facts-sized}
 use Rattle.rules.proofs.First.{numbered, none-kept}
-use Rattle.rules.specs.declared.facts.Facts.{Facts}
-use Rattle.rules.specs.declared.sheet.Field.{Field}
+use Rattle.sheets.specs.declared.facts.Facts.{Facts}
+use Rattle.sheets.specs.declared.sheet.Field.{Field}
 use Rattle.drafts.specs.Draft.{draftFormed, sheetOf, copyTests, copyingOf, copiedTo, copyAnswer}
 use Rattle.drafts.specs.Promises.{Copies}
 use Rattle.drafts.specs.declared.draft.Copied.{Copied}

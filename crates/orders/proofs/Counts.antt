@@ -7,10 +7,11 @@ use Prim.Native.String.{String}
 use Rattle.texts.specs.Quoted.{bytes, words}
 use Rattle.texts.specs.Texts.{every, any, are, among, same, between, value, valueOf, number, _isOneOf_, _beginsOneOf_}
 use Rattle.texts.specs.Buffers.{put, putAt}
-use Rattle.rules.specs.Sheet.{cell, slotOf, cellText, cellOf, textOf, _⟨_⟩}
-use Rattle.rules.specs.Forms.{person, document, leap, monthDays, gregorian, date}
-use Rattle.rules.specs.Rules.{rules, testOf, keeps, given}
-use Rattle.rules.specs.Facts.{generalOf, accountOf, codeOf, payerOf, formOf, wantedBy, groupsOf, standingOf, suits, basisOf, documentOf, dayOf, headOf, sidesOf, restOf, factsOf, holds}
+use Rattle.sheets.specs.Sheet.{cell, slotOf, cellText, cellOf, textOf, _⟨_⟩, given}
+use Rattle.sheets.specs.Forms.{person, document, leap, monthDays, gregorian, date}
+use Rattle.rules.specs.Rules.{rules, testOf, keeps}
+use Rattle.sheets.specs.Facts.{generalOf, accountOf, codeOf, payerOf, formOf, wantedBy, groupsOf, standingOf, basisOf, documentOf, dayOf, headOf, sidesOf, restOf, factsOf}
+use Rattle.rules.specs.Tests.{suits, holds}
 use Rattle.orders.specs.Fillings.{joined, Look, found, none, look, firstFilling}
 use Rattle.orders.specs.Search.{statusAt, basisAt, documentAt, dayAt, passesAt, places, picks, firstPick}
 use Rattle.orders.specs.Filled.{filledAt, baseOf, pickedOf}

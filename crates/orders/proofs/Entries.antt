@@ -9,14 +9,14 @@ use lib.Dec.{leb, eqb}
 use lib.ListN.{length, getD, List·getD-map, List·getD-eq-default}
 use Rattle.texts.specs.Quoted.{Text}
 use Rattle.texts.specs.Texts.{every, any, same, between, _isOneOf_}
-use Rattle.rules.specs.Sheet.{cellText}
-use Rattle.rules.specs.Forms.{person, document, date}
-use Rattle.rules.specs.Facts.{standingOf, basisOf, documentOf, dayOf}
-use Rattle.rules.specs.declared.facts.Standing.{Standing}
-use Rattle.rules.specs.declared.facts.Basis.{Basis}
-use Rattle.rules.specs.declared.facts.Document.{Document}
-use Rattle.rules.specs.declared.facts.Day.{Day}
-use Rattle.rules.specs.declared.facts.Facts.{Facts}
+use Rattle.sheets.specs.Sheet.{cellText}
+use Rattle.sheets.specs.Forms.{person, document, date}
+use Rattle.sheets.specs.Facts.{standingOf, basisOf, documentOf, dayOf}
+use Rattle.sheets.specs.declared.facts.Standing.{Standing}
+use Rattle.sheets.specs.declared.facts.Basis.{Basis}
+use Rattle.sheets.specs.declared.facts.Document.{Document}
+use Rattle.sheets.specs.declared.facts.Day.{Day}
+use Rattle.sheets.specs.declared.facts.Facts.{Facts}
 use Rattle.orders.specs.Fillings.{statusTexts, basisTexts, zeroTexts}
 use Rattle.orders.specs.Search.{statusAt, basisAt, documentAt, dayAt}
 use Rattle.orders.specs.Rows.{statusRows, noRow}

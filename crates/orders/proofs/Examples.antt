@@ -3,7 +3,7 @@ use mathlib.Core.Path.{_≡_, refl}
 use mathlib.Core.List.{List, [], _∷_, _++_}
 use Prim.Native.Nat.{ℕ}
 use Rattle.texts.specs.Quoted.{bytes}
-use Rattle.rules.specs.Sheet.{slotOf}
+use Rattle.sheets.specs.Sheet.{slotOf}
 use Rattle.drafts.specs.Message.{readTests, readingOf}
 use Rattle.orders.specs.Stream.{pieceOf, endsStream, pieces, messagesOf}
 

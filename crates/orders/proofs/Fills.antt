@@ -13,7 +13,7 @@ use lib.Seq.{length-take-le}
 use Rattle.texts.specs.Quoted.{Text}
 use Rattle.texts.specs.Texts.{between, every, blank}
 use Rattle.texts.proofs.Bools.{both}
-use Rattle.rules.specs.Sheet.{cell, slots, cellOf, textOf}
+use Rattle.sheets.specs.Sheet.{cell, slots, cellOf, textOf}
 use Rattle.orders.specs.Fillings.{lists, listOf, toFill, choices, each, product, joined, fillings, Filling}
 use Rattle.orders.specs.Search.{places}
 use Rattle.orders.proofs.Cells.{Sized, sized-by, length-joined, cell-joined, joined-cells}

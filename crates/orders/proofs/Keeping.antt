@@ -9,10 +9,11 @@ use lib.ListN.{length, getD}
 use Rattle.texts.specs.Quoted.{Text}
 use Rattle.texts.specs.Texts.{blank, every}
 use Rattle.texts.proofs.Every.{every-append}
-use Rattle.rules.specs.Sheet.{cell, slots, slotOf, cellText, cellOf, textOf, _⟨_⟩}
-use Rattle.rules.specs.Rules.{given, budget, rules, testOf, keeps, keepsAll, firstNot, firstBroken}
-use Rattle.rules.specs.Facts.{generalOf, accountOf, headOf, sidesOf, restOf, standingOf, basisOf, documentOf, dayOf, factsOf, holds, specialOrder}
-use Rattle.rules.specs.declared.facts.Facts.{Facts}
+use Rattle.sheets.specs.Sheet.{cell, slots, slotOf, cellText, cellOf, textOf, _⟨_⟩, given}
+use Rattle.rules.specs.Rules.{budget, rules, testOf, keeps, keepsAll, firstNot, firstBroken}
+use Rattle.sheets.specs.Facts.{generalOf, accountOf, headOf, sidesOf, restOf, standingOf, basisOf, documentOf, dayOf, factsOf}
+use Rattle.rules.specs.Tests.{holds, specialOrder}
+use Rattle.sheets.specs.declared.facts.Facts.{Facts}
 use Rattle.rules.proofs.On.{budget-keeps}
 use Rattle.orders.specs.Fillings.{statusTexts, basisTexts, zeroTexts, listOf, toFill, joined, fillings, Look, found, none, look, firstFilling}
 use Rattle.orders.specs.Search.{statusAt, basisAt, documentAt, dayAt, withAt, passesAt, width, picks, firstPick}

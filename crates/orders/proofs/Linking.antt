@@ -8,7 +8,7 @@ use lib.ListN.{length, getD, drop}
 use lib.Seq.{getD-drop, drop-drop}
 use Rattle.texts.specs.Quoted.{Text}
 use Rattle.texts.specs.Texts.{blank, every}
-use Rattle.rules.specs.Sheet.{cell, slots, cellText, cellOf, textOf}
+use Rattle.sheets.specs.Sheet.{cell, slots, cellText, cellOf, textOf}
 use Rattle.orders.specs.Fillings.{listOf, toFill, choices, each, product, joined, fillings}
 use Rattle.orders.specs.Search.{width, places}
 use Rattle.orders.proofs.Cells.{Cells}

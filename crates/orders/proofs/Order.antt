@@ -12,7 +12,7 @@ use Rattle.texts.specs.Quoted.{Text}
 use Rattle.texts.specs.Texts.{every, any, same}
 use Rattle.texts.proofs.Bools.{both}
 use Rattle.texts.proofs.Codes.{same-true, same-self}
-use Rattle.rules.specs.Sheet.{cell, slots, cellOf}
+use Rattle.sheets.specs.Sheet.{cell, slots, cellOf}
 use Rattle.orders.specs.Fillings.{lists, listOf, toFill, choices, rank, each, product, joined, fillings, Filling, Earlier, Place}
 use Rattle.orders.proofs.Fills.{Drawn, product-drawn, every-at, at-slots, drawn-cell, filling-of, of-filling}
 

@@ -5,13 +5,13 @@ use mathlib.Core.Bool.{Bool, true, false, cond, _&&_, and-assoc, false≢true}
 use mathlib.Core.List.{List, [], _∷_, _++_, map, append-nil}
 use Prim.Native.Nat.{ℕ}
 use Rattle.texts.specs.Texts.{every}
-use Rattle.rules.specs.Facts.{holds, specialOrder, fixedRules, statusRules, basisRules, documentRules, dayRules}
+use Rattle.rules.specs.Tests.{holds, specialOrder, fixedRules, statusRules, basisRules, documentRules, dayRules}
 use Rattle.rules.proofs.Judging.{groups-held}
-use Rattle.rules.specs.declared.facts.Standing.{Standing}
-use Rattle.rules.specs.declared.facts.Basis.{Basis}
-use Rattle.rules.specs.declared.facts.Document.{Document}
-use Rattle.rules.specs.declared.facts.Day.{Day}
-use Rattle.rules.specs.declared.facts.Facts.{Facts}
+use Rattle.sheets.specs.declared.facts.Standing.{Standing}
+use Rattle.sheets.specs.declared.facts.Basis.{Basis}
+use Rattle.sheets.specs.declared.facts.Document.{Document}
+use Rattle.sheets.specs.declared.facts.Day.{Day}
+use Rattle.sheets.specs.declared.facts.Facts.{Facts}
 use Rattle.orders.specs.Fillings.{each, product, Look, found, none, look}
 use Rattle.orders.specs.Search.{statusAt, basisAt, documentAt, dayAt, withAll, passesAt, width, places, picks, firstPick}
 use Rattle.orders.specs.Found.{pickOf, foundOf}

@@ -12,7 +12,7 @@ use lib.ListN.{length, getD, drop, length-drop}
 use lib.Seq.{take-all, length-take-le, drop-drop}
 use Rattle.texts.specs.Numbers.{be2}
 use Rattle.texts.specs.Texts.{between}
-use Rattle.rules.specs.declared.sheet.Field.{Field}
+use Rattle.sheets.specs.declared.sheet.Field.{Field}
 use Rattle.drafts.specs.Message.{lengthOf}
 use Rattle.drafts.specs.Promises.{Reads, Left, Posts}
 use Rattle.drafts.specs.declared.revision.Revision.{Revision}

@@ -9,7 +9,7 @@ use lib.Dec.{eqb}
 use lib.ListN.{length}
 use Rattle.texts.specs.Texts.{every}
 use Rattle.texts.specs.Answers.{Answer, success, refusal}
-use Rattle.rules.specs.Sheet.{slots, sheetSize}
+use Rattle.sheets.specs.Sheet.{slots, sheetSize}
 use Rattle.rules.specs.Rules.{budget, rules, fieldOf, keeps, firstBroken}
 use Rattle.drafts.specs.Draft.{draftFormed, sheetOf}
 use Rattle.orders.specs.Fillings.{toFill, Look, found, none, firstFilling}

@@ -7,7 +7,7 @@ use lib.ListN.{getD, replicate}
 use Rattle.texts.specs.Quoted.{bytes}
 use Rattle.texts.specs.Texts.{blank}
 use Rattle.texts.specs.Buffers.{putAt}
-use Rattle.rules.specs.Sheet.{cell, textOf}
+use Rattle.sheets.specs.Sheet.{cell, textOf}
 use Rattle.orders.specs.Fillings.{statusTexts, basisTexts, zeroTexts}
 
 -- a table's row as a cell

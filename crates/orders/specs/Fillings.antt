@@ -8,8 +8,8 @@ use lib.Dec.{ltb}
 use lib.ListN.{length, getD, replicate}
 use Rattle.texts.specs.Quoted.{Text, words}
 use Rattle.texts.specs.Texts.{blank, same}
-use Rattle.rules.specs.Sheet.{slots, slotOf, sheetSize, cell, cellOf, textOf}
-use Rattle.rules.specs.Forms.{statuses, letterPairs}
+use Rattle.sheets.specs.Sheet.{slots, slotOf, sheetSize, cell, cellOf, textOf}
+use Rattle.sheets.specs.Forms.{statuses, letterPairs}
 use Rattle.rules.specs.Rules.{keepsAll}
 
 -- "101: rule 10's order. 106: rule 15's order. 108 and 109: "0", "00""

@@ -6,12 +6,13 @@ use Prim.Native.Nat.{ℕ, zero, suc, _+_}
 use lib.ListN.{length, getD}
 use Rattle.texts.specs.Quoted.{Text}
 use Rattle.texts.specs.Texts.{every}
-use Rattle.rules.specs.Facts.{standingOf, basisOf, documentOf, dayOf, holds, specialOrder}
-use Rattle.rules.specs.declared.facts.Standing.{Standing}
-use Rattle.rules.specs.declared.facts.Basis.{Basis}
-use Rattle.rules.specs.declared.facts.Document.{Document}
-use Rattle.rules.specs.declared.facts.Day.{Day}
-use Rattle.rules.specs.declared.facts.Facts.{Facts}
+use Rattle.sheets.specs.Facts.{standingOf, basisOf, documentOf, dayOf}
+use Rattle.rules.specs.Tests.{holds, specialOrder}
+use Rattle.sheets.specs.declared.facts.Standing.{Standing}
+use Rattle.sheets.specs.declared.facts.Basis.{Basis}
+use Rattle.sheets.specs.declared.facts.Document.{Document}
+use Rattle.sheets.specs.declared.facts.Day.{Day}
+use Rattle.sheets.specs.declared.facts.Facts.{Facts}
 use Rattle.orders.specs.Fillings.{statusTexts, basisTexts, zeroTexts, product, look, Look, found, none}
 
 -- the facts with entry k of a field's list, where the field is blank

@@ -7,7 +7,7 @@ use Prim.Native.Nat.{ℕ, _<_}
 use lib.ListN.{length, getD}
 use Rattle.texts.specs.Texts.{blank}
 use Rattle.texts.specs.Answers.{Answer, success, refusal, numberOf}
-use Rattle.rules.specs.Sheet.{sheetSize, cellOf, textOf}
+use Rattle.sheets.specs.Sheet.{sheetSize, cellOf, textOf}
 use Rattle.rules.specs.Rules.{keepsAll}
 use Rattle.drafts.specs.Draft.{sheetOf}
 use Rattle.drafts.specs.Promises.{Left, Held}

@@ -1,7 +1,7 @@
 // Completion: the first filling of a draft that keeps the rules.
 ghost use mathlib.Core.Path.{_≡_};
 ghost use mathlib.Core.List.{map};
-ghost use Rattle.rules.specs.Facts.{holds, firstFailed};
+ghost use Rattle.rules.specs.Tests.{holds, firstFailed};
 ghost use Rattle.orders.specs.Complete.{basic};
 ghost use Rattle.orders.specs.Whole.{Completes};
 use crate::fill::fill_picked;
@@ -13,16 +13,16 @@ use drafts::draft::Copied;
 use drafts::draft::copy;
 use drafts::message::Refusal;
 use rules::Rule;
-use rules::facts::Facts;
-use rules::facts::facts_of;
 use rules::field_of;
 use rules::first_broken;
-use rules::sheet::Field;
-use rules::sheet::SHEET_SIZE;
 use rules::tests::is_ordinary;
 use rules::tests::keeps1;
 use rules::tests::keeps2;
 use rules::tests::keeps3;
+use sheets::facts::Facts;
+use sheets::facts::facts_of;
+use sheets::sheet::Field;
+use sheets::sheet::SHEET_SIZE;
 use texts::buffers::put;
 
 // The first filling with its count, the set of filled slots and how many bits are set; 10 with the count of all; 8; 1, 7 or 9.

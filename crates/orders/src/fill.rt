@@ -4,15 +4,15 @@ ghost use mathlib.Core.Bool.{cond};
 ghost use mathlib.Core.List.{_∷_, []};
 ghost use Prim.Native.Nat.{_≤_};
 ghost use Rattle.texts.specs.Texts.{blank};
-ghost use Rattle.rules.specs.Sheet.{textOf};
+ghost use Rattle.sheets.specs.Sheet.{textOf};
 ghost use Rattle.orders.specs.Filled.{rowCell, filledAt, baseOf, pickedOf};
 ghost use Rattle.orders.specs.Complete.{setOf};
 use crate::search::Pick;
 use crate::search::basis_row;
 use crate::search::status_row;
 use crate::search::zero_row;
-use rules::sheet::CELL_SIZE;
-use rules::sheet::text;
+use sheets::sheet::CELL_SIZE;
+use sheets::sheet::text;
 use texts::buffers::put;
 use texts::texts::wide;
 

@@ -3,23 +3,23 @@ ghost use mathlib.Core.Path.{_≡_};
 ghost use Prim.Native.Nat.{_≤_};
 ghost use lib.ListN.{getD};
 ghost use mathlib.Core.List.{[]};
-ghost use Rattle.rules.specs.Facts.{basisOf, documentOf, dayOf};
+ghost use Rattle.sheets.specs.Facts.{basisOf, documentOf, dayOf};
 ghost use Rattle.orders.specs.Fillings.{statusTexts, basisTexts, zeroTexts};
 ghost use Rattle.orders.specs.Search.{statusAt, basisAt, documentAt, dayAt, width, withAll, firstPick};
 ghost use Rattle.orders.specs.Rows.{statusRows, basisRows, zeroRows, noRow};
 ghost use Rattle.orders.specs.Found.{foundOf};
-use rules::facts::Basis;
-use rules::facts::Day;
-use rules::facts::Document;
-use rules::facts::Facts;
-use rules::facts::Standing;
-use rules::facts::standing_of;
 use rules::kept_basis;
 use rules::kept_day;
 use rules::kept_document;
 use rules::kept_fixed;
 use rules::kept_status;
-use rules::sheet::cell_text;
+use sheets::facts::Basis;
+use sheets::facts::Day;
+use sheets::facts::Document;
+use sheets::facts::Facts;
+use sheets::facts::Standing;
+use sheets::facts::standing_of;
+use sheets::sheet::cell_text;
 
 // Candidate texts, each as a cell begins: the length and two bytes.
 const STATUSES: [[u8; 3]; 22] = [

@@ -11,9 +11,9 @@ use lib.Seq.{take-at}
 use Rattle.texts.specs.Quoted.{Text, bytes}
 use Rattle.texts.specs.Buffers.{put}
 use Rattle.texts.proofs.Puts.{put-none, put-put, mid-put}
-use Rattle.rules.specs.Sheet.{slots}
+use Rattle.sheets.specs.Sheet.{slots}
 use Rattle.rules.specs.declared.Rule.{Rule}
-use Rattle.rules.specs.declared.sheet.Field.{Field}
+use Rattle.sheets.specs.declared.sheet.Field.{Field}
 use Rattle.drafts.specs.Draft.{freshDraft}
 use Rattle.drafts.specs.History.{postedAll}
 use Rattle.drafts.specs.Promises.{Freshens}

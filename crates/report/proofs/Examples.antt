@@ -4,7 +4,7 @@ use mathlib.Core.List.{[], _∷_, _++_}
 use Rattle.texts.specs.Quoted.{bytes}
 use Rattle.texts.specs.Texts.{every, any, are, among, same, between}
 use Rattle.texts.specs.Buffers.{put}
-use Rattle.rules.specs.Sheet.{slotOf, cell, cellText, cellOk, cellOf, textOf, _⟨_⟩}
+use Rattle.sheets.specs.Sheet.{slotOf, cell, cellText, cellOk, cellOf, textOf, _⟨_⟩}
 use Rattle.rules.specs.Rules.{rules, fieldOf, testOf, keeps, firstNot}
 use Rattle.drafts.specs.Message.{messageText, readTests, readingOf}
 use Rattle.drafts.specs.Draft.{slotIn, slotCell, slotText, slotBytes, slotFormed, slotsFormed, draftFormed, freshDraft, slotStanding, standingOf, postTests, postingOf, stored, postedTo, cells, sheetOf}

@@ -15,7 +15,7 @@ use Rattle.texts.specs.Texts.{between}
 use Rattle.texts.specs.Buffers.{put}
 use Rattle.texts.specs.Answers.{Answer, success, refusal, numberOf}
 use Rattle.texts.proofs.Puts.{put-none}
-use Rattle.rules.specs.Sheet.{slots}
+use Rattle.sheets.specs.Sheet.{slots}
 use Rattle.drafts.specs.Message.{lengthOf, readTests, readingOf}
 use Rattle.drafts.specs.Draft.{freshDraft, postingOf, postedTo, postAnswer}
 use Rattle.drafts.specs.Promises.{Posts}

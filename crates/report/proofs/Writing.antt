@@ -11,7 +11,7 @@ use Rattle.texts.specs.Quoted.{Text, bytes}
 use Rattle.texts.specs.Texts.{between, blank}
 use Rattle.texts.specs.Buffers.{put, putAt}
 use Rattle.texts.proofs.Puts.{put-fits, put-put, length-put}
-use Rattle.rules.specs.Sheet.{fieldIn, cellText, cellOf, textOf}
+use Rattle.sheets.specs.Sheet.{fieldIn, cellText, cellOf, textOf}
 use Rattle.drafts.specs.Draft.{postAnswer}
 use Rattle.drafts.specs.declared.message.Refusal.{Refusal}
 use Rattle.drafts.specs.declared.draft.Posted.{Posted}

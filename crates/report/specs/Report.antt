@@ -9,7 +9,7 @@ use Rattle.texts.specs.Quoted.{Text, bytes}
 use Rattle.texts.specs.Texts.{blank}
 use Rattle.texts.specs.Buffers.{put}
 use Rattle.texts.specs.Answers.{Answer, success, refusal}
-use Rattle.rules.specs.Sheet.{slots, fieldIn, sheetSize, textOf}
+use Rattle.sheets.specs.Sheet.{slots, fieldIn, sheetSize, textOf}
 use Rattle.drafts.specs.Draft.{freshDraft, postingOf, postedTo}
 use Rattle.orders.specs.Complete.{completing, completed}
 use Rattle.orders.specs.Stream.{messagesOf}

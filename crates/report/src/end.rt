@@ -2,16 +2,16 @@
 ghost use mathlib.Core.Path.{_≡_};
 ghost use Prim.Native.Nat.{_+_, _≤_};
 ghost use lib.ListN.{length};
-ghost use Rattle.rules.specs.Sheet.{slots};
+ghost use Rattle.sheets.specs.Sheet.{slots};
 ghost use Rattle.report.specs.Lines.{Wrote};
 ghost use Rattle.report.specs.Report.{fieldLine, fieldLines, ending};
 use crate::lines::put_item;
 use crate::lines::put_number;
 use orders::complete::Completed;
 use orders::complete::complete;
-use rules::sheet::SHEET_SIZE;
-use rules::sheet::field_in;
-use rules::sheet::text;
+use sheets::sheet::SHEET_SIZE;
+use sheets::sheet::field_in;
+use sheets::sheet::text;
 use texts::texts::wide;
 
 const SLOTS: u8 = 15;

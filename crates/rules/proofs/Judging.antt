@@ -12,17 +12,18 @@ use lib.Seq.{drop-cons, getD-set-other}
 use Rattle.texts.specs.Texts.{every, any, are, among}
 use Rattle.texts.proofs.Bools.{both}
 use Rattle.texts.proofs.Every.{every-append, every-same}
-use Rattle.rules.specs.Sheet.{slots, slotOk, wellFormed, fieldIn, slotOf}
-use Rattle.rules.specs.Rules.{Sheet, Rule, classA, classB, budget, given, firstBlank, rules, order, fieldOf, keeps, firstNot, firstBroken, classOf}
-use Rattle.rules.specs.Facts.{factsOf, factsIn, ordinary, classOn, look, holds, firstFalse, firstFailed, generalOrder, firstTen, secondTen, lastTen, specialOrder, fixedRules, statusRules, basisRules, documentRules, dayRules, grouped}
+use Rattle.sheets.specs.Sheet.{slots, slotOk, wellFormed, fieldIn, slotOf, Sheet, given}
+use Rattle.rules.specs.Rules.{Rule, classA, classB, budget, firstBlank, rules, order, fieldOf, keeps, firstNot, firstBroken, classOf}
+use Rattle.sheets.specs.Facts.{factsOf, factsIn}
+use Rattle.rules.specs.Tests.{ordinary, classOn, look, holds, firstFalse, firstFailed, generalOrder, firstTen, secondTen, lastTen, specialOrder, fixedRules, statusRules, basisRules, documentRules, dayRules, grouped}
 use Rattle.rules.specs.Verdicts.{verdictAnswer, judged, checked, Checked}
 use Rattle.rules.specs.declared.Class.{Class}
 use Rattle.rules.specs.declared.Class.the-variants.{A, B, O}
-use Rattle.rules.specs.declared.sheet.Field.{Field}
+use Rattle.sheets.specs.declared.sheet.Field.{Field}
 use Rattle.rules.specs.declared.Verdict.the-variants.{Malformed, Broken, Accepted}
-use Rattle.rules.specs.declared.facts.Facts.{Facts}
+use Rattle.sheets.specs.declared.facts.Facts.{Facts}
 use Rattle.rules.proofs.On.{budget-keeps, ordinary-keeps, class-on, ordinary-on, general-on}
-use Rattle.rules.proofs.Ways.{facts-sized}
+use Rattle.sheets.proofs.Ways.{facts-sized}
 use Rattle.rules.proofs.First.{numbered, kept-none, not-first, not-then, place-is}
 use Rattle.rules.proofs.Means.{checked-by}
 

@@ -1,7 +1,4 @@
-pub mod Windows
-pub mod Sheets
-pub mod Tables
-pub mod Ways
+pub mod Lists
 pub mod On
 pub mod First
 pub mod Means

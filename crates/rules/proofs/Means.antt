@@ -10,8 +10,8 @@ use lib.Dec.{eqb}
 use lib.ListN.{getD}
 use Rattle.texts.specs.Texts.{every}
 use Rattle.texts.specs.Answers.{success, refusal}
-use Rattle.rules.specs.Sheet.{wellFormed}
-use Rattle.rules.specs.Rules.{Sheet, classOf, rules, order, fieldOf, keeps, keepsAll, firstBroken}
+use Rattle.sheets.specs.Sheet.{wellFormed, Sheet}
+use Rattle.rules.specs.Rules.{classOf, rules, order, fieldOf, keeps, keepsAll, firstBroken}
 use Rattle.rules.specs.Verdicts.{className, verdictAnswer, judged, checked, Checked}
 use Rattle.rules.proofs.First.{numbered, none-kept, kept-none, split}
 use Rattle.rules.specs.declared.Class.{Class}

@@ -11,12 +11,13 @@ use borrow.Author.Tests.{ne-eqb}
 use Rattle.texts.specs.Texts.{every, any, are, among, valueOf, value, number, _is_}
 use Rattle.texts.proofs.Codes.{is-one-of}
 use Rattle.texts.proofs.Arms.{outside}
-use Rattle.rules.specs.Sheet.{slotOf, textOf, _⟨_⟩}
-use Rattle.rules.specs.Forms.{_⇒_, inn, inn10, inn12}
-use Rattle.rules.specs.Rules.{Sheet, Rule, budget, classOf, general, special, forBudget, rules, testOf, keeps, firstNot, firstBroken, rule6, rule23, given}
-use Rattle.rules.specs.Facts.{payerOf, codeOf, formOf, groupsOf, standingOf, basisOf, documentOf, dayOf, generalOf, accountOf, headOf, sidesOf, restOf, factsOf, wantedBy, suits, classOn, ordinary, on6, on23, generalOn, specialOn, look, holds, firstFailed, generalOrder}
-use Rattle.rules.specs.declared.facts.Facts.{Facts}
-use Rattle.rules.specs.declared.facts.Payer.{Payer}
+use Rattle.sheets.specs.Sheet.{slotOf, textOf, _⟨_⟩, Sheet, given}
+use Rattle.sheets.specs.Forms.{_⇒_, inn, inn10, inn12}
+use Rattle.rules.specs.Rules.{Rule, budget, classOf, general, special, forBudget, rules, testOf, keeps, firstNot, firstBroken, rule6, rule23}
+use Rattle.sheets.specs.Facts.{payerOf, codeOf, formOf, groupsOf, standingOf, basisOf, documentOf, dayOf, generalOf, accountOf, headOf, sidesOf, restOf, factsOf, wantedBy}
+use Rattle.rules.specs.Tests.{suits, classOn, ordinary, on6, on23, generalOn, specialOn, look, holds, firstFailed, generalOrder}
+use Rattle.sheets.specs.declared.facts.Facts.{Facts}
+use Rattle.sheets.specs.declared.facts.Payer.{Payer}
 
 -- rule 6: the slots in another order
 and-left-comm : (a b c : Bool) → (a && (b && c)) ≡ (b && (a && c))

@@ -7,9 +7,9 @@ use lib.ListN.{set, replicate}
 use Rattle.texts.specs.Quoted.{Text, bytes}
 use Rattle.texts.specs.Texts.{every, any, same, between, are, among, valueOf, value, number, _isOneOf_, _beginsOneOf_}
 use Rattle.texts.specs.Answers.{Answer, success, refusal}
-use Rattle.rules.specs.Sheet.{slotOf, cell, cellText, cellOk, cellOf, textOf, slotOk, _⟨_⟩}
-use Rattle.rules.specs.Forms.{person, document, leap, monthDays, gregorian, date}
-use Rattle.rules.specs.Rules.{classOf, given, firstBlank, rules, testOf, fieldOf, keeps, firstNot, firstBroken}
+use Rattle.sheets.specs.Sheet.{slotOf, cell, cellText, cellOk, cellOf, textOf, slotOk, _⟨_⟩, given}
+use Rattle.sheets.specs.Forms.{person, document, leap, monthDays, gregorian, date}
+use Rattle.rules.specs.Rules.{classOf, firstBlank, rules, testOf, fieldOf, keeps, firstNot}
 use Rattle.rules.specs.Verdicts.{judged, checked}
 
 infix 20 _≔_

@@ -1,6 +1,4 @@
-pub mod Sheet
-pub mod Forms
 pub mod Rules
 pub mod Verdicts
-pub mod Facts
+pub mod Tests
 pub mod Examples

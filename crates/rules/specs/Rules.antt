@@ -5,13 +5,10 @@ use Prim.Native.Nat.{ℕ}
 use Prim.Native.String.{String}
 use lib.Dec.{eqb}
 use Rattle.texts.specs.Texts.{every, between, blank, _is_, _isOneOf_, _begins_, _beginsOneOf_, digits, digitsNotZero}
-use Rattle.rules.specs.Sheet.{fieldIn, slotOf, textOf, _⟨_⟩}
-use Rattle.rules.specs.Forms.{_⇒_, uin, foreignCode, inn10, inn12, inn, kpp, statuses, customsGroup, letterPair, person, document, date}
+use Rattle.sheets.specs.Sheet.{Sheet, fieldIn, slotOf, given, _⟨_⟩}
+use Rattle.sheets.specs.Forms.{_⇒_, uin, foreignCode, inn10, inn12, inn, kpp, statuses, customsGroup, letterPair, person, document, date}
 use Rattle.rules.specs.declared.Class.{Class}
 use Rattle.rules.specs.declared.Class.the-variants.{A, B, O}
-
-abbrev pub Sheet : Type 0
-Sheet = List ℕ
 
 -- ---- for every sheet
 
@@ -53,9 +50,6 @@ rule5 s = classA s ⇒ between (s ⟨ 17 ⟩) 5 8 is "643"
 -- the slots of "22, 60, 61, 101 to 109"
 abbrev pub needed : List ℕ
 needed = map slotOf (22 ∷ 60 ∷ 61 ∷ 101 ∷ 102 ∷ 103 ∷ 104 ∷ 105 ∷ 106 ∷ 107 ∷ 108 ∷ 109 ∷ [])
-
-unfoldable pub given : Sheet → ℕ → Bool
-given s k = not (blank (textOf s k))
 
 abbrev pub rule6 : Sheet → Bool
 rule6 s = every (given s) needed

@@ -1,5 +1,5 @@
 -- What checking a sheet answers. Assumes nothing.
-use mathlib.Core.Bool.{Bool, true, false, cond}
+use mathlib.Core.Bool.{true, false, cond}
 use mathlib.Core.Path.{_≡_}
 use mathlib.Core.Logic.{_↔_}
 use mathlib.Core.List.{List, [], _∷_, _++_}
@@ -8,8 +8,8 @@ use lib.Dec.{eqb}
 use Rattle.texts.specs.Quoted.{bytes}
 use Rattle.texts.specs.Texts.{every}
 use Rattle.texts.specs.Answers.{Answer, success, refusal}
-use Rattle.rules.specs.Sheet.{wellFormed}
-use Rattle.rules.specs.Rules.{Sheet, classOf, rules, order, fieldOf, keeps, keepsAll, firstBroken}
+use Rattle.sheets.specs.Sheet.{wellFormed, Sheet}
+use Rattle.rules.specs.Rules.{classOf, rules, order, fieldOf, keeps, keepsAll, firstBroken}
 use Rattle.rules.specs.declared.Class.{Class}
 use Rattle.rules.specs.declared.Class.the-variants.{A, B, O}
 use Rattle.rules.specs.declared.Verdict.{Verdict}

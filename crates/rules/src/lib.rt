@@ -3,17 +3,19 @@ ghost use mathlib.Core.Path.{_≡_};
 ghost use mathlib.Core.List.{map};
 ghost use lib.ListN.{getD};
 ghost use Rattle.texts.specs.Texts.{every};
-ghost use Rattle.rules.specs.Rules.{given, firstBlank, needed, rules, fieldOf};
-ghost use Rattle.rules.specs.Facts.{classOn, holds, firstFalse, firstFailed, generalOrder, firstTen, secondTen, lastTen, specialOrder, fixedRules, statusRules, basisRules, documentRules, dayRules};
+ghost use Rattle.rules.specs.Rules.{firstBlank, needed, rules, fieldOf};
+ghost use Rattle.sheets.specs.Sheet.{given};
+ghost use Rattle.rules.specs.Tests.{classOn, holds, firstFalse, firstFailed, generalOrder, firstTen, secondTen, lastTen, specialOrder, fixedRules, statusRules, basisRules, documentRules, dayRules};
 ghost use Rattle.rules.specs.Verdicts.{Checked};
 
-pub mod facts;
-pub mod forms;
-pub mod sheet;
 pub mod tests;
 
-use crate::facts::Facts;
-use crate::sheet::Field;
+use sheets::facts::Facts;
+use sheets::facts::facts_of;
+use sheets::facts::is_given;
+use sheets::sheet::Field;
+use sheets::sheet::field_in;
+use sheets::sheet::well_formed;
 use texts::texts::at;
 use texts::texts::wide;
 
@@ -235,7 +237,7 @@ fn broken_special(f: Facts) -> u8
     first_broken(&last_outcomes(f), &LAST_TEN)
 }
 
-pub fn class_of(f: Facts) -> Class
+fn class_of(f: Facts) -> Class
     ensures { λ r. ⌜ r ≡ classOn f ⌝ }
 {
     if f.head.account.a {
@@ -254,8 +256,8 @@ fn first_blank(sheet: &[u8], slots: &[u8]) -> u8
     let mut i = 0;
     while i < slots.len() {
         let k = slots[i];
-        if !facts::is_given(sheet, k) {
-            return sheet::field_in(k).0;
+        if !is_given(sheet, k) {
+            return field_in(k).0;
         }
         i += 1;
     }
@@ -277,10 +279,10 @@ pub fn field_of(rule: Rule, sheet: &[u8]) -> Field
 pub fn check(sheet: &[u8]) -> Verdict
     ensures { λ r. ⌜ Checked (now (sheet .entry)) r ⌝ }
 {
-    if !sheet::well_formed(sheet) {
+    if !well_formed(sheet) {
         return Verdict::Malformed;
     }
-    let f = facts::facts_of(sheet);
+    let f = facts_of(sheet);
     let g = broken_general(f);
     if g != 0 {
         return Verdict::Broken(field_of(Rule(g), sheet), Rule(g));

@@ -1,9 +1,9 @@
 // The rules, each a test of a sheet's facts, one function each.
 ghost use mathlib.Core.Path.{_≡_};
-ghost use Rattle.rules.specs.Facts.{ordinary, suits, on1, on2, on3, on4, on5, on6, on7, on8, on9, on10, on11, on12, on13, on14, on15, on16, on17, on18, on19, on20, on21, on22, on23, on24, on25, on26, on27, on28, on29, on30, on31, on32, on33, on34};
-use crate::facts::Facts;
-use crate::facts::Payer;
-use crate::forms::Wanted;
+ghost use Rattle.rules.specs.Tests.{ordinary, suits, on1, on2, on3, on4, on5, on6, on7, on8, on9, on10, on11, on12, on13, on14, on15, on16, on17, on18, on19, on20, on21, on22, on23, on24, on25, on26, on27, on28, on29, on30, on31, on32, on33, on34};
+use sheets::facts::Facts;
+use sheets::facts::Payer;
+use sheets::forms::Wanted;
 
 pub fn is_ordinary(f: Facts) -> bool
     ensures { λ r. ⌜ r ≡ ordinary f ⌝ }
@@ -11,7 +11,7 @@ pub fn is_ordinary(f: Facts) -> bool
     !(f.head.account.a | f.head.account.b)
 }
 
-pub fn is_suited(w: Wanted, p: Payer) -> bool
+fn is_suited(w: Wanted, p: Payer) -> bool
     ensures { λ r. ⌜ r ≡ suits w p ⌝ }
 {
     match w {
@@ -41,121 +41,121 @@ pub fn keeps3(f: Facts) -> bool
     f.head.general.account
 }
 
-pub fn keeps4(f: Facts) -> bool
+pub(crate) fn keeps4(f: Facts) -> bool
     ensures { λ r. ⌜ r ≡ on4 f ⌝ }
 {
     !is_ordinary(f) | f.status.blank
 }
 
-pub fn keeps5(f: Facts) -> bool
+pub(crate) fn keeps5(f: Facts) -> bool
     ensures { λ r. ⌜ r ≡ on5 f ⌝ }
 {
     !f.head.account.a | f.head.account.home
 }
 
-pub fn keeps6(f: Facts) -> bool
+pub(crate) fn keeps6(f: Facts) -> bool
     ensures { λ r. ⌜ r ≡ on6 f ⌝ }
 {
     f.head.given & (!f.status.blank & (!f.basis.blank & (!f.document.blank & !f.day.blank)))
 }
 
-pub fn keeps7(f: Facts) -> bool
+pub(crate) fn keeps7(f: Facts) -> bool
     ensures { λ r. ⌜ r ≡ on7 f ⌝ }
 {
     (f.sides.code.zero | f.sides.code.uin) | (f.sides.code.four & f.head.account.to03212)
 }
 
-pub fn keeps8(f: Facts) -> bool
+pub(crate) fn keeps8(f: Facts) -> bool
     ensures { λ r. ⌜ r ≡ on8 f ⌝ }
 {
     (f.sides.payer.zero | f.sides.payer.foreign) | (f.sides.payer.inn10 | f.sides.payer.inn12)
 }
 
-pub fn keeps9(f: Facts) -> bool
+pub(crate) fn keeps9(f: Facts) -> bool
     ensures { λ r. ⌜ r ≡ on9 f ⌝ }
 {
     f.sides.payee
 }
 
-pub fn keeps10(f: Facts) -> bool
+pub(crate) fn keeps10(f: Facts) -> bool
     ensures { λ r. ⌜ r ≡ on10 f ⌝ }
 {
     f.status.listed
 }
 
-pub fn keeps11(f: Facts) -> bool
+pub(crate) fn keeps11(f: Facts) -> bool
     ensures { λ r. ⌜ r ≡ on11 f ⌝ }
 {
     f.sides.kpp.zero | f.sides.kpp.full
 }
 
-pub fn keeps12(f: Facts) -> bool
+pub(crate) fn keeps12(f: Facts) -> bool
     ensures { λ r. ⌜ r ≡ on12 f ⌝ }
 {
     f.sides.payeekpp
 }
 
-pub fn keeps13(f: Facts) -> bool
+pub(crate) fn keeps13(f: Facts) -> bool
     ensures { λ r. ⌜ r ≡ on13 f ⌝ }
 {
     f.rest.kbk.zero | f.rest.kbk.full
 }
 
-pub fn keeps14(f: Facts) -> bool
+pub(crate) fn keeps14(f: Facts) -> bool
     ensures { λ r. ⌜ r ≡ on14 f ⌝ }
 {
     f.rest.oktmo.zero | f.rest.oktmo.full
 }
 
-pub fn keeps15(f: Facts) -> bool
+pub(crate) fn keeps15(f: Facts) -> bool
     ensures { λ r. ⌜ r ≡ on15 f ⌝ }
 {
     (f.basis.zero | f.basis.zeros) | f.basis.letters
 }
 
-pub fn keeps16(f: Facts) -> bool
+pub(crate) fn keeps16(f: Facts) -> bool
     ensures { λ r. ⌜ r ≡ on16 f ⌝ }
 {
     f.rest.office.zero | f.rest.office.full
 }
 
-pub fn keeps17(f: Facts) -> bool
+pub(crate) fn keeps17(f: Facts) -> bool
     ensures { λ r. ⌜ r ≡ on17 f ⌝ }
 {
     f.document.fit
 }
 
-pub fn keeps18(f: Facts) -> bool
+pub(crate) fn keeps18(f: Facts) -> bool
     ensures { λ r. ⌜ r ≡ on18 f ⌝ }
 {
     (f.day.zero | f.day.zeros) | f.day.date
 }
 
-pub fn keeps19(f: Facts) -> bool
+pub(crate) fn keeps19(f: Facts) -> bool
     ensures { λ r. ⌜ r ≡ on19 f ⌝ }
 {
     !(f.head.account.a & f.status.groups.treasury) | f.head.account.to03100
 }
 
-pub fn keeps20(f: Facts) -> bool
+pub(crate) fn keeps20(f: Facts) -> bool
     ensures { λ r. ⌜ r ≡ on20 f ⌝ }
 {
     !(f.head.account.a & f.status.groups.is31) | f.head.account.to03212
 }
 
-pub fn keeps21(f: Facts) -> bool
+pub(crate) fn keeps21(f: Facts) -> bool
     ensures { λ r. ⌜ r ≡ on21 f ⌝ }
 {
     !f.status.groups.courts | f.sides.code.uin
 }
 
-pub fn keeps22(f: Facts) -> bool
+pub(crate) fn keeps22(f: Facts) -> bool
     ensures { λ r. ⌜ r ≡ on22 f ⌝ }
 {
     !f.head.account.to03212 | !f.sides.code.zero
 }
 
-pub fn keeps23(f: Facts) -> bool
+pub(crate) fn keeps23(f: Facts) -> bool
     ensures { λ r. ⌜ r ≡ on23 f ⌝ }
 {
     let status = f.status;
@@ -163,26 +163,26 @@ pub fn keeps23(f: Facts) -> bool
     is_suited(wanted, f.sides.payer)
 }
 
-pub fn keeps24(f: Facts) -> bool
+pub(crate) fn keeps24(f: Facts) -> bool
     ensures { λ r. ⌜ r ≡ on24 f ⌝ }
 {
     !f.status.groups.is13 | ((f.sides.payer.inn10 | f.sides.payer.inn12) | f.sides.code.uin)
 }
 
-pub fn keeps25(f: Facts) -> bool
+pub(crate) fn keeps25(f: Facts) -> bool
     ensures { λ r. ⌜ r ≡ on25 f ⌝ }
 {
     !f.status.groups.personal
         | (f.document.person | (f.document.zero & (f.sides.payer.inn12 | f.sides.code.uin)))
 }
 
-pub fn keeps26(f: Facts) -> bool
+pub(crate) fn keeps26(f: Facts) -> bool
     ensures { λ r. ⌜ r ≡ on26 f ⌝ }
 {
     !f.status.groups.courts | f.document.zero
 }
 
-pub fn keeps27(f: Facts) -> bool
+pub(crate) fn keeps27(f: Facts) -> bool
     ensures { λ r. ⌜ r ≡ on27 f ⌝ }
 {
     (!f.sides.payer.twelve | f.sides.kpp.zero)
@@ -190,46 +190,46 @@ pub fn keeps27(f: Facts) -> bool
             & (!f.sides.payer.ten | (!f.sides.kpp.zero | f.status.groups.is01)))
 }
 
-pub fn keeps28(f: Facts) -> bool
+pub(crate) fn keeps28(f: Facts) -> bool
     ensures { λ r. ⌜ r ≡ on28 f ⌝ }
 {
     !f.head.account.to03100 | !f.rest.kbk.zero
 }
 
-pub fn keeps29(f: Facts) -> bool
+pub(crate) fn keeps29(f: Facts) -> bool
     ensures { λ r. ⌜ r ≡ on29 f ⌝ }
 {
     let outside = !f.status.groups.customs;
     !outside | f.basis.zero
 }
 
-pub fn keeps30(f: Facts) -> bool
+pub(crate) fn keeps30(f: Facts) -> bool
     ensures { λ r. ⌜ r ≡ on30 f ⌝ }
 {
     let outside = !f.status.groups.customs;
     (!f.status.groups.customs | f.rest.office.full) & (!outside | f.rest.office.zero)
 }
 
-pub fn keeps31(f: Facts) -> bool
+pub(crate) fn keeps31(f: Facts) -> bool
     ensures { λ r. ⌜ r ≡ on31 f ⌝ }
 {
     let outside = !f.status.groups.customs;
     !outside | f.day.zero
 }
 
-pub fn keeps32(f: Facts) -> bool
+pub(crate) fn keeps32(f: Facts) -> bool
     ensures { λ r. ⌜ r ≡ on32 f ⌝ }
 {
     !f.basis.letters | !f.document.zero
 }
 
-pub fn keeps33(f: Facts) -> bool
+pub(crate) fn keeps33(f: Facts) -> bool
     ensures { λ r. ⌜ r ≡ on33 f ⌝ }
 {
     !f.basis.zeros | f.document.zeros
 }
 
-pub fn keeps34(f: Facts) -> bool
+pub(crate) fn keeps34(f: Facts) -> bool
     ensures { λ r. ⌜ r ≡ on34 f ⌝ }
 {
     (!f.day.zeros | f.basis.zeros) & (!f.basis.zeros | f.day.zeros)

@@ -1,7 +1,7 @@
 use Prim.Native.Nat.{_≤_, _+_, _-_}
 use lib.ListN.{length, drop}
 use mathlib.Core.Path.{_≡_}
-use Rattle.rules.specs.Facts.{firstFalse}
+use Rattle.rules.specs.Tests.{firstFalse}
 use borrow.Author.Needs.{needs}
 use Rattle.rules.proofs.First.{false-found, false-more, false-none}
 use Rattle.rules.proofs.first_false.Statement.{statement}

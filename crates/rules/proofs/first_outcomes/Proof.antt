@@ -1,5 +1,5 @@
 use borrow.Author.Needs.{needs}
-use Rattle.rules.proofs.Ways.{first-outcomes}
+use Rattle.rules.proofs.Lists.{first-outcomes}
 use Rattle.rules.proofs.first_outcomes.Statement.{statement}
 use Rattle.rules.proofs.first_outcomes.Tie as tie
 

@@ -1,5 +1,5 @@
 use borrow.Author.Needs.{needs}
-use Rattle.rules.proofs.Ways.{general-outcomes}
+use Rattle.rules.proofs.Lists.{general-outcomes}
 use Rattle.rules.proofs.general_outcomes.Statement.{statement}
 use Rattle.rules.proofs.general_outcomes.Tie as tie
 

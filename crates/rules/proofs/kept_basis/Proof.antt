@@ -1,5 +1,5 @@
 use borrow.Author.Needs.{needs}
-use Rattle.rules.proofs.Ways.{kept-basis}
+use Rattle.rules.proofs.Lists.{kept-basis}
 use Rattle.rules.proofs.kept_basis.Statement.{statement}
 use Rattle.rules.proofs.kept_basis.Tie as tie
 

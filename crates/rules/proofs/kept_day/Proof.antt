@@ -1,5 +1,5 @@
 use borrow.Author.Needs.{needs}
-use Rattle.rules.proofs.Ways.{kept-day}
+use Rattle.rules.proofs.Lists.{kept-day}
 use Rattle.rules.proofs.kept_day.Statement.{statement}
 use Rattle.rules.proofs.kept_day.Tie as tie
 

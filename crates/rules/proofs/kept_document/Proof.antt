@@ -1,5 +1,5 @@
 use borrow.Author.Needs.{needs}
-use Rattle.rules.proofs.Ways.{kept-document}
+use Rattle.rules.proofs.Lists.{kept-document}
 use Rattle.rules.proofs.kept_document.Statement.{statement}
 use Rattle.rules.proofs.kept_document.Tie as tie
 

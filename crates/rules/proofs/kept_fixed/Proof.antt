@@ -1,5 +1,5 @@
 use borrow.Author.Needs.{needs}
-use Rattle.rules.proofs.Ways.{kept-fixed}
+use Rattle.rules.proofs.Lists.{kept-fixed}
 use Rattle.rules.proofs.kept_fixed.Statement.{statement}
 use Rattle.rules.proofs.kept_fixed.Tie as tie
 

@@ -1,5 +1,5 @@
 use borrow.Author.Needs.{needs}
-use Rattle.rules.proofs.Ways.{kept-status}
+use Rattle.rules.proofs.Lists.{kept-status}
 use Rattle.rules.proofs.kept_status.Statement.{statement}
 use Rattle.rules.proofs.kept_status.Tie as tie
 

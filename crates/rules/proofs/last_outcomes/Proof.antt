@@ -1,5 +1,5 @@
 use borrow.Author.Needs.{needs}
-use Rattle.rules.proofs.Ways.{last-outcomes}
+use Rattle.rules.proofs.Lists.{last-outcomes}
 use Rattle.rules.proofs.last_outcomes.Statement.{statement}
 use Rattle.rules.proofs.last_outcomes.Tie as tie
 

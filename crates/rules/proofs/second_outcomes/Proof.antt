@@ -1,5 +1,5 @@
 use borrow.Author.Needs.{needs}
-use Rattle.rules.proofs.Ways.{second-outcomes}
+use Rattle.rules.proofs.Lists.{second-outcomes}
 use Rattle.rules.proofs.second_outcomes.Statement.{statement}
 use Rattle.rules.proofs.second_outcomes.Tie as tie
 

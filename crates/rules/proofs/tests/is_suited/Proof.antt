@@ -1,5 +1,5 @@
 use borrow.Author.Needs.{needs}
-use Rattle.rules.specs.Facts.{suits}
+use Rattle.rules.specs.Tests.{suits}
 use Rattle.rules.proofs.tests.is_suited.Statement.{statement}
 use Rattle.rules.proofs.tests.is_suited.Tie as tie
 

@@ -1,7 +1,0 @@
-use borrow.Author.Needs.{needs}
-use Rattle.rules.proofs.Ways.{account-is}
-use Rattle.rules.proofs.facts.account_of.Statement.{statement}
-use Rattle.rules.proofs.facts.account_of.Tie as tie
-
-pub account-of-spec : {M : Type 1} → statement M
-account-of-spec = tie.close (tie.spec (λ c κs. search needs) (λ c κs. search needs) (λ c κs. search needs) (λ c. search needs) (λ c κs. search needs) (λ c κs. search needs) (λ c κs. search needs) (λ c κs. search needs) (λ c κs. search needs) (λ c κs. search needs) (λ c κs. search needs) (λ c κs. search needs) (λ c. search needs) (λ c κs. search needs) (λ c. search (needs, account-is)))

@@ -1,8 +1,0 @@
-use borrow.Author.Needs.{needs}
-use Rattle.rules.specs.Facts.{basisOf}
-use Rattle.rules.proofs.facts.basis_of.Statement.{statement}
-use Rattle.rules.proofs.facts.basis_of.Tie as tie
-
-pub basis-of-spec : {M : Type 1} → statement M
-unfolding basisOf
-basis-of-spec = tie.close (tie.spec (λ c. search needs) (λ c κs. search needs) (λ c. search needs) (λ c κs. search needs) (λ c κs. search needs) (λ c. cc))

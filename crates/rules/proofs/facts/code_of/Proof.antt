@@ -1,8 +1,0 @@
-use borrow.Author.Needs.{needs}
-use Rattle.rules.specs.Facts.{codeOf}
-use Rattle.rules.proofs.facts.code_of.Statement.{statement}
-use Rattle.rules.proofs.facts.code_of.Tie as tie
-
-pub code-of-spec : {M : Type 1} → statement M
-unfolding codeOf
-code-of-spec = tie.close (tie.spec (λ c. search needs) (λ c κs. search needs) (λ c κs. search needs) (λ c κs. search needs) (λ c. cc))

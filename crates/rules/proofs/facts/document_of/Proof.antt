@@ -1,8 +1,0 @@
-use borrow.Author.Needs.{needs}
-use Rattle.rules.specs.Facts.{documentOf}
-use Rattle.rules.proofs.facts.document_of.Statement.{statement}
-use Rattle.rules.proofs.facts.document_of.Tie as tie
-
-pub document-of-spec : {M : Type 1} → statement M
-unfolding documentOf
-document-of-spec = tie.close (tie.spec (λ c κs. search needs) (λ c κs. search needs) (λ c. search needs) (λ c κs. search needs) (λ c. search needs) (λ c κs. search needs) (λ c. cc))

@@ -1,8 +1,0 @@
-use borrow.Author.Needs.{needs}
-use Rattle.rules.specs.Facts.{generalOf}
-use Rattle.rules.proofs.facts.general_of.Statement.{statement}
-use Rattle.rules.proofs.facts.general_of.Tie as tie
-
-pub general-of-spec : {M : Type 1} → statement M
-unfolding generalOf
-general-of-spec = tie.close (tie.spec (λ c κs. search needs) (λ c κs. search needs) (λ c κs. search needs) (λ c. cc))

@@ -1,8 +1,0 @@
-use borrow.Author.Needs.{needs}
-use Rattle.rules.specs.Facts.{isA}
-use Rattle.rules.proofs.facts.is_a.Statement.{statement}
-use Rattle.rules.proofs.facts.is_a.Tie as tie
-
-pub is-a-spec : {M : Type 1} → statement M
-unfolding isA
-is-a-spec = tie.close (tie.spec (λ c. search needs) (λ c κs. search needs) (λ c. cc))

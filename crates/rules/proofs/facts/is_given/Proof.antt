@@ -1,8 +1,0 @@
-use borrow.Author.Needs.{needs}
-use Rattle.rules.specs.Rules.{given}
-use Rattle.rules.proofs.facts.is_given.Statement.{statement}
-use Rattle.rules.proofs.facts.is_given.Tie as tie
-
-pub is-given-spec : {M : Type 1} → statement M
-unfolding given
-is-given-spec = tie.close (tie.spec (λ c κs. search needs) (λ c. cc))

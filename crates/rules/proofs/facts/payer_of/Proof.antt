@@ -1,7 +1,0 @@
-use borrow.Author.Needs.{needs}
-use Rattle.rules.proofs.Ways.{payer-is}
-use Rattle.rules.proofs.facts.payer_of.Statement.{statement}
-use Rattle.rules.proofs.facts.payer_of.Tie as tie
-
-pub payer-of-spec : {M : Type 1} → statement M
-payer-of-spec = tie.close (tie.spec (λ c. search needs) (λ c κs. search needs) (λ c κs. search needs) (λ c κs. search needs) (λ c κs. search needs) (λ c κs. search needs) (λ c κs. search needs) (λ c κs. search needs) (λ c. search (needs, payer-is)))

@@ -1,7 +1,0 @@
-use borrow.Author.Needs.{needs}
-use Rattle.rules.proofs.Ways.{standing-is}
-use Rattle.rules.proofs.facts.standing_of.Statement.{statement}
-use Rattle.rules.proofs.facts.standing_of.Tie as tie
-
-pub standing-of-spec : {M : Type 1} → statement M
-standing-of-spec = tie.close (tie.spec (λ c κs. search needs) (λ c κs. search needs) (λ c κs. search needs) (λ c. search needs) (λ c κs. search needs) (λ c. search (needs, standing-is)))

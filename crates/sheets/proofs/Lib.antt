@@ -1,0 +1,4 @@
+pub mod Windows
+pub mod Sheets
+pub mod Tables
+pub mod Ways

@@ -1,0 +1,140 @@
+-- What the ways through the functions come to: facts of plain values, of which `search` finds the premises. Assumes nothing.
+use mathlib.Core.Path.{_≡_, refl, ap, sym, _∙_}
+use mathlib.Core.Bool.{Bool, true, false, _&&_}
+use mathlib.Core.List.{List, [], _∷_}
+use mathlib.Core.Logic.{_⊎_, inl, inr, ⊎-elim}
+use Prim.Native.Nat.{ℕ, _≤_, _<_}
+use native.Mathlib.Decide.{ℕ-discrete}
+use native.Mathlib.Omega.{arith}
+use borrow.Author.Tests.{eq-eqb, ne-eqb}
+use lib.Dec.{eqb, leb}
+use lib.ListN.{length}
+use Rattle.texts.specs.Quoted.{Text}
+use Rattle.texts.specs.Texts.{any, are, among, between, same, digits, number, _is_}
+use Rattle.texts.proofs.Arms.{AnyOf, arm, outside}
+use Rattle.sheets.specs.Sheet.{textOf}
+use Rattle.sheets.specs.Forms.{foreignCode, inn10, inn12, person, leap, monthDays, gregorian, date}
+use Rattle.sheets.specs.Facts.{payerOf, isA, isB, accountOf, groupsBy, standingOf, wantedBy, basisOf, documentOf, dayOf, headOf, sidesOf, restOf, factsOf, noFacts, factsIn}
+use Rattle.sheets.specs.declared.forms.Wanted.{Wanted}
+use Rattle.sheets.specs.declared.forms.Wanted.the-variants.{Any, Inn, Ten, Twelve, Zero}
+use Rattle.sheets.specs.declared.facts.Groups.{Groups}
+use Rattle.sheets.specs.declared.facts.Standing.{Standing}
+use Rattle.sheets.specs.declared.facts.Basis.{Basis}
+use Rattle.sheets.specs.declared.facts.Document.{Document}
+use Rattle.sheets.specs.declared.facts.Day.{Day}
+use Rattle.sheets.specs.declared.facts.Head.{Head}
+use Rattle.sheets.specs.declared.facts.Sides.{Sides}
+use Rattle.sheets.specs.declared.facts.Rest.{Rest}
+use Rattle.sheets.specs.declared.facts.Facts.{Facts}
+use Rattle.sheets.proofs.Tables.{persons-are, statuses-are, groups-are, a-is, b-is, to03100-is, to03212-is}
+
+-- is_person
+pub person-is : (t u v : Text) (n : ℕ) (p q : Bool) → u ≡ between t 0 2 → n ≡ number 2 u
+    → p ≡ among n (1 ∷ 2 ∷ 3 ∷ 4 ∷ 5 ∷ 6 ∷ 7 ∷ 8 ∷ 9 ∷ 10 ∷ 11 ∷ 12 ∷ 13 ∷ 14 ∷ 22 ∷ 24 ∷ 25 ∷ 26 ∷ 28 ∷ 29 ∷ 30 ∷ [])
+    → v ≡ between t 2 3 → q ≡ same v (59 ∷ []) → ((p && q) && leb 4 (length t)) ≡ person t
+unfolding person
+person-is t u v n p q e f g h i = cc (persons-are (between t 0 2))
+
+-- month_days
+pub month-30 : (m y : ℕ) → AnyOf m 4 (6 ∷ 9 ∷ 11 ∷ []) → 30 ≡ monthDays m y
+unfolding monthDays among any are
+month-30 m y a = arm (λ n. monthDays n y) 30 m 4 (6 ∷ 9 ∷ 11 ∷ []) (refl, (refl, (refl, refl))) a
+
+pub month-29 : (m y : ℕ) (b : Bool) → m ≡ 2 → b ≡ leap y → b ≡ true → 29 ≡ monthDays m y
+unfolding monthDays among any are
+month-29 m y b e f g = cc
+
+pub month-28 : (m y : ℕ) (b : Bool) → m ≡ 2 → b ≡ leap y → b ≡ false → 28 ≡ monthDays m y
+unfolding monthDays among any are
+month-28 m y b e f g = cc
+
+pub month-31 : (m y : ℕ) → (AnyOf m 4 (6 ∷ 9 ∷ 11 ∷ []) → ⊥) → (m ≡ 2 → ⊥) → 31 ≡ monthDays m y
+unfolding monthDays
+month-31 m y a e = simp (outside m 4 (6 ∷ 9 ∷ 11 ∷ []) a, ne-eqb m 2 e)
+
+-- is_date
+pub date-other : (t : Text) → (length t ≡ 10 → ⊥) → false ≡ date t
+unfolding date
+date-other t e = simp (ne-eqb (length t) 10 e)
+
+pub date-these : (t u v w x z : Text) (d m y : ℕ) (p q g : Bool) → length t ≡ 10 → u ≡ between t 2 3 → p ≡ same u (46 ∷ [])
+    → v ≡ between t 5 6 → q ≡ same v (46 ∷ []) → w ≡ between t 0 2 → d ≡ number 2 w → x ≡ between t 3 5 → m ≡ number 2 x
+    → z ≡ between t 6 10 → y ≡ number 4 z → g ≡ gregorian d m y → ((p && q) && g) ≡ date t
+unfolding date
+date-these t u v w x z d m y p q g l e1 e2 e3 e4 e5 e6 e7 e8 e9 e10 e11 = cc (eq-eqb (length t) 10 l)
+
+-- wanted_by: an arm of neighbours is a range to the checker
+six-seven : (n : ℕ) → 6 ≤ n → n < 8 → AnyOf n 6 (7 ∷ [])
+six-seven n h k = elim (ℕ-discrete n 6) [ yes e ↦ inl e | no f ↦ inr (omega arith) ]
+
+pub wanted-inn : (n : ℕ) → AnyOf n 1 (32 ∷ []) → Inn ≡ wantedBy n
+unfolding wantedBy among any are
+wanted-inn n a = arm wantedBy Inn n 1 (32 ∷ []) (refl, refl) a
+
+pub wanted-ten : (n : ℕ) → 6 ≤ n → n < 8 → Ten ≡ wantedBy n
+unfolding wantedBy among any are
+wanted-ten n h k = arm wantedBy Ten n 6 (7 ∷ []) (refl, refl) (six-seven n h k)
+
+pub wanted-twelve : (n : ℕ) → n ≡ 17 → Twelve ≡ wantedBy n
+unfolding wantedBy among any are
+wanted-twelve n e = rw e
+
+pub wanted-zero : (n : ℕ) → n ≡ 30 → Zero ≡ wantedBy n
+unfolding wantedBy among any are
+wanted-zero n e = rw e
+
+wanted-any : (n : ℕ) → (AnyOf n 1 (32 ∷ []) → ⊥) → (AnyOf n 6 (7 ∷ []) → ⊥) → (n ≡ 17 → ⊥) → (n ≡ 30 → ⊥) → Any ≡ wantedBy n
+unfolding wantedBy
+wanted-any n a b e f = simp (outside n 1 (32 ∷ []) a, outside n 6 (7 ∷ []) b, ne-eqb n 17 e, ne-eqb n 30 f)
+
+module _ (n : ℕ) (a : AnyOf n 1 (32 ∷ []) → ⊥) (e : n ≡ 17 → ⊥) (f : n ≡ 30 → ⊥) where
+  pub wanted-low : n < 6 → Any ≡ wantedBy n
+  wanted-low h = wanted-any n a (λ q. ⊎-elim (λ p. omega arith) (λ p. omega arith) q) e f
+
+  pub wanted-high : 7 < n → Any ≡ wantedBy n
+  wanted-high h = wanted-any n a (λ q. ⊎-elim (λ p. omega arith) (λ p. omega arith) q) e f
+
+-- standing_of
+pub standing-is : (t : Text) (n : ℕ) (l : Bool) (g : Groups) (w : Wanted) → n ≡ number 2 t
+    → l ≡ among n (1 ∷ 3 ∷ 4 ∷ 5 ∷ 6 ∷ 7 ∷ 8 ∷ 13 ∷ 15 ∷ 16 ∷ 17 ∷ 19 ∷ 20 ∷ 23 ∷ 24 ∷ 27 ∷ 28 ∷ 29 ∷ 30 ∷ 31 ∷ 32 ∷ 33 ∷ [])
+    → g ≡ groupsBy n → w ≡ wantedBy n → record { blank = eqb (length t) 0; listed = l; groups = g; wanted = w } ≡ standingOf t
+unfolding standingOf
+standing-is t n l g w e f h i = cc (statuses-are t, groups-are t)
+
+-- account_of
+pub account-is : (bik bank account u v w x z : Text) (m n o : ℕ) (a b h f : Bool) → u ≡ between account 0 5 → m ≡ number 5 u
+    → v ≡ between account 13 14 → f ≡ same v (52 ∷ []) → w ≡ between bank 0 5 → n ≡ number 5 w → a ≡ isA n m
+    → x ≡ between bik 6 9 → o ≡ number 3 x → b ≡ isB o m f → z ≡ between account 5 8 → h ≡ same z (54 ∷ 52 ∷ 51 ∷ [])
+    → record { a = a; b = b; home = h; to03100 = eqb 3100 m; to03212 = eqb 3212 m } ≡ accountOf bik bank account
+unfolding accountOf
+account-is bik bank account u v w x z m n o a b h f e1 e2 e3 e4 e5 e6 e7 e8 e9 e10 e11 e12 =
+    cc (a-is bank account, b-is bik account (between account 13 14 is "4"), to03100-is account, to03212-is account)
+
+-- facts_of
+pub facts-sized : (s : List ℕ) → length s ≡ 390 → factsIn s ≡ factsOf s
+unfolding factsIn
+facts-sized s l = simp (eq-eqb (length s) 390 l)
+
+pub facts-other : (s : List ℕ) (r : Facts) → (length s ≡ 390 → ⊥) → r ≡ noFacts → r ≡ factsIn s
+unfolding factsIn
+facts-other s r l e = simp (ne-eqb (length s) 390 l) e
+
+pub facts-is : (s : List ℕ) (h : Head) (d : Sides) (r : Rest) (a : Standing) (b : Basis) (c : Document) (y : Day) (t u v w : Text)
+    → h ≡ headOf s → d ≡ sidesOf s → r ≡ restOf s → t ≡ textOf s 6 → a ≡ standingOf t → u ≡ textOf s 11 → b ≡ basisOf u
+    → v ≡ textOf s 13 → c ≡ documentOf v → w ≡ textOf s 14 → y ≡ dayOf w
+    → length s ≡ 390 → record { head = h; sides = d; rest = r; status = a; basis = b; document = c; day = y } ≡ factsIn s
+unfolding factsOf
+facts-is s h d r a b c y t u v w eh ed er et ea eu eb ev ec ew ey l =
+    let fa : a ≡ standingOf (textOf s 6) = ea ∙ ap standingOf et in
+    let fb : b ≡ basisOf (textOf s 11) = eb ∙ ap basisOf eu in
+    let fc : c ≡ documentOf (textOf s 13) = ec ∙ ap documentOf ev in
+    let fy : y ≡ dayOf (textOf s 14) = ey ∙ ap dayOf ew in
+    (λ i. record { head = eh i; sides = ed i; rest = er i; status = fa i; basis = fb i; document = fc i; day = fy i })
+    ∙ sym (facts-sized s l)
+
+-- payer_of
+pub payer-is : (t : Text) (a b c d e f g : Bool) → a ≡ (t is "0") → b ≡ foreignCode t → c ≡ inn10 t → d ≡ inn12 t → e ≡ digits 5 t → f ≡ digits 10 t → g ≡ digits 12 t
+    → record { zero = a; foreign = b; inn10 = c; inn12 = d; five = e; ten = f; twelve = g } ≡ payerOf t
+unfolding payerOf
+payer-is t a b c d e f g ha hb hc hd he hf hg =
+    λ i. record { zero = ha i; foreign = hb i; inn10 = hc i; inn12 = hd i; five = he i; ten = hf i; twelve = hg i }

@@ -1,0 +1,11 @@
+use mathlib.Core.Path.{refl}
+use Rattle.sheets.specs.Facts.{noFacts}
+use Rattle.sheets.proofs.facts.no_facts.Statement.{statement}
+use Rattle.sheets.proofs.facts.no_facts.Tie as tie
+
+returns : tie.Need-returns
+unfolding noFacts
+returns c = refl
+
+pub no-facts-spec : {M : Type 1} → statement M
+no-facts-spec = tie.close (tie.spec returns)

@@ -1,0 +1,204 @@
+-- What the rules ask of a sheet, found once: each field's text is read into facts, and a rule is a test of facts. A reader
+-- of the promise needs none of this; proofs/On.antt shows that the tests on facts are the rules. Assumes nothing.
+use mathlib.Core.Bool.{Bool, false, cond, _&&_, _||_}
+use mathlib.Core.List.{List, [], _∷_}
+use Prim.Native.Nat.{ℕ}
+use lib.Dec.{eqb}
+use lib.ListN.{length}
+use Rattle.texts.specs.Quoted.{Text}
+use Rattle.texts.specs.Texts.{every, among, between, blank, _is_, _isOneOf_, _begins_, _beginsOneOf_, digits, digitsNotZero, number}
+use Rattle.sheets.specs.Sheet.{sheetSize, textOf, Sheet, given}
+use Rattle.sheets.specs.Forms.{uin, foreignCode, inn10, inn12, kpp, statuses, customsGroup, letterPair, person, document, date}
+use Rattle.sheets.specs.declared.forms.Wanted.{Wanted}
+use Rattle.sheets.specs.declared.forms.Wanted.the-variants.{Any, Inn, Ten, Twelve, Zero}
+use Rattle.sheets.specs.declared.facts.General.{General}
+use Rattle.sheets.specs.declared.facts.Account.{Account}
+use Rattle.sheets.specs.declared.facts.Code.{Code}
+use Rattle.sheets.specs.declared.facts.Payer.{Payer}
+use Rattle.sheets.specs.declared.facts.Form.{Form}
+use Rattle.sheets.specs.declared.facts.Groups.{Groups}
+use Rattle.sheets.specs.declared.facts.Standing.{Standing}
+use Rattle.sheets.specs.declared.facts.Basis.{Basis}
+use Rattle.sheets.specs.declared.facts.Document.{Document}
+use Rattle.sheets.specs.declared.facts.Day.{Day}
+use Rattle.sheets.specs.declared.facts.Head.{Head}
+use Rattle.sheets.specs.declared.facts.Sides.{Sides}
+use Rattle.sheets.specs.declared.facts.Rest.{Rest}
+use Rattle.sheets.specs.declared.facts.Facts.{Facts}
+
+-- ---- facts of one field
+
+-- 14, 15 and 17
+unfoldable pub generalOf : Text → Text → Text → General
+generalOf bik bank account =
+    record { bik = digits 9 bik; bank = blank bank || digits 20 bank; account = digits 20 account }
+
+-- class A and B, by the numbers that the accounts begin with
+unfoldable pub isA : ℕ → ℕ → Bool
+isA bank account =
+    eqb 40102 bank
+    && among account (3100 ∷ 3212 ∷ 3222 ∷ 3232 ∷ 3242 ∷ 3252 ∷ 3262 ∷ 3272 ∷ 3214 ∷ 3224 ∷ 3234 ∷ 3244 ∷ [])
+
+unfoldable pub isB : ℕ → ℕ → Bool → Bool
+isB bank account four =
+    among bank (0 ∷ 1 ∷ 2 ∷ 3 ∷ 4 ∷ 5 ∷ [])
+    && (eqb 40204 account || (among account (40503 ∷ 40603 ∷ 40703 ∷ []) && four))
+
+unfoldable pub accountOf : Text → Text → Text → Account
+accountOf bik bank account =
+    record {
+      a = bank begins "40102" && account beginsOneOf "03100 03212 03222 03232 03242 03252 03262 03272 03214 03224 03234 03244";
+      b =
+          between bik 6 9 isOneOf "000 001 002 003 004 005"
+          && (account begins "40204" || (account beginsOneOf "40503 40603 40703" && between account 13 14 is "4"));
+      home = between account 5 8 is "643";
+      to03100 = account begins "03100";
+      to03212 = account begins "03212";
+    }
+
+-- 22, 60
+unfoldable pub codeOf : Text → Code
+codeOf t = record { zero = t is "0"; uin = uin t; four = digitsNotZero 4 t }
+
+unfoldable pub payerOf : Text → Payer
+payerOf t =
+    record {
+      zero = t is "0";
+      foreign = foreignCode t;
+      inn10 = inn10 t;
+      inn12 = inn12 t;
+      five = digits 5 t;
+      ten = digits 10 t;
+      twelve = digits 12 t;
+    }
+
+-- 102, 104, 105, 107: "0" or a full form
+unfoldable pub formOf : Text → Bool → Form
+formOf t full = record { zero = t is "0"; full = full }
+
+-- 101: the form of 60 that a status wants, and the groups that rules name, by its number and by its text
+unfoldable pub wantedBy : ℕ → Wanted
+wantedBy n =
+    cond (among n (1 ∷ 32 ∷ [])) Inn (cond (among n (6 ∷ 7 ∷ [])) Ten (cond (eqb n 17) Twelve (cond (eqb n 30) Zero Any)))
+
+unfoldable pub groupsBy : ℕ → Groups
+groupsBy n =
+    record {
+      customs = among n (6 ∷ 7 ∷ 16 ∷ 17 ∷ 28 ∷ 30 ∷ 32 ∷ []);
+      treasury = among n (1 ∷ 4 ∷ 6 ∷ 7 ∷ 13 ∷ 16 ∷ 17 ∷ 28 ∷ 30 ∷ 32 ∷ []);
+      courts = among n (31 ∷ 33 ∷ []);
+      personal = among n (3 ∷ 19 ∷ 20 ∷ 24 ∷ []);
+      is01 = among n (1 ∷ []);
+      is13 = among n (13 ∷ []);
+      is31 = among n (31 ∷ []);
+    }
+
+unfoldable pub groupsOf : Text → Groups
+groupsOf t =
+    record {
+      customs = t isOneOf customsGroup;
+      treasury = t isOneOf "01 04 06 07 13 16 17 28 30 32";
+      courts = t isOneOf "31 33";
+      personal = t isOneOf "03 19 20 24";
+      is01 = t isOneOf "01";
+      is13 = t isOneOf "13";
+      is31 = t isOneOf "31";
+    }
+
+unfoldable pub standingOf : Text → Standing
+standingOf t =
+    record { blank = blank t; listed = t isOneOf statuses; groups = groupsOf t; wanted = wantedBy (number 2 t) }
+
+-- 106, 108, 109
+unfoldable pub basisOf : Text → Basis
+basisOf t = record { blank = blank t; zero = t is "0"; zeros = t is "00"; letters = letterPair t }
+
+unfoldable pub documentOf : Text → Document
+documentOf t = record { blank = blank t; fit = document t; person = person t; zero = t is "0"; zeros = t is "00" }
+
+unfoldable pub dayOf : Text → Day
+dayOf t = record { blank = blank t; zero = t is "0"; zeros = t is "00"; date = date t }
+
+-- ---- facts of a sheet
+
+-- the slots of 22, 60, 61, 102 to 105 and 107, which no filling gives another entry than "0"
+abbrev pub fixed : List ℕ
+fixed = 3 ∷ 4 ∷ 5 ∷ 7 ∷ 8 ∷ 9 ∷ 10 ∷ 12 ∷ []
+
+unfoldable pub headOf : Sheet → Head
+headOf s =
+    record {
+      general = generalOf (textOf s 0) (textOf s 1) (textOf s 2);
+      account = accountOf (textOf s 0) (textOf s 1) (textOf s 2);
+      given = every (given s) fixed;
+    }
+
+unfoldable pub sidesOf : Sheet → Sides
+sidesOf s =
+    record {
+      code = codeOf (textOf s 3);
+      payer = payerOf (textOf s 4);
+      payee = inn10 (textOf s 5);
+      kpp = formOf (textOf s 7) (kpp (textOf s 7));
+      payeekpp = kpp (textOf s 8);
+    }
+
+unfoldable pub restOf : Sheet → Rest
+restOf s =
+    record {
+      kbk = formOf (textOf s 9) (digitsNotZero 20 (textOf s 9));
+      oktmo = formOf (textOf s 10) (digitsNotZero 8 (textOf s 10));
+      office = formOf (textOf s 12) (digits 8 (textOf s 12));
+    }
+
+unfoldable pub factsOf : Sheet → Facts
+factsOf s =
+    record {
+      head = headOf s;
+      sides = sidesOf s;
+      rest = restOf s;
+      status = standingOf (textOf s 6);
+      basis = basisOf (textOf s 11);
+      document = documentOf (textOf s 13);
+      day = dayOf (textOf s 14);
+    }
+
+-- what the code answers of a sheet that has another size: nothing holds. The test of the size tells the compiler where every field
+-- stands; no promise depends on these facts.
+unfoldable pub noFacts : Facts
+noFacts =
+    record {
+      head =
+          record {
+            general = record { bik = false; bank = false; account = false };
+            account = record { a = false; b = false; home = false; to03100 = false; to03212 = false };
+            given = false;
+          };
+      sides =
+          record {
+            code = record { zero = false; uin = false; four = false };
+            payer = record { zero = false; foreign = false; inn10 = false; inn12 = false; five = false; ten = false; twelve = false };
+            payee = false;
+            kpp = record { zero = false; full = false };
+            payeekpp = false;
+          };
+      rest =
+          record {
+            kbk = record { zero = false; full = false };
+            oktmo = record { zero = false; full = false };
+            office = record { zero = false; full = false };
+          };
+      status =
+          record {
+            blank = false;
+            listed = false;
+            groups = record { customs = false; treasury = false; courts = false; personal = false; is01 = false; is13 = false; is31 = false };
+            wanted = Any;
+          };
+      basis = record { blank = false; zero = false; zeros = false; letters = false };
+      document = record { blank = false; fit = false; person = false; zero = false; zeros = false };
+      day = record { blank = false; zero = false; zeros = false; date = false };
+    }
+
+unfoldable pub factsIn : Sheet → Facts
+factsIn s = cond (eqb (length s) sheetSize) (factsOf s) noFacts

@@ -1,0 +1,81 @@
+-- The forms of texts that several rules ask for. Assumes nothing.
+use mathlib.Core.Bool.{Bool, not, cond, _&&_, _||_}
+use mathlib.Core.List.{[], _∷_}
+use Prim.Native.Nat.{ℕ, _%_}
+use Prim.Native.String.{String}
+use lib.Dec.{leb, eqb}
+use lib.ListN.{length}
+use Rattle.texts.specs.Quoted.{Text}
+use Rattle.texts.specs.Texts.{every, among, between, _is_, _isOneOf_, digitsNotZero, digitsNot00, number}
+
+infixr 25 _⇒_
+-- if the first, then the second
+abbrev pub _⇒_ : Bool → Bool → Bool
+a ⇒ b = not a || b
+
+-- 22: "20 or 25 digits not all zero (a UIN)"
+abbrev pub uin : Text → Bool
+uin t = digitsNotZero 20 t || digitsNotZero 25 t
+
+-- 60: "5 digits not all zero (a foreign code); 10 or 12 digits not beginning 00 (an INN)"
+abbrev pub foreignCode : Text → Bool
+foreignCode t = digitsNotZero 5 t
+
+abbrev pub inn10 : Text → Bool
+inn10 t = digitsNot00 10 t
+
+abbrev pub inn12 : Text → Bool
+inn12 t = digitsNot00 12 t
+
+abbrev pub inn : Text → Bool
+inn t = inn10 t || inn12 t
+
+-- 102, 103: "nine digits not beginning 00"
+abbrev pub kpp : Text → Bool
+kpp t = digitsNot00 9 t
+
+-- rule 10's list, in its order
+abbrev pub statuses : String
+statuses = "01 03 04 05 06 07 08 13 15 16 17 19 20 23 24 27 28 29 30 31 32 33"
+
+-- the statuses of "the customs group"
+abbrev pub customsGroup : String
+customsGroup = "06 07 16 17 28 30 32"
+
+-- rule 15's letter pairs, in its order
+abbrev pub letterPairs : String
+letterPairs = "УВ ИЛ ПБ ТГ ТБ ТД ПВ ИН ПК КЭ"
+
+abbrev pub letterPair : Text → Bool
+letterPair t = t isOneOf letterPairs
+
+-- 108: "a person identifier: two digits of 01 to 14, 22, 24, 25, 26, 28, 29, 30, then ";", then at least one byte"
+abbrev pub personTypes : String
+personTypes = "01 02 03 04 05 06 07 08 09 10 11 12 13 14 22 24 25 26 28 29 30"
+
+unfoldable pub person : Text → Bool
+person t = (between t 0 2 isOneOf personTypes && between t 2 3 is ";") && leb 4 (length t)
+
+-- "each 33 to 126 or 192 to 255 and not 45 (the hyphen)"
+abbrev pub allowed : ℕ → Bool
+allowed b = ((leb 33 b && leb b 126) || (leb 192 b && leb b 255)) && not (eqb b 45)
+
+-- rule 17 of a text: "1 to 15 bytes, each ..; if the third is ";", it must be a person identifier"
+unfoldable pub document : Text → Bool
+document t = ((leb 1 (length t) && leb (length t) 15) && every allowed t) && (between t 2 3 is ";" ⇒ person t)
+
+-- 109: "DD.MM.YYYY, a Gregorian date of the years 1900 to 2099"
+unfoldable pub leap : ℕ → Bool
+leap y = eqb (y % 4) 0 && (not (eqb (y % 100) 0) || eqb (y % 400) 0)
+
+unfoldable pub monthDays : ℕ → ℕ → ℕ
+monthDays m y = cond (among m (4 ∷ 6 ∷ 9 ∷ 11 ∷ [])) 30 (cond (eqb m 2) (cond (leap y) 29 28) 31)
+
+unfoldable pub gregorian : ℕ → ℕ → ℕ → Bool
+gregorian d m y = ((leb 1900 y && leb y 2099) && (leb 1 m && leb m 12)) && (leb 1 d && leb d (monthDays m y))
+
+-- what is not digits has a number that no day, month or year has
+unfoldable pub date : Text → Bool
+date t =
+    (eqb (length t) 10 && (between t 2 3 is "." && between t 5 6 is "."))
+    && gregorian (number 2 (between t 0 2)) (number 2 (between t 3 5)) (number 4 (between t 6 10))

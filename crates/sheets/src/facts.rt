@@ -1,0 +1,538 @@
+// What the rules ask of a sheet, found once: each field's text is read into a few facts, and a rule is a test of facts.
+ghost use mathlib.Core.Path.{_≡_};
+ghost use Rattle.texts.specs.Texts.{every, digits, digitsNotZero};
+ghost use Rattle.sheets.specs.Forms.{kpp};
+ghost use Rattle.sheets.specs.Sheet.{given};
+ghost use Rattle.sheets.specs.Facts.{generalOf, isA, isB, accountOf, codeOf, payerOf, formOf, groupsBy, standingOf, basisOf, documentOf, dayOf, fixed, headOf, sidesOf, restOf, noFacts, factsIn};
+use crate::forms::Status;
+use crate::forms::Wanted;
+use crate::forms::is_date;
+use crate::forms::is_document;
+use crate::forms::is_letter_pair;
+use crate::forms::is_person;
+use crate::forms::is_uin;
+use crate::forms::wanted_by;
+use crate::sheet::SHEET_SIZE;
+use crate::sheet::text;
+use texts::texts::equals;
+use texts::texts::has_digits;
+use texts::texts::has_digits_not_00;
+use texts::texts::has_digits_not_zero;
+use texts::texts::is_among;
+use texts::texts::is_listed;
+use texts::texts::number_2;
+use texts::texts::number_3;
+use texts::texts::number_5;
+use texts::texts::part;
+
+// 14, 15 and 17 have their forms (rules 1 to 3).
+pub struct General {
+    pub bik: bool,
+    pub bank: bool,
+    pub account: bool,
+}
+
+// Class A, class B; and of 17: 643 at its place, begins 03100, begins 03212.
+pub struct Account {
+    pub a: bool,
+    pub b: bool,
+    pub home: bool,
+    pub to03100: bool,
+    pub to03212: bool,
+}
+
+// 22: "0", a UIN, four digits not all zero.
+pub struct Code {
+    pub zero: bool,
+    pub uin: bool,
+    pub four: bool,
+}
+
+// 60: "0", a foreign code, an INN; and its digits.
+pub struct Payer {
+    pub zero: bool,
+    pub foreign: bool,
+    pub inn10: bool,
+    pub inn12: bool,
+    pub five: bool,
+    pub ten: bool,
+    pub twelve: bool,
+}
+
+// A field that is "0" or has its full form.
+pub struct Form {
+    pub zero: bool,
+    pub full: bool,
+}
+
+// The groups of statuses that rules name: the customs group, those of rule 19, 31 and 33, those of rule 25, and single ones.
+pub struct Groups {
+    pub customs: bool,
+    pub treasury: bool,
+    pub courts: bool,
+    pub personal: bool,
+    pub is01: bool,
+    pub is13: bool,
+    pub is31: bool,
+}
+
+// 101: blank, in rule 10's list, its groups, and the form of 60 that it wants.
+pub struct Standing {
+    pub blank: bool,
+    pub listed: bool,
+    pub groups: Groups,
+    pub wanted: Wanted,
+}
+
+// 106: blank, "0", "00", a letter pair.
+pub struct Basis {
+    pub blank: bool,
+    pub zero: bool,
+    pub zeros: bool,
+    pub letters: bool,
+}
+
+// 108: blank, as rule 17 has it, a person identifier, "0", "00".
+pub struct Document {
+    pub blank: bool,
+    pub fit: bool,
+    pub person: bool,
+    pub zero: bool,
+    pub zeros: bool,
+}
+
+// 109: blank, "0", "00", a date.
+pub struct Day {
+    pub blank: bool,
+    pub zero: bool,
+    pub zeros: bool,
+    pub date: bool,
+}
+
+// 14, 15 and 17; and none of 22, 60, 61, 102 to 105, 107 is blank.
+pub struct Head {
+    pub general: General,
+    pub account: Account,
+    pub given: bool,
+}
+
+// 22, 60, 61, 102, 103.
+pub struct Sides {
+    pub code: Code,
+    pub payer: Payer,
+    pub payee: bool,
+    pub kpp: Form,
+    pub payeekpp: bool,
+}
+
+// 104, 105, 107.
+pub struct Rest {
+    pub kbk: Form,
+    pub oktmo: Form,
+    pub office: Form,
+}
+
+// The last four are those that a filling can vary.
+pub struct Facts {
+    pub head: Head,
+    pub sides: Sides,
+    pub rest: Rest,
+    pub status: Standing,
+    pub basis: Basis,
+    pub document: Document,
+    pub day: Day,
+}
+
+const ACCOUNTS_A: [usize; 12] = [
+    03100,
+    03212,
+    03222,
+    03232,
+    03242,
+    03252,
+    03262,
+    03272,
+    03214,
+    03224,
+    03234,
+    03244,
+];
+
+const ACCOUNTS_B: [usize; 3] = [40503, 40603, 40703];
+
+const BANKS_B: [usize; 6] = [000, 001, 002, 003, 004, 005];
+
+const STATUSES: [u8; 22] = [
+    01,
+    03,
+    04,
+    05,
+    06,
+    07,
+    08,
+    13,
+    15,
+    16,
+    17,
+    19,
+    20,
+    23,
+    24,
+    27,
+    28,
+    29,
+    30,
+    31,
+    32,
+    33,
+];
+
+const CUSTOMS: [u8; 7] = [06, 07, 16, 17, 28, 30, 32];
+
+const TREASURY: [u8; 10] = [01, 04, 06, 07, 13, 16, 17, 28, 30, 32];
+
+const COURTS: [u8; 2] = [31, 33];
+
+const PERSONAL: [u8; 4] = [03, 19, 20, 24];
+
+fn general_of<'a>(bik: &'a [u8], bank: &'a [u8], account: &'a [u8]) -> General
+    ensures { λ r. ⌜ r ≡ generalOf (now (bik .entry)) (now (bank .entry)) (now (account .entry)) ⌝ }
+{
+    General {
+        bik: has_digits(bik, 9),
+        bank: (bank.len() == 0) | has_digits(bank, 20),
+        account: has_digits(account, 20),
+    }
+}
+
+// Class A by the numbers that 15 and 17 begin with.
+fn is_a(bank: usize, account: usize) -> bool
+    ensures { λ r. ⌜ r ≡ isA bank account ⌝ }
+{
+    (40102 == bank) & is_listed(account, &ACCOUNTS_A)
+}
+
+// Class B by digits 7 to 9 of 14, the number that 17 begins with, and whether its 14th digit is 4.
+fn is_b(bank: usize, account: usize, four: bool) -> bool
+    ensures { λ r. ⌜ r ≡ isB bank account four ⌝ }
+{
+    is_listed(bank, &BANKS_B) & ((40204 == account) | (is_listed(account, &ACCOUNTS_B) & four))
+}
+
+fn account_of<'a>(bik: &'a [u8], bank: &'a [u8], account: &'a [u8]) -> Account
+    ensures { λ r. ⌜ r ≡ accountOf (now (bik .entry)) (now (bank .entry)) (now (account .entry)) ⌝ }
+{
+    let lead = number_5(part(account, 0, 5));
+    let four = equals(part(account, 13, 14), b"4");
+    Account {
+        a: is_a(number_5(part(bank, 0, 5)), lead),
+        b: is_b(number_3(part(bik, 6, 9)), lead, four),
+        home: equals(part(account, 5, 8), b"643"),
+        to03100: 03100 == lead,
+        to03212: 03212 == lead,
+    }
+}
+
+fn code_of(t: &[u8]) -> Code
+    ensures { λ r. ⌜ r ≡ codeOf (now (t .entry)) ⌝ }
+{
+    Code {
+        zero: equals(t, b"0"),
+        uin: is_uin(t),
+        four: has_digits_not_zero(t, 4),
+    }
+}
+
+fn payer_of(t: &[u8]) -> Payer
+    ensures { λ r. ⌜ r ≡ payerOf (now (t .entry)) ⌝ }
+{
+    Payer {
+        zero: equals(t, b"0"),
+        foreign: has_digits_not_zero(t, 5),
+        inn10: has_digits_not_00(t, 10),
+        inn12: has_digits_not_00(t, 12),
+        five: has_digits(t, 5),
+        ten: has_digits(t, 10),
+        twelve: has_digits(t, 12),
+    }
+}
+
+fn kpp_of(t: &[u8]) -> Form
+    ensures { λ r. ⌜ r ≡ formOf (now (t .entry)) (kpp (now (t .entry))) ⌝ }
+{
+    Form {
+        zero: equals(t, b"0"),
+        full: has_digits_not_00(t, 9),
+    }
+}
+
+fn kbk_of(t: &[u8]) -> Form
+    ensures { λ r. ⌜ r ≡ formOf (now (t .entry)) (digitsNotZero 20 (now (t .entry))) ⌝ }
+{
+    Form {
+        zero: equals(t, b"0"),
+        full: has_digits_not_zero(t, 20),
+    }
+}
+
+fn oktmo_of(t: &[u8]) -> Form
+    ensures { λ r. ⌜ r ≡ formOf (now (t .entry)) (digitsNotZero 8 (now (t .entry))) ⌝ }
+{
+    Form {
+        zero: equals(t, b"0"),
+        full: has_digits_not_zero(t, 8),
+    }
+}
+
+fn office_of(t: &[u8]) -> Form
+    ensures { λ r. ⌜ r ≡ formOf (now (t .entry)) (digits 8 (now (t .entry))) ⌝ }
+{
+    Form {
+        zero: equals(t, b"0"),
+        full: has_digits(t, 8),
+    }
+}
+
+fn groups_of(status: Status) -> Groups
+    ensures { λ r. ⌜ r ≡ groupsBy (status .0) ⌝ }
+{
+    let n = status.0;
+    Groups {
+        customs: is_among(n, &CUSTOMS),
+        treasury: is_among(n, &TREASURY),
+        courts: is_among(n, &COURTS),
+        personal: is_among(n, &PERSONAL),
+        is01: is_among(n, &[01]),
+        is13: is_among(n, &[13]),
+        is31: is_among(n, &[31]),
+    }
+}
+
+pub fn standing_of(t: &[u8]) -> Standing
+    ensures { λ r. ⌜ r ≡ standingOf (now (t .entry)) ⌝ }
+{
+    let n = number_2(t);
+    let groups = groups_of(Status(n));
+    let wanted = wanted_by(Status(n));
+    Standing {
+        blank: t.len() == 0,
+        listed: is_among(n, &STATUSES),
+        groups: groups,
+        wanted: wanted,
+    }
+}
+
+fn basis_of(t: &[u8]) -> Basis
+    ensures { λ r. ⌜ r ≡ basisOf (now (t .entry)) ⌝ }
+{
+    Basis {
+        blank: t.len() == 0,
+        zero: equals(t, b"0"),
+        zeros: equals(t, b"00"),
+        letters: is_letter_pair(t),
+    }
+}
+
+fn document_of(t: &[u8]) -> Document
+    ensures { λ r. ⌜ r ≡ documentOf (now (t .entry)) ⌝ }
+{
+    Document {
+        blank: t.len() == 0,
+        fit: is_document(t),
+        person: is_person(t),
+        zero: equals(t, b"0"),
+        zeros: equals(t, b"00"),
+    }
+}
+
+fn day_of(t: &[u8]) -> Day
+    ensures { λ r. ⌜ r ≡ dayOf (now (t .entry)) ⌝ }
+{
+    Day {
+        blank: t.len() == 0,
+        zero: equals(t, b"0"),
+        zeros: equals(t, b"00"),
+        date: is_date(t),
+    }
+}
+
+pub fn is_given(sheet: &[u8], slot: u8) -> bool
+    ensures { λ r. ⌜ r ≡ given (now (sheet .entry)) slot ⌝ }
+{
+    !(text(sheet, slot).len() == 0)
+}
+
+fn all_given(sheet: &[u8]) -> bool
+    ensures { λ r. ⌜ r ≡ every (given (now (sheet .entry))) fixed ⌝ }
+{
+    is_given(sheet, 3)
+        & (is_given(sheet, 4)
+            & (is_given(sheet, 5)
+                & (is_given(sheet, 7)
+                    & (is_given(sheet, 8)
+                        & (is_given(sheet, 9)
+                            & (is_given(sheet, 10) & (is_given(sheet, 12) & true)))))))
+}
+
+fn head_of(sheet: &[u8]) -> Head
+    ensures { λ r. ⌜ r ≡ headOf (now (sheet .entry)) ⌝ }
+{
+    let bik = text(sheet, 0);
+    let bank = text(sheet, 1);
+    let account = text(sheet, 2);
+    let general = general_of(bik, bank, account);
+    let accounts = account_of(bik, bank, account);
+    let given = all_given(sheet);
+    Head {
+        general: general,
+        account: accounts,
+        given: given,
+    }
+}
+
+fn sides_of(sheet: &[u8]) -> Sides
+    ensures { λ r. ⌜ r ≡ sidesOf (now (sheet .entry)) ⌝ }
+{
+    let code = code_of(text(sheet, 3));
+    let payer = payer_of(text(sheet, 4));
+    let payee = has_digits_not_00(text(sheet, 5), 10);
+    let kpp = kpp_of(text(sheet, 7));
+    let payeekpp = has_digits_not_00(text(sheet, 8), 9);
+    Sides {
+        code: code,
+        payer: payer,
+        payee: payee,
+        kpp: kpp,
+        payeekpp: payeekpp,
+    }
+}
+
+fn rest_of(sheet: &[u8]) -> Rest
+    ensures { λ r. ⌜ r ≡ restOf (now (sheet .entry)) ⌝ }
+{
+    let kbk = kbk_of(text(sheet, 9));
+    let oktmo = oktmo_of(text(sheet, 10));
+    let office = office_of(text(sheet, 12));
+    Rest {
+        kbk: kbk,
+        oktmo: oktmo,
+        office: office,
+    }
+}
+
+// Nothing holds, of a sheet that has another size.
+fn no_facts() -> Facts
+    ensures { λ r. ⌜ r ≡ noFacts ⌝ }
+{
+    Facts {
+        head: Head {
+            general: General {
+                bik: false,
+                bank: false,
+                account: false,
+            },
+            account: Account {
+                a: false,
+                b: false,
+                home: false,
+                to03100: false,
+                to03212: false,
+            },
+            given: false,
+        },
+        sides: Sides {
+            code: Code {
+                zero: false,
+                uin: false,
+                four: false,
+            },
+            payer: Payer {
+                zero: false,
+                foreign: false,
+                inn10: false,
+                inn12: false,
+                five: false,
+                ten: false,
+                twelve: false,
+            },
+            payee: false,
+            kpp: Form {
+                zero: false,
+                full: false,
+            },
+            payeekpp: false,
+        },
+        rest: Rest {
+            kbk: Form {
+                zero: false,
+                full: false,
+            },
+            oktmo: Form {
+                zero: false,
+                full: false,
+            },
+            office: Form {
+                zero: false,
+                full: false,
+            },
+        },
+        status: Standing {
+            blank: false,
+            listed: false,
+            groups: Groups {
+                customs: false,
+                treasury: false,
+                courts: false,
+                personal: false,
+                is01: false,
+                is13: false,
+                is31: false,
+            },
+            wanted: Wanted::Any,
+        },
+        basis: Basis {
+            blank: false,
+            zero: false,
+            zeros: false,
+            letters: false,
+        },
+        document: Document {
+            blank: false,
+            fit: false,
+            person: false,
+            zero: false,
+            zeros: false,
+        },
+        day: Day {
+            blank: false,
+            zero: false,
+            zeros: false,
+            date: false,
+        },
+    }
+}
+
+// The test of the size tells the compiler where every field stands.
+pub fn facts_of(sheet: &[u8]) -> Facts
+    ensures { λ r. ⌜ r ≡ factsIn (now (sheet .entry)) ⌝ }
+{
+    if sheet.len() != SHEET_SIZE {
+        return no_facts();
+    }
+    let head = head_of(sheet);
+    let sides = sides_of(sheet);
+    let rest = rest_of(sheet);
+    let status = standing_of(text(sheet, 6));
+    let basis = basis_of(text(sheet, 11));
+    let document = document_of(text(sheet, 13));
+    let day = day_of(text(sheet, 14));
+    Facts {
+        head: head,
+        sides: sides,
+        rest: rest,
+        status: status,
+        basis: basis,
+        document: document,
+        day: day,
+    }
+}

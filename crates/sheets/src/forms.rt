@@ -1,0 +1,155 @@
+// The forms of texts that several rules ask for.
+ghost use mathlib.Core.Path.{_≡_};
+ghost use Rattle.texts.specs.Texts.{every};
+ghost use Rattle.sheets.specs.Forms.{uin, letterPair, person, allowed, document, leap, monthDays, gregorian, date};
+ghost use Rattle.sheets.specs.Facts.{wantedBy};
+use texts::texts::equals;
+use texts::texts::has_digits_not_zero;
+use texts::texts::is_among;
+use texts::texts::number_2;
+use texts::texts::number_4;
+use texts::texts::part;
+
+// The number of a status.
+pub struct Status(pub u8);
+
+// The form of 60 that a status wants (rule 23).
+pub enum Wanted {
+    Any,
+    Inn,
+    Ten,
+    Twelve,
+    Zero,
+}
+
+const PERSON_TYPES: [u8; 21] = [
+    1,
+    2,
+    3,
+    4,
+    5,
+    6,
+    7,
+    8,
+    9,
+    10,
+    11,
+    12,
+    13,
+    14,
+    22,
+    24,
+    25,
+    26,
+    28,
+    29,
+    30,
+];
+
+pub(crate) fn is_uin(t: &[u8]) -> bool
+    ensures { λ r. ⌜ r ≡ uin (now (t .entry)) ⌝ }
+{
+    has_digits_not_zero(t, 20) | has_digits_not_zero(t, 25)
+}
+
+// УВ, ИЛ, ПБ, ТГ, ТБ, ТД, ПВ, ИН, ПК, КЭ.
+pub(crate) fn is_letter_pair(t: &[u8]) -> bool
+    ensures { λ r. ⌜ r ≡ letterPair (now (t .entry)) ⌝ }
+{
+    equals(t, b"\xD3\xC2")
+        | (equals(t, b"\xC8\xCB")
+            | (equals(t, b"\xCF\xC1")
+                | (equals(t, b"\xD2\xC3")
+                    | (equals(t, b"\xD2\xC1")
+                        | (equals(t, b"\xD2\xC4")
+                            | (equals(t, b"\xCF\xC2")
+                                | (equals(t, b"\xC8\xCD")
+                                    | (equals(t, b"\xCF\xCA")
+                                        | (equals(t, b"\xCA\xDD") | false)))))))))
+}
+
+pub(crate) fn is_person(t: &[u8]) -> bool
+    ensures { λ r. ⌜ r ≡ person (now (t .entry)) ⌝ }
+{
+    let two = is_among(number_2(part(t, 0, 2)), &PERSON_TYPES);
+    (two & equals(part(t, 2, 3), b";")) & (4 <= t.len())
+}
+
+fn is_allowed(b: u8) -> bool
+    ensures { λ r. ⌜ r ≡ allowed b ⌝ }
+{
+    (((33 <= b) & (b <= 126)) | ((192 <= b) & (b <= 255))) & !(b == 45)
+}
+
+fn all_allowed(t: &[u8]) -> bool
+    ensures { λ r. ⌜ r ≡ every allowed (now (t .entry)) ⌝ }
+{
+    let mut good = true;
+    let mut i = 0;
+    while i < t.len() {
+        good = good & is_allowed(t[i]);
+        i += 1;
+    }
+    good
+}
+
+pub(crate) fn is_document(t: &[u8]) -> bool
+    ensures { λ r. ⌜ r ≡ document (now (t .entry)) ⌝ }
+{
+    let sized = (1 <= t.len()) & (t.len() <= 15);
+    (sized & all_allowed(t)) & (!equals(part(t, 2, 3), b";") | is_person(t))
+}
+
+fn is_leap(y: usize) -> bool
+    ensures { λ r. ⌜ r ≡ leap y ⌝ }
+{
+    (y % 4 == 0) & (!(y % 100 == 0) | (y % 400 == 0))
+}
+
+fn month_days(m: u8, y: usize) -> u8
+    ensures { λ r. ⌜ r ≡ monthDays m y ⌝ }
+{
+    match m {
+        4 | 6 | 9 | 11 => 30,
+        2 => {
+            if is_leap(y) {
+                return 29;
+            }
+            28
+        }
+        _ => 31,
+    }
+}
+
+fn is_gregorian(d: u8, m: u8, y: usize) -> bool
+    ensures { λ r. ⌜ r ≡ gregorian d m y ⌝ }
+{
+    (((1900 <= y) & (y <= 2099)) & ((1 <= m) & (m <= 12))) & ((1 <= d) & (d <= month_days(m, y)))
+}
+
+pub(crate) fn is_date(t: &[u8]) -> bool
+    ensures { λ r. ⌜ r ≡ date (now (t .entry)) ⌝ }
+{
+    if t.len() != 10 {
+        return false;
+    }
+    let points = equals(part(t, 2, 3), b".") & equals(part(t, 5, 6), b".");
+    let d = number_2(part(t, 0, 2));
+    let m = number_2(part(t, 3, 5));
+    let y = number_4(part(t, 6, 10));
+    points & is_gregorian(d, m, y)
+}
+
+// "Status as a number, matched to the wanted INN form".
+pub(crate) fn wanted_by(status: Status) -> Wanted
+    ensures { λ r. ⌜ r ≡ wantedBy (status .0) ⌝ }
+{
+    let n = status.0;
+    match n {
+        1 | 32 => Wanted::Inn,
+        6 | 7 => Wanted::Ten,
+        17 => Wanted::Twelve,
+        30 => Wanted::Zero,
+        _ => Wanted::Any,
+    }
+}

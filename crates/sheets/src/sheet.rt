@@ -1,0 +1,159 @@
+// Fields, and a sheet's texts and form.
+ghost use mathlib.Core.Path.{_≡_};
+ghost use Prim.Native.Nat.{_+_};
+ghost use Rattle.texts.specs.Texts.{every, are, between};
+ghost use Rattle.sheets.specs.Sheet.{slotOf, fieldIn, cellText, cellOk, cellOf, textOf, slotOk, wellFormed};
+use texts::texts::all_are;
+use texts::texts::at;
+use texts::texts::part;
+use texts::texts::wide;
+
+// "A sheet has 390 bytes, slot i at 26 × i".
+pub const CELL_SIZE: usize = 26;
+
+pub const SHEET_SIZE: usize = 390;
+
+// The number of a field of the order.
+pub struct Field(pub u8);
+
+const SLOTS: [u8; 15] = [0, 1, 2, 3, 4, 5, 6, 7, 8, 9, 10, 11, 12, 13, 14];
+
+const FIELDS: [u8; 15] = [
+    14,
+    15,
+    17,
+    22,
+    60,
+    61,
+    101,
+    102,
+    103,
+    104,
+    105,
+    106,
+    107,
+    108,
+    109,
+];
+
+// The slot of a field, 15 where the field is not listed.
+pub fn slot_of(field: Field) -> u8
+    ensures { λ r. ⌜ r ≡ slotOf (field .0) ⌝ }
+{
+    let f = field.0;
+    match f {
+        14 => 0,
+        15 => 1,
+        17 => 2,
+        22 => 3,
+        60 => 4,
+        61 => 5,
+        101 => 6,
+        102 => 7,
+        103 => 8,
+        104 => 9,
+        105 => 10,
+        106 => 11,
+        107 => 12,
+        108 => 13,
+        109 => 14,
+        _ => 15,
+    }
+}
+
+// The field of a slot.
+pub fn field_in(slot: u8) -> Field
+    ensures { λ r. ⌜ r .0 ≡ fieldIn slot ⌝ }
+{
+    Field(at(&FIELDS, wide(slot)))
+}
+
+fn cell(sheet: &[u8], slot: u8) -> &[u8]
+    ensures { λ r. ⌜ now r ≡ cellOf (now (sheet .entry)) slot ⌝ }
+{
+    let a = wide(slot) * CELL_SIZE;
+    part(sheet, a, a + CELL_SIZE)
+}
+
+pub fn cell_text(c: &[u8]) -> &[u8]
+    ensures { λ r. ⌜ now r ≡ cellText (now (c .entry)) ⌝ }
+{
+    part(c, 1, 1 + wide(at(c, 0)))
+}
+
+pub fn text(sheet: &[u8], slot: u8) -> &[u8]
+    ensures { λ r. ⌜ now r ≡ textOf (now (sheet .entry)) slot ⌝ }
+{
+    cell_text(cell(sheet, slot))
+}
+
+// All bytes of t are zero. Where t has w bytes, as it mostly has, the loop runs a number of times that the call fixes.
+fn all_zero(t: &[u8], w: usize) -> bool
+    ensures { λ r. ⌜ r ≡ every (are 0) (now (t .entry)) ⌝ }
+{
+    if t.len() != w {
+        return all_are(t, 0);
+    }
+    let mut good = true;
+    let mut i = 0;
+    while i < w {
+        good = good & (t[i] == 0);
+        i += 1;
+    }
+    good
+}
+
+// The bytes of a cell from n on are zero, by two windows that overlap. The test of the size fixes their widths.
+fn is_padded(c: &[u8], n: usize) -> bool
+    ensures { λ r. ⌜ r ≡ every (are 0) (between (now (c .entry)) n 26) ⌝ }
+{
+    if c.len() != 26 {
+        return all_are(part(c, n, 26), 0);
+    }
+    if n <= 10 {
+        return all_zero(part(c, n, n + 16), 16) & all_zero(part(c, 10, 26), 16);
+    }
+    if n <= 18 {
+        return all_zero(part(c, n, n + 8), 8) & all_zero(part(c, 18, 26), 8);
+    }
+    if n <= 22 {
+        return all_zero(part(c, n, n + 4), 4) & all_zero(part(c, 22, 26), 4);
+    }
+    all_are(part(c, n, 26), 0)
+}
+
+// A cell has a length of at most 25, and zero bytes after its text.
+pub fn cell_ok(c: &[u8]) -> bool
+    ensures { λ r. ⌜ r ≡ cellOk (now (c .entry)) ⌝ }
+{
+    let n = wide(at(c, 0));
+    (n <= 25) & is_padded(c, 1 + n)
+}
+
+fn slot_ok(sheet: &[u8], slot: u8) -> bool
+    ensures { λ r. ⌜ r ≡ slotOk (now (sheet .entry)) slot ⌝ }
+{
+    cell_ok(cell(sheet, slot))
+}
+
+fn slots_ok(sheet: &[u8], slots: &[u8]) -> bool
+    ensures { λ r. ⌜ r ≡ every (slotOk (now (sheet .entry))) (now (slots .entry)) ⌝ }
+{
+    let mut good = true;
+    let mut i = 0;
+    while i < slots.len() {
+        good = good & slot_ok(sheet, slots[i]);
+        i += 1;
+    }
+    good
+}
+
+// "Malformed: another size, a length above 25, a nonzero pad byte".
+pub fn well_formed(sheet: &[u8]) -> bool
+    ensures { λ r. ⌜ r ≡ wellFormed (now (sheet .entry)) ⌝ }
+{
+    if sheet.len() != SHEET_SIZE {
+        return false;
+    }
+    slots_ok(sheet, &SLOTS)
+}
