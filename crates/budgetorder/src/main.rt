@@ -1,4 +1,5 @@
 // Reads messages from standard input and writes the report (document 01, "Writer and program").
+use libc::STDERR_FILENO;
 use libc::STDIN_FILENO;
 use libc::STDOUT_FILENO;
 use report::INPUT_SIZE;
@@ -11,5 +12,10 @@ fn main() {
     let n = io::read_full(STDIN_FILENO, &mut input);
     let mut out = [0u8; REPORT_SIZE];
     let k = report(part(&input, 0, n), &mut out);
-    io::write_all(STDOUT_FILENO, part(&out, 0, k));
+    if !io::write_all(STDOUT_FILENO, part(&out, 0, k)) {
+        io::write_all(
+            STDERR_FILENO,
+            b"budgetorder: the report could not be written\n",
+        );
+    }
 }

@@ -272,6 +272,23 @@ fn a_full_input_needs_no_end() {
     same(&output.stdout, &input);
 }
 
+/// Nothing can be written to `/dev/full`.
+#[test]
+fn a_report_that_is_not_written_is_told() {
+    let Ok(full) = fs::File::options().write(true).open("/dev/full") else {
+        println!("skipped: there is no /dev/full");
+        return;
+    };
+    let output = Command::new(path())
+        .stdin(Stdio::null())
+        .stdout(full)
+        .stderr(Stdio::piped())
+        .output()
+        .expect("the program runs");
+    let told = String::from_utf8_lossy(&output.stderr);
+    assert_eq!(told, "budgetorder: the report could not be written\n");
+}
+
 fn can_trace() -> bool {
     Command::new("strace")
         .args(["-o", "/dev/null", "true"])
