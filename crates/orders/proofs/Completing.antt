@@ -19,6 +19,7 @@ use Rattle.rules.proofs.On.{ordinary-on}
 use Rattle.sheets.proofs.Ways.{facts-sized}
 use Rattle.rules.proofs.First.{numbered, none-kept}
 use Rattle.sheets.specs.declared.facts.Facts.{Facts}
+use Rattle.rules.specs.declared.Rule.{Rule as RuleNumber}
 use Rattle.sheets.specs.declared.sheet.Field.{Field}
 use Rattle.drafts.specs.Draft.{draftFormed, sheetOf, copyTests, copyingOf, copiedTo, copyAnswer}
 use Rattle.drafts.specs.Promises.{Copies}
@@ -121,29 +122,29 @@ module _ (d b o s : List ℕ) (c : Copied) (lo : length o ≡ 390) (hs : Copies 
     unfolding completing completed completeAnswer
     refused-7 z = completes-by d b (Refused (record { 0 = 7 })) b (cc (formed, ne-eqb (length b) 390 z)) (cc (formed, ne-eqb (length b) 390 z))
 
-    module _ (z : length b ≡ 390) (u : List ℕ) (x : Facts) (g : ℕ) (hu : u ≡ baseOf s) (hx : x ≡ factsIn u) (hg : g ≡ firstFailed x basic) where
+    module _ (z : length b ≡ 390) (u : List ℕ) (x : Facts) (g : RuleNumber) (hu : u ≡ baseOf s) (hx : x ≡ factsIn u) (hg : g .0 ≡ firstFailed x basic) where
       base : u ≡ baseOf (sheetOf d)
       base = hu ∙ ap baseOf sheet
 
       facts : x ≡ factsOf (baseOf (sheetOf d))
       facts = hx ∙ ap factsIn base ∙ facts-sized (baseOf (sheetOf d)) (base-length (sheetOf d) size)
 
-      first : firstBroken (sheetOf d) basic ≡ g
+      first : firstBroken (sheetOf d) basic ≡ g .0
       first = sym (hg ∙ ap (λ (f : Facts). firstFailed f basic) facts ∙ basic-on (baseOf (sheetOf d)) ∙ base-broken (sheetOf d) size)
 
       -- the answer and the buffer where the draft is well formed and the buffer has its size
-      answer-is : classAnswer (sheetOf d) g ≡ completing d b
+      answer-is : classAnswer (sheetOf d) (g .0) ≡ completing d b
       unfolding completing
       answer-is = sym (simp (formed, eq-eqb (length b) 390 z) (ap (classAnswer (sheetOf d)) first))
 
-      pub broken-8 : (f : Field) → (g ≡ 0 → ⊥) → f .0 ≡ fieldOf rules g u → Completes d b (Broken f (record { 0 = g })) b
+      pub broken-8 : (f : Field) → (g .0 ≡ 0 → ⊥) → f .0 ≡ fieldOf rules (g .0) u → Completes d b (Broken f g) b
       unfolding completed completeAnswer classAnswer
       broken-8 f y j =
-          completes-by d b (Broken f (record { 0 = g })) b
-          (cc (answer-is, ne-eqb g 0 y, basic-field (sheetOf d) u g (sym first)))
-          (sym (simp (formed, eq-eqb (length b) 390 z, first, ne-eqb g 0 y)))
+          completes-by d b (Broken f g) b
+          (cc (answer-is, ne-eqb (g .0) 0 y, basic-field (sheetOf d) u (g .0) (sym first)))
+          (sym (simp (formed, eq-eqb (length b) 390 z, first, ne-eqb (g .0) 0 y)))
 
-      module _ (y : g ≡ 0) (r : Bool) (hr : r ≡ ordinary x) where
+      module _ (y : g .0 ≡ 0) (r : Bool) (hr : r ≡ ordinary x) where
         zero : firstBroken (sheetOf d) basic ≡ 0
         zero = first ∙ y
 

@@ -42,8 +42,8 @@ fn basic_outcomes(f: Facts) -> [bool; 3]
     [keeps1(f), keeps2(f), keeps3(f)]
 }
 
-fn broken_basic(f: Facts) -> u8
-    ensures { λ r. ⌜ r ≡ firstFailed f basic ⌝ }
+fn broken_basic(f: Facts) -> Rule
+    ensures { λ r. ⌜ r .0 ≡ firstFailed f basic ⌝ }
 {
     first_broken(&basic_outcomes(f), &BASIC)
 }
@@ -65,8 +65,8 @@ pub fn complete(draft: &[u8], sheet: &mut [u8]) -> Completed
     fill_zeros(&mut work);
     let f = facts_of(&work);
     let broken = broken_basic(f);
-    if broken != 0 {
-        return Completed::Broken(field_of(Rule(broken), &work), Rule(broken));
+    if broken.0 != 0 {
+        return Completed::Broken(field_of(broken, &work), broken);
     }
     if is_ordinary(f) {
         return Completed::Refused(Refusal(9));

@@ -37,7 +37,7 @@ fn fill_slot(sheet: &mut [u8], slot: u8, row: [u8; 3])
 }
 
 // "0" into 22, 60, 102, 104, 105 and 107.
-pub fn fill_zeros(sheet: &mut [u8])
+pub(crate) fn fill_zeros(sheet: &mut [u8])
     ensures { λ _. ⌜ now (sheet .exit) ≡ baseOf (now (sheet .entry)) ⌝ }
 {
     let zero = zero_row(0);
@@ -50,7 +50,7 @@ pub fn fill_zeros(sheet: &mut [u8])
 }
 
 // The picked entries into 101, 106, 108 and 109.
-pub fn fill_picked(sheet: &mut [u8], pick: Pick)
+pub(crate) fn fill_picked(sheet: &mut [u8], pick: Pick)
     ensures { λ _. ⌜ now (sheet .exit) ≡ pickedOf (now (sheet .entry)) (pick .status ∷ pick .basis ∷ pick .document ∷ pick .day ∷ []) ⌝ }
 {
     fill_slot(sheet, 6, status_row(pick.status));
@@ -70,7 +70,7 @@ fn bit_of(sheet: &[u8], slot: u8, bit: u16) -> u16
 }
 
 // "A 16-bit set of the filled slots (bit i for slot i)": those that have a list and are blank.
-pub fn filled_set(sheet: &[u8]) -> u16
+pub(crate) fn filled_set(sheet: &[u8]) -> u16
     ensures { λ r. ⌜ r ≡ setOf (now (sheet .entry)) ⌝ }
 {
     bit_of(sheet, 3, 8)

@@ -65,7 +65,7 @@ const BASES: [[u8; 3]; 12] = [
 const ZEROS: [[u8; 3]; 2] = [[1, 48, 0], [2, 48, 48]];
 
 // A row of a table, all zero past its end.
-pub fn status_row(k: usize) -> [u8; 3]
+pub(crate) fn status_row(k: usize) -> [u8; 3]
     ensures { λ r. ⌜ r ≡ getD statusRows k noRow ⌝ }
 {
     if 22 <= k {
@@ -74,7 +74,7 @@ pub fn status_row(k: usize) -> [u8; 3]
     STATUSES[k]
 }
 
-pub fn basis_row(k: usize) -> [u8; 3]
+pub(crate) fn basis_row(k: usize) -> [u8; 3]
     ensures { λ r. ⌜ r ≡ getD basisRows k noRow ⌝ }
 {
     if 12 <= k {
@@ -83,7 +83,7 @@ pub fn basis_row(k: usize) -> [u8; 3]
     BASES[k]
 }
 
-pub fn zero_row(k: usize) -> [u8; 3]
+pub(crate) fn zero_row(k: usize) -> [u8; 3]
     ensures { λ r. ⌜ r ≡ getD zeroRows k noRow ⌝ }
 {
     if 2 <= k {
@@ -218,7 +218,7 @@ fn with_day(f: Facts, x: Day) -> Facts
 }
 
 // "Order: 101 varies slowest, then 106, 108, 109". Each level tests the rules that ask of its field at last, once.
-pub fn search(f: Facts) -> Found
+pub(crate) fn search(f: Facts) -> Found
     ensures { λ r. ⌜ r ≡ foundOf (firstPick f) ⌝ }
 {
     let mut count: usize = 0;

@@ -19,6 +19,7 @@ use Rattle.rules.specs.Tests.{ordinary, classOn, look, holds, firstFalse
 use Rattle.rules.specs.Verdicts.{verdictAnswer, judged, checked, Checked}
 use Rattle.rules.specs.declared.Class.{Class}
 use Rattle.rules.specs.declared.Class.the-variants.{A, B, O}
+use Rattle.rules.specs.declared.Rule.{Rule as RuleNumber}
 use Rattle.sheets.specs.declared.sheet.Field.{Field}
 use Rattle.rules.specs.declared.Verdict.the-variants.{Malformed, Broken, Accepted}
 use Rattle.sheets.specs.declared.facts.Facts.{Facts}
@@ -188,25 +189,25 @@ module _ (s : Sheet) where
   check-malformed w e n = checked-by s Malformed (cc (not-true w n))
 
   -- the answer that stands where the sheet is well formed and the first broken rule is known
-  broken-is : (w : Bool) (g : ℕ) (f : Field) → w ≡ wellFormed s → not w ≡ false → firstBroken s order ≡ g → (g ≡ 0 → ⊥) → f .0 ≡ fieldOf rules g s → Checked s (Broken f (record { 0 = g }))
+  broken-is : (w : Bool) (g : RuleNumber) (f : Field) → w ≡ wellFormed s → not w ≡ false → firstBroken s order ≡ g .0 → (g .0 ≡ 0 → ⊥) → f .0 ≡ fieldOf rules (g .0) s → Checked s (Broken f g)
   unfolding checked judged verdictAnswer
-  broken-is w g f e n h z i = checked-by s (Broken f (record { 0 = g })) (cc (not-false w n, ne-eqb g 0 z))
+  broken-is w g f e n h z i = checked-by s (Broken f g) (cc (not-false w n, ne-eqb (g .0) 0 z))
 
   accepted-is : (w : Bool) (k : Class) → w ≡ wellFormed s → not w ≡ false → firstBroken s order ≡ 0 → k ≡ classOf s → Checked s (Accepted k)
   unfolding checked judged verdictAnswer
   accepted-is w k e n h i = checked-by s (Accepted k) (cc (not-false w n))
 
-  module _ (w : Bool) (x : Facts) (g : ℕ) (e : w ≡ wellFormed s) (n : not w ≡ false) (j : x ≡ factsIn s) (i : g ≡ firstFailed x generalOrder) where
+  module _ (w : Bool) (x : Facts) (g : RuleNumber) (e : w ≡ wellFormed s) (n : not w ≡ false) (j : x ≡ factsIn s) (i : g .0 ≡ firstFailed x generalOrder) where
     h : x ≡ factsOf s
     h = j ∙ facts-sized s (eqb-true (length s) 390 (both (eqb (length s) 390) (every (slotOk s) slots) (sym e ∙ not-false w n) .0))
 
-    general-is : firstBroken s generalOrder ≡ g
+    general-is : firstBroken s generalOrder ≡ g .0
     general-is = cc (general-on s, h)
 
-    pub check-general : (f : Field) → (g ≡ 0 → ⊥) → f .0 ≡ fieldOf rules g s → Checked s (Broken f (record { 0 = g }))
+    pub check-general : (f : Field) → (g .0 ≡ 0 → ⊥) → f .0 ≡ fieldOf rules (g .0) s → Checked s (Broken f g)
     check-general f z k = broken-is w g f e n (not-first (keeps s) generalOrder specialOrder (λ q. z (sym general-is ∙ q)) ∙ general-is) z k
 
-    module _ (o : Bool) (z : g ≡ 0) (p : o ≡ ordinary x) where
+    module _ (o : Bool) (z : g .0 ≡ 0) (p : o ≡ ordinary x) where
       special-is : firstBroken s order ≡ firstBroken s specialOrder
       special-is = not-then (keeps s) generalOrder specialOrder general-numbered (general-is ∙ z)
 
@@ -215,14 +216,14 @@ module _ (s : Sheet) where
           let b : budget s ≡ false = not-true (budget s) (cc (ordinary-on s, h)) in
           accepted-is w O e n (special-is ∙ kept-none (keeps s) specialOrder (ordinary-kept specialOrder five-on b)) (sym (ordinary-class b))
 
-      module _ (b : ℕ) (t : o ≡ false) (q : b ≡ firstFailed x specialOrder) where
-        broken-special-is : firstBroken s order ≡ b
+      module _ (b : RuleNumber) (t : o ≡ false) (q : b .0 ≡ firstFailed x specialOrder) where
+        broken-special-is : firstBroken s order ≡ b .0
         broken-special-is =
             let y : budget s ≡ true = not-false (budget s) (cc (ordinary-on s, h)) in
             special-is ∙ budget-broken specialOrder y ∙ cc h
 
-        pub check-special : (f : Field) → (b ≡ 0 → ⊥) → f .0 ≡ fieldOf rules b s → Checked s (Broken f (record { 0 = b }))
+        pub check-special : (f : Field) → (b .0 ≡ 0 → ⊥) → f .0 ≡ fieldOf rules (b .0) s → Checked s (Broken f b)
         check-special f y m = broken-is w b f e n broken-special-is y m
 
-        pub check-accepted : (k : Class) → b ≡ 0 → k ≡ classOn x → Checked s (Accepted k)
+        pub check-accepted : (k : Class) → b .0 ≡ 0 → k ≡ classOn x → Checked s (Accepted k)
         check-accepted k y m = accepted-is w k e n (broken-special-is ∙ y) (cc (class-on s, h))

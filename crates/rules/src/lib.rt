@@ -100,10 +100,10 @@ fn first_false(outcomes: &[bool]) -> usize
 }
 
 // The first broken one of some rules, by whether each is kept; 0 where none is broken.
-pub fn first_broken(outcomes: &[bool], order: &[u8]) -> u8
-    ensures { λ r. ⌜ r ≡ getD (now (order .entry)) (firstFalse (now (outcomes .entry))) 0 ⌝ }
+pub fn first_broken(outcomes: &[bool], order: &[u8]) -> Rule
+    ensures { λ r. ⌜ r .0 ≡ getD (now (order .entry)) (firstFalse (now (outcomes .entry))) 0 ⌝ }
 {
-    at(order, first_false(outcomes))
+    Rule(at(order, first_false(outcomes)))
 }
 
 // Of the rules for classes A and B: those that ask nothing of 101, 106, 108 and 109; then, each with what the ones before
@@ -217,21 +217,21 @@ fn last_outcomes(f: Facts) -> [bool; 10]
     ]
 }
 
-fn broken_general(f: Facts) -> u8
-    ensures { λ r. ⌜ r ≡ firstFailed f generalOrder ⌝ }
+fn broken_general(f: Facts) -> Rule
+    ensures { λ r. ⌜ r .0 ≡ firstFailed f generalOrder ⌝ }
 {
     first_broken(&general_outcomes(f), &GENERAL)
 }
 
-fn broken_special(f: Facts) -> u8
-    ensures { λ r. ⌜ r ≡ firstFailed f specialOrder ⌝ }
+fn broken_special(f: Facts) -> Rule
+    ensures { λ r. ⌜ r .0 ≡ firstFailed f specialOrder ⌝ }
 {
     let first = first_broken(&first_outcomes(f), &FIRST_TEN);
-    if first != 0 {
+    if first.0 != 0 {
         return first;
     }
     let second = first_broken(&second_outcomes(f), &SECOND_TEN);
-    if second != 0 {
+    if second.0 != 0 {
         return second;
     }
     first_broken(&last_outcomes(f), &LAST_TEN)
@@ -250,18 +250,18 @@ fn class_of(f: Facts) -> Class
 }
 
 // The field of the first blank one of some slots, 0 where none is.
-fn first_blank(sheet: &[u8], slots: &[u8]) -> u8
-    ensures { λ r. ⌜ r ≡ firstBlank (now (sheet .entry)) (now (slots .entry)) ⌝ }
+fn first_blank(sheet: &[u8], slots: &[u8]) -> Field
+    ensures { λ r. ⌜ r .0 ≡ firstBlank (now (sheet .entry)) (now (slots .entry)) ⌝ }
 {
     let mut i = 0;
     while i < slots.len() {
         let k = slots[i];
         if !is_given(sheet, k) {
-            return field_in(k).0;
+            return field_in(k);
         }
         i += 1;
     }
-    0
+    Field(0)
 }
 
 // The field that a rule names.
@@ -270,7 +270,7 @@ pub fn field_of(rule: Rule, sheet: &[u8]) -> Field
 {
     let n = rule.0;
     if n == 6 {
-        return Field(first_blank(sheet, &NEEDED));
+        return first_blank(sheet, &NEEDED);
     }
     Field(at(&RULE_FIELDS, wide(n)))
 }
@@ -284,15 +284,15 @@ pub fn check(sheet: &[u8]) -> Verdict
     }
     let f = facts_of(sheet);
     let g = broken_general(f);
-    if g != 0 {
-        return Verdict::Broken(field_of(Rule(g), sheet), Rule(g));
+    if g.0 != 0 {
+        return Verdict::Broken(field_of(g, sheet), g);
     }
     if tests::is_ordinary(f) {
         return Verdict::Accepted(Class::O);
     }
     let b = broken_special(f);
-    if b != 0 {
-        return Verdict::Broken(field_of(Rule(b), sheet), Rule(b));
+    if b.0 != 0 {
+        return Verdict::Broken(field_of(b, sheet), b);
     }
     Verdict::Accepted(class_of(f))
 }

@@ -49,7 +49,7 @@ pub fn equals(t: &[u8], u: &[u8]) -> bool
     good
 }
 
-pub fn begins_with(t: &[u8], u: &[u8]) -> bool
+fn begins_with(t: &[u8], u: &[u8]) -> bool
     ensures { λ r. ⌜ r ≡ startsWith (now (t .entry)) (now (u .entry)) ⌝ }
 {
     equals(part(t, 0, u.len()), u)
@@ -68,13 +68,13 @@ pub fn all_are(t: &[u8], b: u8) -> bool
     good
 }
 
-pub fn is_digit(b: u8) -> bool
+fn is_digit(b: u8) -> bool
     ensures { λ r. ⌜ r ≡ digit b ⌝ }
 {
     (48 <= b) & (b <= 57)
 }
 
-pub fn all_digits(t: &[u8]) -> bool
+fn all_digits(t: &[u8]) -> bool
     ensures { λ r. ⌜ r ≡ every digit (now (t .entry)) ⌝ }
 {
     let mut good = true;
@@ -126,19 +126,19 @@ pub fn is_among(x: u8, l: &[u8]) -> bool
     found
 }
 
-pub fn is_listed(x: usize, l: &[usize]) -> bool
-    ensures { λ r. ⌜ r ≡ among x (now (l .entry)) ⌝ }
+pub fn is_listed(n: usize, l: &[usize]) -> bool
+    ensures { λ r. ⌜ r ≡ among n (now (l .entry)) ⌝ }
 {
     let mut found = false;
     let mut i = 0;
     while i < l.len() {
-        found = found | (l[i] == x);
+        found = found | (l[i] == n);
         i += 1;
     }
     found
 }
 
-pub fn digit_value(b: u8) -> u8
+fn digit_value(b: u8) -> u8
     ensures { λ r. ⌜ (r ≡ valueOf b) × (r ≤ 9) ⌝ }
 {
     if 48 <= b {
