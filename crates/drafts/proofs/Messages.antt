@@ -69,6 +69,10 @@ reading-is m R =
     let two : 2 ≤ length m = omega arith in
     simp (le-ltb _ _ two, eq-eqb _ _ (R .all), le-ltb _ _ (R .low), le-ltb _ _ (R .high), eq-eqb _ _ (R .version), ne-eqb _ _ (R .listed), ne-eqb _ _ (R .revised))
 
+pub text-length : (m : List ℕ) → readable m ≡ true → length (messageText m) + 8 ≡ length m
+unfolding messageText
+text-length m e = let R = readable-means m e in let l = length-drop 8 m in omega arith
+
 pub text-short : (m : List ℕ) → readable m ≡ true → length (messageText m) ≤ 25
 unfolding messageText
 text-short m e = let R = readable-means m e in simp length-drop (omega arith)
@@ -106,14 +110,27 @@ written-read m h e =
     ap (λ (x : List ℕ). 0 ∷ (length (drop 8 m) + 6) ∷ 1 ∷ getD m 3 0 ∷ (x ++ drop 8 m)) (bytes4-be4 (getD m 4 0) (getD m 5 0) (getD m 6 0) (getD m 7 0) (h 4) (h 5) (h 6) (h 7))
     ∙ sym (split m (omega arith) ∙ rw (z, v, o))
 
+-- the writer makes it of its field, revision and text
+written-again : (m b : List ℕ) → Bytes m → readable m ≡ true → length m ≤ length b
+    → (writingOf (fieldOf m) (revisionOf m) (messageText m) b ≡ success (length m ∷ [])) × (writtenOf (fieldOf m) (revisionOf m) (messageText m) b ≡ put b 0 m)
+unfolding writingOf writtenOf writeTests
+written-again m b h e u =
+    let R = readable-means m e in
+    let l = text-length m e in
+    let short = le-ltb _ _ (text-short m e) in
+    let room : length (messageText m) + 8 ≤ length b = omega arith in (
+      simp (short, ne-eqb _ _ (R .listed), ne-eqb _ _ (R .revised), le-ltb _ _ room) (ap (λ (n : ℕ). success (n ∷ [])) l),
+      simp (short, ne-eqb _ _ (R .listed), ne-eqb _ _ (R .revised), le-ltb _ _ room) (ap (put b 0) (written-read m h e)),
+    )
+
 -- the promise of `read`, from its equation
 pub reads-by : (m : List ℕ) (r : Reading) → Bytes m → readAnswer r ≡ readingOf m → Reads m r
 reads-by m r h e = record {
   answer = e;
   made =
-      λ f v q.
+      λ f v q b u.
       let p = read-found m f v (ap readAnswer (sym q) ∙ e) in
-      ap (λ (x : ℕ). messageOf x (v .number) (messageText m)) (p .1) ∙ ap (λ (x : ℕ). messageOf (fieldOf m) x (messageText m)) (p .2) ∙ written-read m h (p .0);
+      rw (p .1, p .2) (written-again m b h (p .0) u);
 }
 
 -- the ways out of `read`; l is the number of the first two bytes

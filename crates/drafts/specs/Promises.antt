@@ -2,12 +2,13 @@
 use mathlib.Core.Path.{_≡_}
 use mathlib.Core.Bool.{true}
 use mathlib.Core.List.{List, [], _∷_, _++_, List·Permᴰ}
-use Prim.Native.Nat.{ℕ, _<_}
+use Prim.Native.Nat.{ℕ, _≤_, _<_}
 use lib.ListN.{length, take}
 use Rattle.texts.specs.Answers.{success}
+use Rattle.texts.specs.Buffers.{put}
 use Rattle.sheets.specs.Sheet.{textOf, wellFormed}
 use Rattle.sheets.specs.declared.sheet.Field.{Field}
-use Rattle.drafts.specs.Message.{messageText, readingOf, readAnswer, messageOf, writingOf, writtenOf, writeAnswer}
+use Rattle.drafts.specs.Message.{messageText, readingOf, readAnswer, writingOf, writtenOf, writeAnswer}
 use Rattle.drafts.specs.Draft.{slotIn, slotText, draftSize, draftFormed, beginningOf, begunFrom, beginAnswer, postingOf, postedTo, postAnswer, copyingOf, copiedTo, copyAnswer}
 use Rattle.drafts.specs.History.{postedAll, endSlot, Ends, AllBytes, NoClash}
 use Rattle.drafts.specs.declared.revision.Revision.{Revision}
@@ -23,8 +24,14 @@ use Rattle.drafts.specs.declared.draft.Copied.the-variants as copied
 -- reading m returned r
 pub record Reads (m : List ℕ) (r : Reading) : Type 0 where
   pub answer : readAnswer r ≡ readingOf m
-  -- a message that reads is, byte for byte, the one that the writer makes of its field, revision and text
-  pub made : (f : Field) (v : Revision) → r ≡ reading.Message f v → messageOf (f .0) (v .number) (messageText m) ≡ m
+  -- a message that reads is the one that the writer makes of its field, revision and text, in every buffer that has room for it
+  pub made :
+      (f : Field) (v : Revision)
+      → r ≡ reading.Message f v
+      → (b : List ℕ)
+      → length m ≤ length b
+      → (writingOf (f .0) (v .number) (messageText m) b ≡ success (length m ∷ []))
+      × (writtenOf (f .0) (v .number) (messageText m) b ≡ put b 0 m)
 
 -- writing the field f, the revision v and the text t to the buffer b returned r and left e
 pub record Writes (f v : ℕ) (t b : List ℕ) (r : Written) (e : List ℕ) : Type 0 where
