@@ -47,7 +47,8 @@ extern "C" {
 enum {
     KIESELBROT_OK = 0,
     KIESELBROT_MALFORMED = 1,     /* draft or sheet malformed; for fresh, size not 450 */
-    KIESELBROT_LENGTH = 2,        /* a message's length is wrong; for write, text over 25 */
+    KIESELBROT_LENGTH = 2,        /* a message under 2 bytes, its length not the rest or outside
+                                     6 to 31; for write, text over 25 */
     KIESELBROT_VERSION = 3,       /* version not 1 */
     KIESELBROT_UNKNOWN_FIELD = 4, /* field not listed */
     KIESELBROT_REVISION_ZERO = 5, /* revision 0 */
