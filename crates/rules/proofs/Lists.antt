@@ -3,7 +3,7 @@ use mathlib.Core.Path.{_≡_}
 use mathlib.Core.Bool.{Bool, true, _&&_}
 use mathlib.Core.List.{[], _∷_, map}
 use Rattle.texts.specs.Texts.{every}
-use Rattle.rules.specs.Tests.{holds, generalOrder, firstTen, secondTen, lastTen, fixedRules, statusRules, basisRules, documentRules, dayRules, on1, on2, on3, on4, on5, on6, on7, on8, on9, on10, on11, on12, on13, on14, on15, on16, on17, on18, on19, on20, on21, on22, on23, on24, on25, on26, on27, on28, on29, on30, on31, on32, on33, on34}
+use Rattle.rules.specs.Tests.{holds, generalOrder, fixedRules, statusRules, basisRules, documentRules, dayRules, on1, on2, on3, on4, on5, on6, on7, on8, on9, on10, on11, on12, on13, on14, on15, on16, on17, on18, on19, on20, on21, on22, on23, on24, on25, on26, on27, on28, on29, on30, on31, on32, on33, on34}
 use Rattle.sheets.specs.declared.facts.Facts.{Facts}
 
 -- the groups of rules
@@ -32,14 +32,6 @@ pub general-outcomes : (f : Facts) (a1 a2 a3 a4 : Bool) → a1 ≡ on1 f → a2 
 unfolding holds
 general-outcomes f a1 a2 a3 a4 e1 e2 e3 e4 = λ i. e1 i ∷ e2 i ∷ e3 i ∷ e4 i ∷ []
 
-pub first-outcomes : (f : Facts) (a5 a6 a7 a8 a9 a10 a11 a12 a13 a14 : Bool) → a5 ≡ on5 f → a6 ≡ on6 f → a7 ≡ on7 f → a8 ≡ on8 f → a9 ≡ on9 f → a10 ≡ on10 f → a11 ≡ on11 f → a12 ≡ on12 f → a13 ≡ on13 f → a14 ≡ on14 f → (a5 ∷ a6 ∷ a7 ∷ a8 ∷ a9 ∷ a10 ∷ a11 ∷ a12 ∷ a13 ∷ a14 ∷ []) ≡ map (holds f) firstTen
-unfolding holds
-first-outcomes f a5 a6 a7 a8 a9 a10 a11 a12 a13 a14 e5 e6 e7 e8 e9 e10 e11 e12 e13 e14 = λ i. e5 i ∷ e6 i ∷ e7 i ∷ e8 i ∷ e9 i ∷ e10 i ∷ e11 i ∷ e12 i ∷ e13 i ∷ e14 i ∷ []
-
-pub second-outcomes : (f : Facts) (a15 a16 a17 a18 a19 a20 a21 a22 a23 a24 : Bool) → a15 ≡ on15 f → a16 ≡ on16 f → a17 ≡ on17 f → a18 ≡ on18 f → a19 ≡ on19 f → a20 ≡ on20 f → a21 ≡ on21 f → a22 ≡ on22 f → a23 ≡ on23 f → a24 ≡ on24 f → (a15 ∷ a16 ∷ a17 ∷ a18 ∷ a19 ∷ a20 ∷ a21 ∷ a22 ∷ a23 ∷ a24 ∷ []) ≡ map (holds f) secondTen
-unfolding holds
-second-outcomes f a15 a16 a17 a18 a19 a20 a21 a22 a23 a24 e15 e16 e17 e18 e19 e20 e21 e22 e23 e24 = λ i. e15 i ∷ e16 i ∷ e17 i ∷ e18 i ∷ e19 i ∷ e20 i ∷ e21 i ∷ e22 i ∷ e23 i ∷ e24 i ∷ []
-
-pub last-outcomes : (f : Facts) (a25 a26 a27 a28 a29 a30 a31 a32 a33 a34 : Bool) → a25 ≡ on25 f → a26 ≡ on26 f → a27 ≡ on27 f → a28 ≡ on28 f → a29 ≡ on29 f → a30 ≡ on30 f → a31 ≡ on31 f → a32 ≡ on32 f → a33 ≡ on33 f → a34 ≡ on34 f → (a25 ∷ a26 ∷ a27 ∷ a28 ∷ a29 ∷ a30 ∷ a31 ∷ a32 ∷ a33 ∷ a34 ∷ []) ≡ map (holds f) lastTen
-unfolding holds
-last-outcomes f a25 a26 a27 a28 a29 a30 a31 a32 a33 a34 e25 e26 e27 e28 e29 e30 e31 e32 e33 e34 = λ i. e25 i ∷ e26 i ∷ e27 i ∷ e28 i ∷ e29 i ∷ e30 i ∷ e31 i ∷ e32 i ∷ e33 i ∷ e34 i ∷ []
+-- those of ten rules, by whatever their tests come to
+pub ten : (a1 a2 a3 a4 a5 a6 a7 a8 a9 a10 b1 b2 b3 b4 b5 b6 b7 b8 b9 b10 : Bool) → a1 ≡ b1 → a2 ≡ b2 → a3 ≡ b3 → a4 ≡ b4 → a5 ≡ b5 → a6 ≡ b6 → a7 ≡ b7 → a8 ≡ b8 → a9 ≡ b9 → a10 ≡ b10 → (a1 ∷ a2 ∷ a3 ∷ a4 ∷ a5 ∷ a6 ∷ a7 ∷ a8 ∷ a9 ∷ a10 ∷ []) ≡ (b1 ∷ b2 ∷ b3 ∷ b4 ∷ b5 ∷ b6 ∷ b7 ∷ b8 ∷ b9 ∷ b10 ∷ [])
+ten a1 a2 a3 a4 a5 a6 a7 a8 a9 a10 b1 b2 b3 b4 b5 b6 b7 b8 b9 b10 e1 e2 e3 e4 e5 e6 e7 e8 e9 e10 = λ i. e1 i ∷ e2 i ∷ e3 i ∷ e4 i ∷ e5 i ∷ e6 i ∷ e7 i ∷ e8 i ∷ e9 i ∷ e10 i ∷ []

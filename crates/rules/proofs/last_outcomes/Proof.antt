@@ -1,7 +1,12 @@
 use borrow.Author.Needs.{needs}
-use Rattle.rules.proofs.Lists.{last-outcomes}
+use Rattle.rules.specs.Tests.{holds}
+use Rattle.rules.proofs.Lists.{ten}
 use Rattle.rules.proofs.last_outcomes.Statement.{statement}
 use Rattle.rules.proofs.last_outcomes.Tie as tie
 
+returns : tie.Need-returns
+unfolding holds
+returns c = search (needs, ten)
+
 pub last-outcomes-spec : {M : Type 1} → statement M
-last-outcomes-spec = tie.close (tie.spec (λ c κs. search needs) (λ c κs. search needs) (λ c κs. search needs) (λ c κs. search needs) (λ c κs. search needs) (λ c κs. search needs) (λ c κs. search needs) (λ c κs. search needs) (λ c κs. search needs) (λ c κs. search needs) (λ c. search (needs, last-outcomes)))
+last-outcomes-spec = tie.close (tie.spec (λ c κs. search needs) (λ c κs. search needs) (λ c κs. search needs) (λ c κs. search needs) (λ c κs. search needs) (λ c κs. search needs) (λ c κs. search needs) (λ c κs. search needs) (λ c κs. search needs) (λ c κs. search needs) returns)
