@@ -1,27 +1,30 @@
 -- What the functions of drafts come to, by each way out of them. Assumes nothing.
 use mathlib.Core.Path.{_≡_, refl, sym, ap, _∙_}
-use mathlib.Core.Logic.{⊎-elim}
-use mathlib.Core.Bool.{Bool, true, false, not}
+use mathlib.Core.Logic.{_↔_, ⊎-elim}
+use mathlib.Core.Bool.{Bool, true, false, cond, not, true≢false}
 use mathlib.Core.List.{List, [], _∷_, _++_, List·Memᴰ, List·Memᴰ·append-cases, List·Memᴰ·eq-of-singleton, List·Memᴰ·not-nil}
 use Prim.Native.Nat.{ℕ, _+_, _-_, _*_, _<_, _≤_}
 use native.Mathlib.Nat.{zero-add}
 use native.Mathlib.Numerals.{add-one}
 use native.Mathlib.Omega.{arith}
-use borrow.Author.Tests.{lt-ltb, le-ltb, eq-eqb, ne-eqb, not-true, not-false}
+use borrow.Author.Tests.{lt-ltb, le-ltb, ltb-true, ltb-false, eq-eqb, ne-eqb, eqb-true, not-true, not-false}
 use borrow.Author.Needs.{needs}
 use mir.Syntax.{w8}
 use mir.Val.{Fits}
+use lib.Dec.{eqb, ltb}
 use lib.ListN.{length, getD, replicate}
+use Rattle.texts.specs.Texts.{same}
+use Rattle.texts.proofs.Codes.{same-true, same-self}
 use Rattle.texts.specs.Numbers.{bytes4}
 use Rattle.texts.specs.Buffers.{put, putAt, zeroed}
 use Rattle.texts.proofs.Puts.{put-fits, length-put, put-put, put-none, put-next, put-whole}
 use Rattle.sheets.specs.Sheet.{cell, slotOf}
 use Rattle.sheets.specs.declared.sheet.Field.{Field}
-use Rattle.drafts.specs.Tests.{_⇒_}
-use Rattle.drafts.specs.Message.{Bytes, fieldOf, revisionOf, messageText, readTests, readable, readingOf, readAnswer}
-use Rattle.drafts.specs.Draft.{slotSize, draftSize, standing, slotIn, slotCell, slotBytes, draftFormed, freshDraft, beginTests, beginningOf, begunFrom, slotStanding, standingOf, clashes, word, postTests, postingOf, stored, postedTo, postAnswer, cells, sheetOf, copyTests, copyingOf, copiedTo, copyAnswer}
+use Rattle.texts.specs.Answers.{Answer, success, refusal, numberOf, _refuses_, passes, answerBy}
+use Rattle.drafts.specs.Message.{Bytes, IsMessage, fieldOf, revisionOf, messageText, readTests, readable, readingOf, readAnswer}
+use Rattle.drafts.specs.Draft.{slotSize, draftSize, standing, slotIn, slotRevision, slotCell, slotText, slotBytes, draftFormed, freshDraft, beginTests, beginningOf, begunFrom, slotStanding, standingOf, clashes, word, kept, postTests, postingOf, stored, postedTo, postAnswer, cells, sheetOf, copyTests, copyingOf, copiedTo, copyAnswer}
 use Rattle.drafts.specs.History.{postedFrom, postedAll}
-use Rattle.drafts.specs.Promises.{Reads, Left, Freshens, Posts, Copies}
+use Rattle.drafts.specs.Promises.{Reads, Left, Freshens, Stands, newer as is-newer, same as is-same, older as is-older, clash as is-clash, Posts, Copies}
 use Rattle.drafts.specs.declared.revision.Revision.{Revision}
 use Rattle.drafts.specs.declared.revision.Standing.{Standing}
 use Rattle.drafts.specs.declared.revision.Standing.the-variants.{Newer, Same, Older, Clash}
@@ -33,8 +36,8 @@ use Rattle.drafts.specs.declared.draft.Posted.{Posted}
 use Rattle.drafts.specs.declared.draft.Posted.the-variants as posted
 use Rattle.drafts.specs.declared.draft.Copied.{Copied}
 use Rattle.drafts.specs.declared.draft.Copied.the-variants as copied
-use Rattle.drafts.proofs.Tables.{none-of, succeeded, refused}
-use Rattle.drafts.proofs.Messages.{readable-means, read-found, text-short}
+use Rattle.texts.proofs.Refusals.{no-success, none-of, succeeds, succeeded, refused, unchanged, never}
+use Rattle.drafts.proofs.Messages.{readable-means, readable-by, read-found, text-short, message-is}
 use Rattle.drafts.proofs.Ending.{post-read}
 use Rattle.drafts.proofs.Perms.{held-by}
 use Rattle.drafts.proofs.Sheets.{length-cell, length-cells, sheet-text, sheet-formed}
@@ -78,7 +81,13 @@ slot-made r t d x y l ed ex ey =
 
 pub fresh-not : (d : List ℕ) → (length d ≡ draftSize → ⊥) → Freshens d (begun.Refused (record { 0 = 1 })) d
 unfolding beginningOf begunFrom beginTests
-fresh-not d e = record { answer = simp (ne-eqb (length d) draftSize e); draft = simp (ne-eqb (length d) draftSize e); start = λ z. absurd (e z) }
+fresh-not d e = record {
+  answer = simp (ne-eqb (length d) draftSize e);
+  draft = simp (ne-eqb (length d) draftSize e);
+  refused = λ n. refl;
+  exactly = (λ h. let z : _≡_ {A = ℕ} 0 1 = cc in absurd (omega arith), λ z. absurd (e z));
+  start = λ z. absurd (e z);
+}
 
 pub fresh-made : (d e : List ℕ) → length d ≡ draftSize → e ≡ zeroed d → Freshens d begun.Made e
 unfolding beginningOf begunFrom beginTests freshDraft zeroed postedAll
@@ -87,6 +96,8 @@ fresh-made d e z p =
     record {
       answer = simp (eq-eqb (length d) draftSize z);
       draft = q ∙ simp (eq-eqb (length d) draftSize z);
+      refused = λ n. absurd (n refl);
+      exactly = (λ h. z, λ h. refl);
       start = λ _. record { draft = q; strings = λ m h. absurd (List·Memᴰ·not-nil h) };
     }
 
@@ -104,9 +115,83 @@ left-more d m e b q ms L = record {
       ⊎-elim (λ (k : List·Memᴰ a ms). L .strings a k) (λ (k : List·Memᴰ a (m ∷ [])). rw (List·Memᴰ·eq-of-singleton k) b) (List·Memᴰ·append-cases ms h);
 }
 
+-- what was returned, by the answer
+postedOf : Answer → Posted
+postedOf (success vs) = cond (eqb (getD vs 0 0) 110) posted.Newer (cond (eqb (getD vs 0 0) 115) posted.Same posted.Older)
+postedOf (refusal n vs) = posted.Refused (record { 0 = n })
+
+posted-of : (r : Posted) (a : Answer) → postAnswer r ≡ a → r ≡ postedOf a
+unfolding postedOf
+posted-of r a p = is r ∙ ap postedOf p
+  where
+    is : (x : Posted) → x ≡ postedOf (postAnswer x)
+    is posted.Newer = refl
+    is posted.Same = refl
+    is posted.Older = refl
+    is (posted.Refused n) = refl
+
+-- by the revision and the text of the slot
+stands-by : (s : List ℕ) (v : ℕ) (t : List ℕ) → let st = slotStanding s v t in Stands s v t (postedOf (answerBy ((clashes st refuses 6) ∷ []) (word st)))
+unfolding slotStanding postedOf
+stands-by s v t = by (ltb (slotRevision s) v) (ltb v (slotRevision s)) (same (slotText s) t) refl refl refl
+  where
+    by : (x y z : Bool) → ltb (slotRevision s) v ≡ x → ltb v (slotRevision s) ≡ y → same (slotText s) t ≡ z
+        → let st = cond x Newer (cond y Older (cond z Same Clash)) in Stands s v t (postedOf (answerBy ((clashes st refuses 6) ∷ []) (word st)))
+    by true y z a b c = is-newer (ltb-true _ _ a)
+    by false true z a b c = is-older (ltb-true _ _ b)
+    by false false true a b c = is-same (omega (arith, ltb-false (slotRevision s) v a, ltb-false v (slotRevision s) b)) (same-true _ _ c)
+    by false false false a b c =
+        is-clash (omega (arith, ltb-false (slotRevision s) v a, ltb-false v (slotRevision s) b)) (λ e. true≢false (sym (same-self t) ∙ ap (λ (x : List ℕ). same x t) (sym e) ∙ c))
+
+module _ (d m : List ℕ) (r : Posted) (p : postAnswer r ≡ postingOf d m) where
+  post-kept : (e : List ℕ) → e ≡ postedTo d m → (r ≡ posted.Newer → ⊥) → e ≡ d
+  unfolding postingOf postedTo postedOf
+  post-kept e q n = q ∙ go (passes (postTests d m)) refl
+    where
+      old : (st : Standing) (new : List ℕ) → r ≡ postedOf (success (word st)) → kept st new d ≡ d
+      old Newer new h = absurd (n h)
+      old Same new h = refl
+      old Older new h = refl
+      old Clash new h = refl
+
+      go : (b : Bool) → passes (postTests d m) ≡ b → cond b (kept (standingOf d m) (stored d m) d) d ≡ d
+      go true h = old (standingOf d m) (stored d m) (posted-of r _ (p ∙ succeeds _ [] (postTests d m) h))
+      go false h = refl
+
+  post-formed : (r ≡ posted.Refused (record { 0 = 1 })) ↔ (draftFormed d ≡ false)
+  unfolding postingOf postTests readTests postedOf
+  post-formed = (λ h. go (draftFormed d) refl (sym p ∙ ap postAnswer h), λ w. posted-of r (refusal 1 []) (p ∙ rw w))
+    where
+      go : (b : Bool) → draftFormed d ≡ b → postingOf d m ≡ refusal 1 [] → b ≡ false
+      go false w h = refl
+      go true w h = absurd (never 1 (word (standingOf d m)) (readTests m ++ ((clashes (standingOf d m) refuses 6) ∷ [])) (λ z. omega arith) refl (ap numberOf (rw w at h)))
+
+  module _ (w : draftFormed d ≡ true) where
+    post-refused : (n : ℕ) → readingOf m ≡ refusal n [] → r ≡ posted.Refused (record { 0 = n })
+    unfolding postingOf postTests readingOf postedOf
+    post-refused n h =
+        let o = refused _ (word (standingOf d m)) n [] (readTests m) ((clashes (standingOf d m) refuses 6) ∷ []) (sym h) in
+        posted-of r (refusal n []) (p ∙ rw w (sym (o .1)))
+
+    post-stands : (f v : ℕ) (t : List ℕ) → IsMessage m f v t → Stands (slotIn d (slotOf f)) v t r
+    unfolding standingOf
+    post-stands f v t M =
+        let (R, ef, ev, et) = message-is m f v t M in
+        let o = post-read d m (standingOf d m) w (readable-by m R) refl .0 in
+        rw (posted-of r _ (p ∙ sym o), ← ef, ← ev, ← et) (stands-by (slotIn d (slotOf (fieldOf m))) (revisionOf m) (messageText m))
+
 -- the promise of `post`, from its two equations
 pub posts-by : (d m : List ℕ) (r : Posted) (e : List ℕ) → Bytes m → postAnswer r ≡ postingOf d m → e ≡ postedTo d m → Posts d m r e
-posts-by d m r e b p q = record { answer = p; draft = q; after = left-more d m e b q; held = λ ms L. held-by (ms ++ (m ∷ [])) e (left-more d m e b q ms L) }
+posts-by d m r e b p q = record {
+  answer = p;
+  draft = q;
+  refused = post-kept d m r p e q;
+  malformed = post-formed d m r p;
+  unread = post-refused d m r p;
+  stands = post-stands d m r p;
+  after = left-more d m e b q;
+  held = λ ms L. held-by (ms ++ (m ∷ [])) e (left-more d m e b q ms L);
+}
 
 module _ (d m : List ℕ) (h : (k : ℕ) → Fits w8 (getD m k 0)) (b : Bool) (eb : b ≡ draftFormed d) where
   post : (r : Posted) (e : List ℕ) → postAnswer r ≡ postingOf d m → e ≡ postedTo d m → Posts d m r e
@@ -125,7 +210,7 @@ module _ (d m : List ℕ) (h : (k : ℕ) → Fits w8 (getD m k 0)) (b : Bool) (e
     pub post-unread : (n : Refusal) → rd ≡ Refused n → Posts d m (posted.Refused n) d
     unfolding postingOf postedTo postTests readingOf
     post-unread n e =
-        let p = refused (fieldOf m ∷ revisionOf m ∷ []) (word (standingOf d m)) (n .0) (readTests m) ((clashes (standingOf d m) ⇒ 6) ∷ []) (ap readAnswer (sym e) ∙ R .answer) in
+        let p = refused (fieldOf m ∷ revisionOf m ∷ []) (word (standingOf d m)) (n .0) [] (readTests m) ((clashes (standingOf d m) refuses 6) ∷ []) (ap readAnswer (sym e) ∙ R .answer) in
         post _ d (rw formed (p .1)) (rw (formed, p .0))
 
     module _ (f : Field) (v : Revision) (er : rd ≡ Message f v) (t : List ℕ) (et : t ≡ messageText m) where
@@ -186,16 +271,29 @@ module _ (d s : List ℕ) (l : length d ≡ draftSize) (z : length s ≡ 390) wh
 
 -- ---- copy
 
+copied-made : (r : Copied) → copyAnswer r ≡ success [] → r ≡ copied.Made
+copied-made copied.Made e = refl
+copied-made (copied.Refused n) e = absurd (no-success (n .0) [] [] e)
+
+copy-means : (d s : List ℕ) → passes (copyTests d s) ≡ true → (draftFormed d ≡ true) × (length s ≡ 390)
+unfolding copyTests
+copy-means d s z = let o = none-of (copyTests d s) z in (not-false _ (o .0), eqb-true _ _ (not-false _ (o .1 .0)))
+
 -- the promise of `copy`, from its two equations
 copies-by : (d s : List ℕ) (r : Copied) (e : List ℕ) → copyAnswer r ≡ copyingOf d s → e ≡ copiedTo d s → Copies d s r e
 unfolding copyingOf copiedTo copyTests
 copies-by d s r e p q = record {
   answer = p;
   sheet = q;
+  refused = λ n. q ∙ unchanged [] _ _ (copyTests d s) (λ z. n (copied-made r (p ∙ z)));
+  exactly = (
+    λ o. copy-means d s (succeeded [] [] (copyTests d s) (ap copyAnswer (sym o) ∙ p) .0),
+    λ c. copied-made r (p ∙ simp (c .0, eq-eqb _ _ (c .1))),
+  );
   made =
       λ o.
       let z = succeeded [] [] (copyTests d s) (ap copyAnswer (sym o) ∙ p) .0 in
-      let w : draftFormed d ≡ true = not-false _ (none-of (copyTests d s) z .0) in
+      let w = copy-means d s z .0 in
       let u : e ≡ sheetOf d = q ∙ rw z in
       rw u (sheet-formed d w, sheet-text d (formed-means d w .sized));
 }

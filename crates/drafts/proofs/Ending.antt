@@ -13,13 +13,13 @@ use lib.Seq.{take-at}
 use Rattle.texts.specs.Texts.{between, every, are, same}
 use Rattle.texts.proofs.Bools.{both}
 use Rattle.sheets.specs.Sheet.{slotOf, cellText, cellOk}
-use Rattle.drafts.specs.Tests.{_⇒_, answerBy, bufferBy}
+use Rattle.texts.specs.Answers.{_refuses_, answerBy, bufferBy}
 use Rattle.drafts.specs.Message.{Bytes, fieldOf, revisionOf, messageText, readTests, readable}
 use Rattle.drafts.specs.Draft.{slotSize, draftSize, slotIn, slotRevision, slotCell, slotText, slotBytes, slotFormed, draftFormed, freshDraft, standing, slotStanding, standingOf, clashes, word, kept, postTests, postingOf, stored, postedTo}
 use Rattle.drafts.specs.History.{postedFrom, postedAll, names, given, highest, firstText, emptySlot, endSlot, Ends, none, won, AllBytes}
 use Rattle.drafts.specs.declared.revision.Standing.{Standing}
 use Rattle.drafts.specs.declared.revision.Standing.the-variants.{Newer, Same, Older, Clash}
-use Rattle.drafts.proofs.Tables.{fails, more}
+use Rattle.texts.proofs.Refusals.{fails, more}
 use Rattle.drafts.proofs.Messages.{readable-means, text-short}
 use Rattle.drafts.proofs.Slots.{drop-zeros, length-slot, slot-revision, slot-formed, slot-part, length-put-slot, slot-same, slot-other, Formed, formed-by, slot-le}
 
@@ -67,10 +67,10 @@ cond-map f true x y = refl
 cond-map f false x y = refl
 
 -- only a newer message changes the draft
-stand-kept : (r h : ℕ) (b : Bool) (new old : List ℕ) → bufferBy ((clashes (standing r h b) ⇒ 6) ∷ []) (kept (standing r h b) new old) old ≡ cond (ltb h r) new old
+stand-kept : (r h : ℕ) (b : Bool) (new old : List ℕ) → bufferBy ((clashes (standing r h b) refuses 6) ∷ []) (kept (standing r h b) new old) old ≡ cond (ltb h r) new old
 stand-kept r h b new old = by (ltb h r) (ltb r h) b
   where
-    by : (x y b : Bool) → let st = cond x Newer (cond y Older (cond b Same Clash)) in bufferBy ((clashes st ⇒ 6) ∷ []) (kept st new old) old ≡ cond x new old
+    by : (x y b : Bool) → let st = cond x Newer (cond y Older (cond b Same Clash)) in bufferBy ((clashes st refuses 6) ∷ []) (kept st new old) old ≡ cond x new old
     by true y b = refl
     by false true b = refl
     by false false true = refl
@@ -78,16 +78,16 @@ stand-kept r h b new old = by (ltb h r) (ltb r h) b
 
 -- a readable message against a well-formed draft: what is left to test is the clash
 pub post-read : (d m : List ℕ) (st : Standing) → draftFormed d ≡ true → readable m ≡ true → st ≡ standingOf d m
-    → (answerBy ((clashes st ⇒ 6) ∷ []) (word st) ≡ postingOf d m) × (bufferBy ((clashes st ⇒ 6) ∷ []) (kept st (stored d m) d) d ≡ postedTo d m)
+    → (answerBy ((clashes st refuses 6) ∷ []) (word st) ≡ postingOf d m) × (bufferBy ((clashes st refuses 6) ∷ []) (kept st (stored d m) d) d ≡ postedTo d m)
 unfolding readable postingOf postedTo postTests
 post-read d m st w z e =
-    let p = more ((clashes st ⇒ 6) ∷ []) (word st) (readTests m) z in
+    let p = more ((clashes st refuses 6) ∷ []) (word st) (readTests m) z in
     (rw (w, ← e) (sym (p .1)), rw (w, ← e, p .0))
 
 module _ (d m : List ℕ) where
   posted-unread : readable m ≡ false → postedTo d m ≡ d
   unfolding readable postedTo postTests
-  posted-unread z = rw (fails (readTests m) ((clashes (standingOf d m) ⇒ 6) ∷ []) z) (unchanged (not (draftFormed d)))
+  posted-unread z = rw (fails (readTests m) ((clashes (standingOf d m) refuses 6) ∷ []) z) (unchanged (not (draftFormed d)))
     where
       unchanged : (b : Bool) → cond (not b && false) (kept (standingOf d m) (stored d m) d) d ≡ d
       unchanged true = refl

@@ -1,4 +1,3 @@
-pub mod Tables
 pub mod Messages
 pub mod Slots
 pub mod Ending

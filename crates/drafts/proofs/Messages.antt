@@ -1,8 +1,8 @@
 -- Messages: what is known of a readable one, and the two ways round. Assumes nothing.
-use mathlib.Core.Path.{_≡_, refl, sym, ap, _∙_}
-use mathlib.Core.Bool.{true, false}
-use mathlib.Core.List.{List, [], _∷_, _++_}
-use Prim.Native.Nat.{ℕ, _+_, _-_, _/_, _%_, _^_, _<_, _≤_}
+use mathlib.Core.Path.{_≡_, refl, sym, ap, _∙_, subst}
+use mathlib.Core.Bool.{Bool, true, false, cond}
+use mathlib.Core.List.{List, [], _∷_, _++_, List·Memᴰ, List·Memᴰ·head, List·Memᴰ·tail}
+use Prim.Native.Nat.{ℕ, suc, _+_, _-_, _/_, _%_, _^_, _<_, _≤_}
 use native.Mathlib.Omega.{arith}
 use borrow.Author.Tests.{lt-ltb, le-ltb, eq-eqb, ne-eqb, ltb-false, eqb-true, eqb-false, not-false}
 use borrow.Author.Needs.{needs}
@@ -11,22 +11,21 @@ use mir.Val.{Fits}
 use lib.Dec.{eqb}
 use lib.ListN.{length, take, drop, getD, length-drop}
 use lib.Seq.{take-all}
-use Rattle.texts.specs.Answers.{success}
+use Rattle.texts.specs.Answers.{success, passes, answerBy}
 use Rattle.texts.specs.Texts.{between}
 use Rattle.texts.specs.Numbers.{be2, be4, bytes4}
 use Rattle.texts.specs.Buffers.{put, putAt}
-use Rattle.texts.proofs.Puts.{put-fits, length-put, put-put, mid-put}
-use Rattle.sheets.specs.Sheet.{slotOf}
+use Rattle.texts.proofs.Puts.{put-fits, length-put, put-put, mid-put, drop-put}
+use Rattle.sheets.specs.Sheet.{fields, placeOf, slotOf}
 use Rattle.sheets.specs.declared.sheet.Field.{Field}
-use Rattle.drafts.specs.Tests.{passes}
-use Rattle.drafts.specs.Message.{Bytes, lengthOf, versionOf, fieldOf, revisionOf, messageText, readTests, readable, readingOf, readAnswer, headOf, messageOf, writeTests, writingOf, writtenOf, writeAnswer}
+use Rattle.drafts.specs.Message.{Bytes, IsMessage, Writable, lengthOf, versionOf, fieldOf, revisionOf, messageText, readTests, readable, readingOf, readAnswer, headOf, messageOf, writeTests, writingOf, writtenOf, writeAnswer}
 use Rattle.drafts.specs.Promises.{Reads, Writes}
 use Rattle.drafts.specs.declared.revision.Revision.{Revision}
 use Rattle.drafts.specs.declared.message.Reading.{Reading}
 use Rattle.drafts.specs.declared.message.Reading.the-variants.{Message, Refused}
 use Rattle.drafts.specs.declared.message.Written.{Written}
 use Rattle.drafts.specs.declared.message.Written.the-variants as written
-use Rattle.drafts.proofs.Tables.{none-of, succeeded}
+use Rattle.texts.proofs.Refusals.{no-success, none-of, succeeds, succeeded, unchanged}
 
 -- four bytes as a number and back, a number as four bytes and back
 pub be4-bytes4 : (r : ℕ) → r < 2 ^ 32 → be4 (r / 16777216) (r / 65536 % 256) (r / 256 % 256) (r % 256) ≡ r
@@ -39,6 +38,32 @@ bytes4-be4 a b c d ha hb hc hd =
     let e3 : be4 a b c d / 256 % 256 ≡ c = omega arith in
     let e4 : be4 a b c d % 256 ≡ d = omega arith in
     rw (e1, e2, e3, e4)
+
+-- ---- a listed field has a slot, and no other has one
+
+place-mem : (x : ℕ) (l : List ℕ) → (placeOf x l ≡ length l → ⊥) → List·Memᴰ x l
+place-mem x [] n = absurd (n refl)
+place-mem x (y ∷ ys) n = go (eqb x y) refl (place-mem x ys)
+  where
+    go : (b : Bool) → eqb x y ≡ b → ((placeOf x ys ≡ length ys → ⊥) → List·Memᴰ x ys) → List·Memᴰ x (y ∷ ys)
+    go true e r = List·Memᴰ·head (eqb-true x y e)
+    go false e r = List·Memᴰ·tail (r (λ q. n (rw e (ap suc q))))
+
+mem-place : {x : ℕ} {l : List ℕ} → List·Memᴰ x l → placeOf x l < length l
+mem-place {x} (List·Memᴰ·head {x = y} {xs = ys} e) = rw (eq-eqb x y e) (omega arith)
+mem-place {x} (List·Memᴰ·tail {x = y} {xs = ys} m) = go (eqb x y) (mem-place m)
+  where
+    go : (b : Bool) → placeOf x ys < length ys → cond b 0 (suc (placeOf x ys)) < suc (length ys)
+    go true h = omega arith
+    go false h = omega arith
+
+listed-by : (f : ℕ) → (slotOf f ≡ 15 → ⊥) → List·Memᴰ f fields
+unfolding slotOf
+listed-by f n = place-mem f fields n
+
+pub listed-slot : (f : ℕ) → List·Memᴰ f fields → slotOf f ≡ 15 → ⊥
+unfolding slotOf
+listed-slot f m e = let h = mem-place m in omega arith
 
 -- ---- reading
 
@@ -63,11 +88,15 @@ readable-means m e =
       revised = eqb-false _ _ (p .1 .1 .1 .1 .1 .1 .0);
     }
 
-pub reading-is : (m : List ℕ) → Readable m → readingOf m ≡ success (fieldOf m ∷ revisionOf m ∷ [])
-unfolding readingOf readTests
-reading-is m R =
+pub readable-by : (m : List ℕ) → Readable m → readable m ≡ true
+unfolding readable readTests
+readable-by m R =
     let two : 2 ≤ length m = omega arith in
     simp (le-ltb _ _ two, eq-eqb _ _ (R .all), le-ltb _ _ (R .low), le-ltb _ _ (R .high), eq-eqb _ _ (R .version), ne-eqb _ _ (R .listed), ne-eqb _ _ (R .revised))
+
+pub reading-is : (m : List ℕ) → Readable m → readingOf m ≡ success (fieldOf m ∷ revisionOf m ∷ [])
+unfolding readingOf readable
+reading-is m R = succeeds _ [] (readTests m) (readable-by m R)
 
 pub text-length : (m : List ℕ) → readable m ≡ true → length (messageText m) + 8 ≡ length m
 unfolding messageText
@@ -96,6 +125,52 @@ split (a ∷ b ∷ c ∷ d ∷ e ∷ []) h = absurd (omega arith)
 split (a ∷ b ∷ c ∷ d ∷ e ∷ f ∷ []) h = absurd (omega arith)
 split (a ∷ b ∷ c ∷ d ∷ e ∷ f ∷ g ∷ []) h = absurd (omega arith)
 split (a ∷ b ∷ c ∷ d ∷ e ∷ f ∷ g ∷ i ∷ m) h = refl
+
+-- it is a message of its field, revision and text, and of nothing else
+is-message : (m : List ℕ) → readable m ≡ true → IsMessage m (fieldOf m) (revisionOf m) (messageText m)
+unfolding messageText
+is-message m e =
+    let R = readable-means m e in
+    let l = length-drop 8 m in
+    let v : getD m 2 0 ≡ 1 = R .version in
+    record {
+      l1 = getD m 0 0;
+      l2 = getD m 1 0;
+      r1 = getD m 4 0;
+      r2 = getD m 5 0;
+      r3 = getD m 6 0;
+      r4 = getD m 7 0;
+      parts = split m (omega arith) ∙ rw v;
+      size = omega arith;
+      most = omega arith;
+      listed = listed-by (fieldOf m) (R .listed);
+      revision = refl;
+      given = R .revised;
+    }
+
+pub message-is : (m : List ℕ) (f v : ℕ) (t : List ℕ) → IsMessage m f v t → Readable m × (fieldOf m ≡ f) × (revisionOf m ≡ v) × (messageText m ≡ t)
+unfolding messageText
+message-is m f v t M =
+    subst (λ (x : List ℕ). Readable x × (fieldOf x ≡ f) × (revisionOf x ≡ v) × (messageText x ≡ t)) (sym (M .parts)) (
+      record {
+        all = omega (arith, M .size);
+        low = omega (arith, M .size);
+        high = omega (arith, M .size, M .most);
+        version = refl;
+        listed = listed-slot f (M .listed);
+        revised = λ e. M .given (sym (M .revision) ∙ e);
+      },
+      refl,
+      M .revision,
+      refl,
+    )
+
+reading-made : (r : Reading) (f : Field) (v : Revision) → readAnswer r ≡ success (f .0 ∷ v .number ∷ []) → r ≡ Message f v
+reading-made (Message g w) f v e =
+    let p : g .0 ≡ f .0 = cc in
+    let q : w .number ≡ v .number = cc in
+    λ i. Message (record { 0 = p i }) (record { number = q i })
+reading-made (Refused n) f v e = absurd (no-success (n .0) [] _ e)
 
 pub written-read : (m : List ℕ) → Bytes m → readable m ≡ true → messageOf (fieldOf m) (revisionOf m) (messageText m) ≡ m
 unfolding messageOf headOf messageText
@@ -127,6 +202,14 @@ written-again m b h e u =
 pub reads-by : (m : List ℕ) (r : Reading) → Bytes m → readAnswer r ≡ readingOf m → Reads m r
 reads-by m r h e = record {
   answer = e;
+  exactly = λ f v t. (
+    λ p.
+        let q = read-found m f v (ap readAnswer (sym (p .0)) ∙ e) in
+        rw (q .1, q .2, ← (p .1)) (is-message m (q .0)),
+    λ M.
+        let q = message-is m (f .0) (v .number) t M in
+        (reading-made r f v (e ∙ reading-is m (q .0) ∙ rw (q .1, q .2)), q .3),
+  );
   made =
       λ f v q b u.
       let p = read-found m f v (ap readAnswer (sym q) ∙ e) in
@@ -216,33 +299,52 @@ text-is m t e = let l = length-drop 8 m in e ∙ take-all (length m - 8) (drop 8
 
 -- ---- writing
 
-pub record Writable (f r : ℕ) (t b : List ℕ) : Type 0 where
-  pub short : length t ≤ 25
-  pub listed : slotOf f ≡ 15 → ⊥
-  pub revised : r ≡ 0 → ⊥
-  pub room : length t + 8 ≤ length b
-
 writable : (f r : ℕ) (t b : List ℕ) → passes (writeTests f r t b) ≡ true → Writable f r t b
 unfolding writeTests
 writable f r t b e =
     let p = none-of (writeTests f r t b) e in
     record {
       short = ltb-false _ _ (p .0);
-      listed = eqb-false _ _ (p .1 .0);
-      revised = eqb-false _ _ (p .1 .1 .0);
+      listed = listed-by f (eqb-false _ _ (p .1 .0));
+      given = eqb-false _ _ (p .1 .1 .0);
       room = ltb-false _ _ (p .1 .1 .1 .0);
     }
+
+written-by : (f r : ℕ) (t b : List ℕ) → Writable f r t b → passes (writeTests f r t b) ≡ true
+unfolding writeTests
+written-by f r t b W = simp (le-ltb _ _ (W .short), ne-eqb _ _ (listed-slot f (W .listed)), ne-eqb _ _ (W .given), le-ltb _ _ (W .room))
+
+written-made : (w : Written) (n : ℕ) → writeAnswer w ≡ success (n ∷ []) → w ≡ written.Bytes n
+written-made (written.Bytes k) n e = let p : k ≡ n = cc in ap written.Bytes p
+written-made (written.Refused k) n e = absurd (no-success (k .0) [] _ e)
 
 length-message : (f r : ℕ) (t : List ℕ) → length (messageOf f r t) ≡ length t + 8
 unfolding messageOf headOf
 length-message f r t = omega arith
 
--- a written message reads back as its field, its revision and its text
-read-written : (f r : ℕ) (t b : List ℕ) → r < 2 ^ 32 → Writable f r t b → (readingOf (messageOf f r t) ≡ success (f ∷ r ∷ [])) × (messageText (messageOf f r t) ≡ t)
-unfolding messageOf headOf messageText
-read-written f r t b h W =
-    let q = be4-bytes4 r h in
-    (reading-is (messageOf f r t) (record { all = omega arith; low = omega arith; high = omega (arith, W .short); version = refl; listed = W .listed; revised = rw q (W .revised) }) ∙ rw q, refl)
+-- a written message is one of its field, its revision and its text, and reads back as these
+message-of : (f r : ℕ) (t b : List ℕ) → r < 2 ^ 32 → Writable f r t b → IsMessage (messageOf f r t) f r t
+unfolding messageOf headOf
+message-of f r t b h W =
+    record {
+      l1 = 0;
+      l2 = length t + 6;
+      r1 = r / 16777216;
+      r2 = r / 65536 % 256;
+      r3 = r / 256 % 256;
+      r4 = r % 256;
+      parts = refl;
+      size = omega arith;
+      most = omega (arith, W .short);
+      listed = W .listed;
+      revision = be4-bytes4 r h;
+      given = W .given;
+    }
+
+read-back : (m : List ℕ) (f v : ℕ) (t : List ℕ) → IsMessage m f v t → (readingOf m ≡ success (f ∷ v ∷ [])) × (messageText m ≡ t)
+read-back m f v t M =
+    let q = message-is m f v t M in
+    (reading-is m (q .0) ∙ rw (q .1, q .2), q .3)
 
 -- the promise of `write`, from its two equations
 pub writes-by : (f r : ℕ) (t b : List ℕ) (w : Written) (e : List ℕ) → r < 2 ^ 32 → writeAnswer w ≡ writingOf f r t b → e ≡ writtenOf f r t b → Writes f r t b w e
@@ -250,17 +352,28 @@ unfolding writingOf writtenOf
 writes-by f r t b w e h p q = record {
   answer = p;
   buffer = q;
-  back =
-      λ n s.
-      let z = succeeded _ (n ∷ []) (writeTests f r t b) (ap writeAnswer (sym s) ∙ p) in
-      let k = z .1 in
-      let o : n ≡ length t + 8 = cc in
-      let W = writable f r t b (z .0) in
-      let l = length-message f r t in
-      let u : e ≡ put b 0 (messageOf f r t) = q ∙ rw (z .0) in
-      let x : take n e ≡ messageOf f r t = ap (take n) u ∙ mid-put b 0 (messageOf f r t) n (omega arith) (omega arith) in
-      rw x (read-written f r t b h W);
+  refused = λ n. q ∙ unchanged _ _ _ (writeTests f r t b) (λ s. n (length t + 8) (written-made w (length t + 8) (p ∙ s)));
+  exactly = (
+    λ s. writable f r t b (succeeded _ _ (writeTests f r t b) (ap writeAnswer (sym s) ∙ p) .0),
+    λ W. written-made w (length t + 8) (p ∙ succeeds _ [] (writeTests f r t b) (written-by f r t b W)),
+  );
+  made = λ n s. let o = out-of n s in (rw (o .1) (o .0), o .2);
+  back = λ n s. let o = out-of n s in rw (o .1) (read-back _ f r t (o .0));
 }
+  where
+    -- the message, and what stands before and behind its end
+    out-of : (n : ℕ) → w ≡ written.Bytes n → IsMessage (messageOf f r t) f r t × (take n e ≡ messageOf f r t) × (drop n e ≡ drop n b)
+    out-of n s =
+        let z = succeeded _ (n ∷ []) (writeTests f r t b) (ap writeAnswer (sym s) ∙ p) in
+        let k = z .1 in
+        let o : n ≡ length t + 8 = cc in
+        let W = writable f r t b (z .0) in
+        let l = length-message f r t in
+        let u : e ≡ put b 0 (messageOf f r t) = q ∙ rw (z .0) in (
+          message-of f r t b h W,
+          ap (take n) u ∙ mid-put b 0 (messageOf f r t) n (omega arith) (omega arith),
+          ap (drop n) u ∙ drop-put b 0 (messageOf f r t) n (omega arith) (omega arith),
+        )
 
 pub head-is : (f r n : ℕ) (d : List ℕ) → d ≡ bytes4 r → 0 ∷ (n + 6) ∷ 1 ∷ f ∷ getD d 0 0 ∷ getD d 1 0 ∷ getD d 2 0 ∷ getD d 3 0 ∷ [] ≡ headOf f r n
 unfolding headOf

@@ -8,9 +8,8 @@ use Rattle.texts.specs.Quoted.{Text, bytes}
 use Rattle.texts.specs.Texts.{between, same, blank}
 use Rattle.texts.specs.Numbers.{be4, bytes4}
 use Rattle.texts.specs.Buffers.{put}
-use Rattle.texts.specs.Answers.{Answer, success, refusal}
+use Rattle.texts.specs.Answers.{Answer, success, refusal, Test, _refuses_, answerBy, bufferBy}
 use Rattle.sheets.specs.Sheet.{slotOf, sheetSize, cell, cellText, cellOk}
-use Rattle.drafts.specs.Tests.{Test, _⇒_, answerBy, bufferBy}
 use Rattle.drafts.specs.Message.{fieldOf, revisionOf, messageText, readTests}
 use Rattle.drafts.specs.declared.revision.Standing.{Standing}
 use Rattle.drafts.specs.declared.revision.Standing.the-variants.{Newer, Same, Older, Clash}
@@ -61,7 +60,7 @@ unfoldable pub freshDraft : List ℕ
 freshDraft = replicate draftSize 0
 
 unfoldable pub beginTests : List ℕ → List Test
-beginTests d = (not (eqb (length d) draftSize) ⇒ 1) ∷ []
+beginTests d = (not (eqb (length d) draftSize) refuses 1) ∷ []
 
 unfoldable pub beginningOf : List ℕ → Answer
 beginningOf d = answerBy (beginTests d) []
@@ -105,7 +104,7 @@ kept Older new old = old
 kept Clash new old = old
 
 unfoldable pub postTests : List ℕ → List ℕ → List Test
-postTests d m = (not (draftFormed d) ⇒ 1) ∷ (readTests m ++ ((clashes (standingOf d m) ⇒ 6) ∷ []))
+postTests d m = (not (draftFormed d) refuses 1) ∷ (readTests m ++ ((clashes (standingOf d m) refuses 6) ∷ []))
 
 unfoldable pub postingOf : List ℕ → List ℕ → Answer
 postingOf d m = answerBy (postTests d m) (word (standingOf d m))
@@ -133,7 +132,7 @@ sheetOf d = cells d 15
 
 -- "draft or sheet malformed", "output: a sheet not of 390"
 unfoldable pub copyTests : List ℕ → List ℕ → List Test
-copyTests d s = (not (draftFormed d) ⇒ 1) ∷ (not (eqb (length s) sheetSize) ⇒ 7) ∷ []
+copyTests d s = (not (draftFormed d) refuses 1) ∷ (not (eqb (length s) sheetSize) refuses 7) ∷ []
 
 unfoldable pub copyingOf : List ℕ → List ℕ → Answer
 copyingOf d s = answerBy (copyTests d s) []

@@ -1,4 +1,3 @@
-pub mod Tests
 pub mod Message
 pub mod Draft
 pub mod History

@@ -1,15 +1,15 @@
 -- Messages (document 01, "Fields and messages", "Writer and program"). Assumes nothing.
+use mathlib.Core.Path.{_≡_}
 use mathlib.Core.Bool.{Bool, not}
-use mathlib.Core.List.{List, [], _∷_, _++_}
-use Prim.Native.Nat.{ℕ, _+_, _<_}
+use mathlib.Core.List.{List, [], _∷_, _++_, List·Memᴰ}
+use Prim.Native.Nat.{ℕ, _+_, _*_, _<_, _≤_}
 use lib.Dec.{eqb, ltb}
 use lib.ListN.{length, getD, drop}
 use Rattle.texts.specs.Quoted.{Text}
 use Rattle.texts.specs.Numbers.{be2, be4, bytes4}
 use Rattle.texts.specs.Buffers.{put}
-use Rattle.texts.specs.Answers.{Answer, success, refusal}
-use Rattle.sheets.specs.Sheet.{slotOf}
-use Rattle.drafts.specs.Tests.{Test, _⇒_, passes, answerBy, bufferBy}
+use Rattle.texts.specs.Answers.{Answer, success, refusal, Test, _refuses_, passes, answerBy, bufferBy}
+use Rattle.sheets.specs.Sheet.{fields, slotOf}
 use Rattle.drafts.specs.declared.message.Reading.{Reading}
 use Rattle.drafts.specs.declared.message.Reading.the-variants as reading
 use Rattle.drafts.specs.declared.message.Written.{Written}
@@ -19,8 +19,23 @@ use Rattle.drafts.specs.declared.message.Written.the-variants as written
 abbrev pub Bytes : List ℕ → Type 0
 Bytes m = (k : ℕ) → getD m k 0 < 256
 
--- "two bytes L, big-endian, the length of what follows, 6 to 31; version byte 1; field number in one byte; revision in
--- four bytes, big-endian, not 0; the text, L - 6 bytes"
+-- m is a message of the field f, the revision v and the text t: "two bytes L, big-endian, the length of what follows, 6 to 31; version
+-- byte 1; field number in one byte; revision in four bytes, big-endian, not 0; the text, L - 6 bytes"
+pub record IsMessage (m : List ℕ) (f v : ℕ) (t : Text) : Type 0 where
+  pub l1 : ℕ
+  pub l2 : ℕ
+  pub r1 : ℕ
+  pub r2 : ℕ
+  pub r3 : ℕ
+  pub r4 : ℕ
+  pub parts : m ≡ l1 ∷ l2 ∷ 1 ∷ f ∷ r1 ∷ r2 ∷ r3 ∷ r4 ∷ t
+  pub size : l1 * 256 + l2 ≡ 6 + length t
+  pub most : 6 + length t ≤ 31
+  pub listed : List·Memᴰ f fields
+  pub revision : ((r1 * 256 + r2) * 256 + r3) * 256 + r4 ≡ v
+  pub given : v ≡ 0 → ⊥
+
+-- the same parts, as reading takes them
 abbrev pub lengthOf : List ℕ → ℕ
 lengthOf m = be2 (getD m 0 0) (getD m 1 0)
 
@@ -46,13 +61,13 @@ unlisted f = eqb (slotOf f) 15
 -- "message under 2 bytes, L not the rest, L outside 6 to 31", "version not 1", "field not listed", "revision 0"
 unfoldable pub readTests : List ℕ → List Test
 readTests m =
-    (ltb (length m) 2 ⇒ 2)
-    ∷ (not (eqb (lengthOf m + 2) (length m)) ⇒ 2)
-    ∷ (ltb (lengthOf m) 6 ⇒ 2)
-    ∷ (ltb 31 (lengthOf m) ⇒ 2)
-    ∷ (not (eqb (versionOf m) 1) ⇒ 3)
-    ∷ (unlisted (fieldOf m) ⇒ 4)
-    ∷ (eqb (revisionOf m) 0 ⇒ 5)
+    (ltb (length m) 2 refuses 2)
+    ∷ (not (eqb (lengthOf m + 2) (length m)) refuses 2)
+    ∷ (ltb (lengthOf m) 6 refuses 2)
+    ∷ (ltb 31 (lengthOf m) refuses 2)
+    ∷ (not (eqb (versionOf m) 1) refuses 3)
+    ∷ (unlisted (fieldOf m) refuses 4)
+    ∷ (eqb (revisionOf m) 0 refuses 5)
     ∷ []
 
 -- "A message is readable if reading doesn't refuse it"
@@ -74,13 +89,20 @@ headOf f r n = 0 ∷ (n + 6) ∷ 1 ∷ f ∷ bytes4 r
 unfoldable pub messageOf : ℕ → ℕ → Text → List ℕ
 messageOf f r t = headOf f r (length t) ++ t
 
+-- what writing asks for: a listed field, a revision, a text of at most 25 bytes, and room
+pub record Writable (f v : ℕ) (t b : List ℕ) : Type 0 where
+  pub short : length t ≤ 25
+  pub listed : List·Memᴰ f fields
+  pub given : v ≡ 0 → ⊥
+  pub room : length t + 8 ≤ length b
+
 -- "writer: text over 25", "field not listed", "revision 0", "a message buffer too short"
 unfoldable pub writeTests : ℕ → ℕ → Text → List ℕ → List Test
 writeTests f r t b =
-    (ltb 25 (length t) ⇒ 2)
-    ∷ (unlisted f ⇒ 4)
-    ∷ (eqb r 0 ⇒ 5)
-    ∷ (ltb (length b) (length t + headSize) ⇒ 7)
+    (ltb 25 (length t) refuses 2)
+    ∷ (unlisted f refuses 4)
+    ∷ (eqb r 0 refuses 5)
+    ∷ (ltb (length b) (length t + headSize) refuses 7)
     ∷ []
 
 -- "writes L + 2 bytes at its start, returns L + 2 and leaves the rest"

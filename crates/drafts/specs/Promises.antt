@@ -1,15 +1,16 @@
 -- What the contracts promise. Assumes nothing.
 use mathlib.Core.Path.{_≡_}
-use mathlib.Core.Bool.{true}
+use mathlib.Core.Logic.{_↔_}
+use mathlib.Core.Bool.{true, false}
 use mathlib.Core.List.{List, [], _∷_, _++_, List·Permᴰ}
-use Prim.Native.Nat.{ℕ, _≤_, _<_}
-use lib.ListN.{length, take}
-use Rattle.texts.specs.Answers.{success}
+use Prim.Native.Nat.{ℕ, _+_, _≤_, _<_}
+use lib.ListN.{length, take, drop}
+use Rattle.texts.specs.Answers.{success, refusal}
 use Rattle.texts.specs.Buffers.{put}
-use Rattle.sheets.specs.Sheet.{textOf, wellFormed}
+use Rattle.sheets.specs.Sheet.{slotOf, textOf, sheetSize, wellFormed}
 use Rattle.sheets.specs.declared.sheet.Field.{Field}
-use Rattle.drafts.specs.Message.{messageText, readingOf, readAnswer, writingOf, writtenOf, writeAnswer}
-use Rattle.drafts.specs.Draft.{slotIn, slotText, draftSize, draftFormed, beginningOf, begunFrom, beginAnswer, postingOf, postedTo, postAnswer, copyingOf, copiedTo, copyAnswer}
+use Rattle.drafts.specs.Message.{IsMessage, Writable, messageText, readingOf, readAnswer, writingOf, writtenOf, writeAnswer}
+use Rattle.drafts.specs.Draft.{slotIn, slotRevision, slotText, draftSize, draftFormed, beginningOf, begunFrom, beginAnswer, postingOf, postedTo, postAnswer, copyingOf, copiedTo, copyAnswer}
 use Rattle.drafts.specs.History.{postedAll, endSlot, Ends, AllBytes, NoClash}
 use Rattle.drafts.specs.declared.revision.Revision.{Revision}
 use Rattle.drafts.specs.declared.message.Reading.{Reading}
@@ -17,13 +18,17 @@ use Rattle.drafts.specs.declared.message.Reading.the-variants as reading
 use Rattle.drafts.specs.declared.message.Written.{Written}
 use Rattle.drafts.specs.declared.message.Written.the-variants as written
 use Rattle.drafts.specs.declared.draft.Begun.{Begun}
+use Rattle.drafts.specs.declared.draft.Begun.the-variants as begun
 use Rattle.drafts.specs.declared.draft.Posted.{Posted}
+use Rattle.drafts.specs.declared.draft.Posted.the-variants as posted
 use Rattle.drafts.specs.declared.draft.Copied.{Copied}
 use Rattle.drafts.specs.declared.draft.Copied.the-variants as copied
 
 -- reading m returned r
 pub record Reads (m : List ℕ) (r : Reading) : Type 0 where
   pub answer : readAnswer r ≡ readingOf m
+  -- it reads exactly as what it is a message of
+  pub exactly : (f : Field) (v : Revision) (t : List ℕ) → ((r ≡ reading.Message f v) × (messageText m ≡ t)) ↔ IsMessage m (f .0) (v .number) t
   -- a message that reads is the one that the writer makes of its field, revision and text, in every buffer that has room for it
   pub made :
       (f : Field) (v : Revision)
@@ -37,6 +42,11 @@ pub record Reads (m : List ℕ) (r : Reading) : Type 0 where
 pub record Writes (f v : ℕ) (t b : List ℕ) (r : Written) (e : List ℕ) : Type 0 where
   pub answer : writeAnswer r ≡ writingOf f v t b
   pub buffer : e ≡ writtenOf f v t b
+  -- "A refused call changes none of them"
+  pub refused : ((n : ℕ) → r ≡ written.Bytes n → ⊥) → e ≡ b
+  pub exactly : (r ≡ written.Bytes (length t + 8)) ↔ Writable f v t b
+  -- "writes L + 2 bytes at its start .. and leaves the rest"
+  pub made : (n : ℕ) → r ≡ written.Bytes n → IsMessage (take n e) f v t × (drop n e ≡ drop n b)
   -- what was written reads back as its field, revision and text
   pub back : (n : ℕ) → r ≡ written.Bytes n → (readingOf (take n e) ≡ success (f ∷ v ∷ [])) × (messageText (take n e) ≡ t)
 
@@ -57,12 +67,28 @@ pub record Held (ms : List (List ℕ)) (d : List ℕ) : Type 0 where
 pub record Freshens (d : List ℕ) (r : Begun) (e : List ℕ) : Type 0 where
   pub answer : beginAnswer r ≡ beginningOf d
   pub draft : e ≡ begunFrom d
+  -- "A refused call changes none of them"
+  pub refused : (r ≡ begun.Made → ⊥) → e ≡ d
+  pub exactly : (r ≡ begun.Made) ↔ (length d ≡ draftSize)
   pub start : length d ≡ draftSize → Left [] e
+
+-- what posting a message of the revision v and the text t answers, by the slot s of its field: "higher, stored, "newer"; equal with the
+-- same text, "same"; lower, "older""; "equal revision, other text"
+pub data Stands (s : List ℕ) (v : ℕ) (t : List ℕ) : Posted → Type 0 where
+  newer : slotRevision s < v → Stands s v t posted.Newer
+  same : slotRevision s ≡ v → slotText s ≡ t → Stands s v t posted.Same
+  older : v < slotRevision s → Stands s v t posted.Older
+  clash : slotRevision s ≡ v → (slotText s ≡ t → ⊥) → Stands s v t (posted.Refused (record { 0 = 6 }))
 
 -- posting m to d returned r and left e: one message more, after those that left d
 pub record Posts (d m : List ℕ) (r : Posted) (e : List ℕ) : Type 0 where
   pub answer : postAnswer r ≡ postingOf d m
   pub draft : e ≡ postedTo d m
+  -- "A refused call changes none of them"; "the last two change nothing"
+  pub refused : (r ≡ posted.Newer → ⊥) → e ≡ d
+  pub malformed : (r ≡ posted.Refused (record { 0 = 1 })) ↔ (draftFormed d ≡ false)
+  pub unread : draftFormed d ≡ true → (n : ℕ) → readingOf m ≡ refusal n [] → r ≡ posted.Refused (record { 0 = n })
+  pub stands : draftFormed d ≡ true → (f v : ℕ) (t : List ℕ) → IsMessage m f v t → Stands (slotIn d (slotOf f)) v t r
   pub after : (ms : List (List ℕ)) → Left ms d → Left (ms ++ (m ∷ [])) e
   pub held : (ms : List (List ℕ)) → Left ms d → Held (ms ++ (m ∷ [])) e
 
@@ -70,5 +96,8 @@ pub record Posts (d m : List ℕ) (r : Posted) (e : List ℕ) : Type 0 where
 pub record Copies (d s : List ℕ) (r : Copied) (e : List ℕ) : Type 0 where
   pub answer : copyAnswer r ≡ copyingOf d s
   pub sheet : e ≡ copiedTo d s
+  -- "A refused call changes none of them"
+  pub refused : (r ≡ copied.Made → ⊥) → e ≡ s
+  pub exactly : (r ≡ copied.Made) ↔ ((draftFormed d ≡ true) × (length s ≡ sheetSize))
   -- the sheet that was made is well formed and has the draft's texts
   pub made : r ≡ copied.Made → (wellFormed e ≡ true) × ((i : ℕ) → i < 15 → textOf e i ≡ slotText (slotIn d i))

@@ -17,7 +17,7 @@ use Rattle.sheets.specs.Facts.{factsOf, factsIn, headOf, generalOf, accountOf, 
 use Rattle.rules.specs.Tests.{holds, on1, on2, on3, ordinary, firstFailed}
 use Rattle.rules.proofs.On.{ordinary-on}
 use Rattle.sheets.proofs.Ways.{facts-sized}
-use Rattle.rules.proofs.First.{numbered, none-kept}
+use Rattle.rules.proofs.First.{none-kept}
 use Rattle.sheets.specs.declared.facts.Facts.{Facts}
 use Rattle.rules.specs.declared.Rule.{Rule as RuleNumber}
 use Rattle.sheets.specs.declared.sheet.Field.{Field}
@@ -30,14 +30,14 @@ use Rattle.orders.specs.Fillings.{Look, found, none, firstFilling}
 use Rattle.orders.specs.Search.{firstPick}
 use Rattle.orders.specs.Found.{pickOf, foundOf}
 use Rattle.orders.specs.Filled.{baseOf, pickedOf}
-use Rattle.orders.specs.Complete.{setOf, basic, completeAnswer, lookAnswer, lookSheet, classAnswer, completing, completed}
+use Rattle.orders.specs.Complete.{setOf, basic, budgetPayment, completeAnswer, sheetTests, completeTests, completing, completed}
 use Rattle.orders.specs.Whole.{Completes}
 use Rattle.orders.specs.declared.search.Pick.{Pick}
 use Rattle.orders.specs.declared.search.Found.{Found}
 use Rattle.orders.specs.declared.search.Found.the-variants.{Place, Nothing}
 use Rattle.orders.specs.declared.complete.Completed.the-variants.{Filled, Impossible, Broken, Refused}
 use Rattle.orders.proofs.Keeping.{mapLook, base-budget, base-broken, base-length, first-is, picked-length}
-use Rattle.orders.proofs.Whole.{completes-by, length-sheetOf}
+use Rattle.orders.proofs.Whole.{completes-by, basic-numbered, length-sheetOf, answer-is, sheet-is, lookAnswer, lookSheet}
 
 -- what the search answered
 place-cases : (l : Look (List ℕ)) (n : ℕ) (p : Pick) → Place n p ≡ foundOf l → (q : List ℕ) × (l ≡ found n q) × (p ≡ pickOf q)
@@ -50,10 +50,6 @@ place-cases (none m) n p e = let z : _≡_ {A = ℕ} 0 1 = cc in absurd (omega a
 none-cases : (l : Look (List ℕ)) (n : ℕ) → Nothing n ≡ foundOf l → l ≡ none n
 none-cases (found m q) n e = let z : _≡_ {A = ℕ} 0 1 = cc in absurd (omega arith)
 none-cases (none m) n e = let a : n ≡ m = cc in ap none (sym a)
-
-basic-numbered : every numbered basic ≡ true
-unfolding every
-basic-numbered = refl
 
 basic-on : (s : List ℕ) → firstFailed (factsOf s) basic ≡ firstBroken s basic
 unfolding firstNot keeps rules testOf holds factsOf headOf generalOf accountOf standingOf slotOf _⟨_⟩
@@ -103,7 +99,7 @@ basic-field s t n e = basic-case t s n (keeps s 1) (keeps s 2) (keeps s 3) e
 
 module _ (d b o s : List ℕ) (c : Copied) (lo : length o ≡ 390) (hs : Copies d o c s) where
   pub refused-1 : (n : Refusal) → c ≡ copied.Refused n → Completes d b (Refused (record { 0 = 1 })) b
-  unfolding completing completed completeAnswer
+  unfolding completing completed completeTests completeAnswer
   refused-1 n h =
       let f : draftFormed d ≡ false = copy-refused d o lo (n .0) (sym (ap copyAnswer h) ∙ hs .answer) in
       completes-by d b (Refused (record { 0 = 1 })) b (sym (simp f)) (sym (simp f))
@@ -119,8 +115,8 @@ module _ (d b o s : List ℕ) (c : Copied) (lo : length o ≡ 390) (hs : Copies 
     size = length-sheetOf d formed
 
     pub refused-7 : (length b ≡ 390 → ⊥) → Completes d b (Refused (record { 0 = 7 })) b
-    unfolding completing completed completeAnswer
-    refused-7 z = completes-by d b (Refused (record { 0 = 7 })) b (cc (formed, ne-eqb (length b) 390 z)) (cc (formed, ne-eqb (length b) 390 z))
+    unfolding completing completed completeTests completeAnswer
+    refused-7 z = completes-by d b (Refused (record { 0 = 7 })) b (sym (simp (formed, ne-eqb (length b) 390 z))) (sym (simp (formed, ne-eqb (length b) 390 z)))
 
     module _ (z : length b ≡ 390) (u : List ℕ) (x : Facts) (g : RuleNumber) (hu : u ≡ baseOf s) (hx : x ≡ factsIn u) (hg : g .0 ≡ firstFailed x basic) where
       base : u ≡ baseOf (sheetOf d)
@@ -132,16 +128,11 @@ module _ (d b o s : List ℕ) (c : Copied) (lo : length o ≡ 390) (hs : Copies 
       first : firstBroken (sheetOf d) basic ≡ g .0
       first = sym (hg ∙ ap (λ (f : Facts). firstFailed f basic) facts ∙ basic-on (baseOf (sheetOf d)) ∙ base-broken (sheetOf d) size)
 
-      -- the answer and the buffer where the draft is well formed and the buffer has its size
-      answer-is : classAnswer (sheetOf d) (g .0) ≡ completing d b
-      unfolding completing
-      answer-is = sym (simp (formed, eq-eqb (length b) 390 z) (ap (classAnswer (sheetOf d)) first))
-
       pub broken-8 : (f : Field) → (g .0 ≡ 0 → ⊥) → f .0 ≡ fieldOf rules (g .0) u → Completes d b (Broken f g) b
-      unfolding completed completeAnswer classAnswer
+      unfolding completing completed completeTests sheetTests completeAnswer
       broken-8 f y j =
           completes-by d b (Broken f g) b
-          (cc (answer-is, ne-eqb (g .0) 0 y, basic-field (sheetOf d) u (g .0) (sym first)))
+          (sym (simp (formed, eq-eqb (length b) 390 z, first, ne-eqb (g .0) 0 y) (ap (λ (n : ℕ). refusal 8 (n ∷ g .0 ∷ [])) (sym (j ∙ basic-field (sheetOf d) u (g .0) (sym first))))))
           (sym (simp (formed, eq-eqb (length b) 390 z, first, ne-eqb (g .0) 0 y)))
 
       module _ (y : g .0 ≡ 0) (r : Bool) (hr : r ≡ ordinary x) where
@@ -152,10 +143,10 @@ module _ (d b o s : List ℕ) (c : Copied) (lo : length o ≡ 390) (hs : Copies 
         class = hr ∙ ap ordinary facts ∙ ordinary-on (baseOf (sheetOf d)) ∙ ap not (base-budget (sheetOf d) size)
 
         pub refused-9 : r ≡ true → Completes d b (Refused (record { 0 = 9 })) b
-        unfolding completed completeAnswer classAnswer
+        unfolding completing completed completeTests sheetTests completeAnswer
         refused-9 t =
             let p : budget (sheetOf d) ≡ false = not-true (budget (sheetOf d)) (sym class ∙ t) in
-            completes-by d b (Refused (record { 0 = 9 })) b (cc (answer-is, p)) (sym (simp (formed, eq-eqb (length b) 390 z, zero, p)))
+            completes-by d b (Refused (record { 0 = 9 })) b (sym (simp (formed, eq-eqb (length b) 390 z, zero, p))) (sym (simp (formed, eq-eqb (length b) 390 z, zero, p)))
 
         module _ (t : r ≡ false) (m : Found) (hm : m ≡ foundOf (firstPick x)) where
           pays : budget (sheetOf d) ≡ true
@@ -167,16 +158,18 @@ module _ (d b o s : List ℕ) (c : Copied) (lo : length o ≡ 390) (hs : Copies 
               first-is (sheetOf d) size pays (none-kept (keeps (sheetOf d)) basic basic-numbered zero)
               ∙ ap (mapLook (pickedOf (baseOf (sheetOf d)))) (ap firstPick (sym facts) ∙ e)
 
+          paid : budgetPayment (sheetOf d) ≡ true
+          unfolding budgetPayment
+          paid = rw (none-kept (keeps (sheetOf d)) basic basic-numbered zero, pays)
+
           found-answer : lookAnswer (sheetOf d) (firstFilling (sheetOf d)) ≡ completing d b
-          unfolding classAnswer
-          found-answer = cc (answer-is, pays)
+          found-answer = sym (answer-is d b formed z paid)
 
           found-sheet : lookSheet b (firstFilling (sheetOf d)) ≡ completed d b
-          unfolding completed
-          found-sheet = sym (simp (formed, eq-eqb (length b) 390 z, zero, pays))
+          found-sheet = sym (sheet-is d b formed z paid)
 
           pub refused-10 : (n : ℕ) → m ≡ Nothing n → Completes d b (Impossible n) b
-          unfolding completeAnswer lookAnswer lookSheet
+          unfolding completeAnswer
           refused-10 n e =
               let l = looks (none n) (none-cases (firstPick x) n (sym e ∙ hm)) in
               completes-by d b (Impossible n) b
@@ -184,7 +177,7 @@ module _ (d b o s : List ℕ) (c : Copied) (lo : length o ≡ 390) (hs : Copies 
               (ap (lookSheet b) (sym l) ∙ found-sheet)
 
           pub filled-first : (n set : ℕ) (p : Pick) (v f : List ℕ) → set ≡ setOf s → m ≡ Place n p → v ≡ pickedOf u (p .status ∷ p .basis ∷ p .document ∷ p .day ∷ []) → f ≡ putAt b 0 v → Completes d b (Filled n set (ones set)) f
-          unfolding completeAnswer lookAnswer lookSheet pickedOf
+          unfolding completeAnswer pickedOf
           filled-first n set p v f hset e hv hf =
               let (q, lq, pq) = place-cases (firstPick x) n p (sym e ∙ hm) in
               let l = looks (found n q) lq in

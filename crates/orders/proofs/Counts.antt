@@ -18,7 +18,7 @@ use Rattle.orders.specs.Filled.{filledAt, baseOf, pickedOf}
 use Rattle.orders.proofs.Keeping.{mapLook, first-is}
 
 -- a sheet by its texts in slot order, parted by spaces
-sheet : String → List ℕ
+unfoldable pub sheet : String → List ℕ
 sheet q = joined (map cell (words q))
 
 -- S with 22, 101, 105 to 109 blank
@@ -26,7 +26,7 @@ blanked : List ℕ
 blanked = sheet "004525987 40102810845370000004 03100643000000014800  7701569743 6730054024  770301001 772801001 18201061201010000510     "
 
 -- the same with 60 and 102 "0"
-foreign : List ℕ
+unfoldable pub foreign : List ℕ
 foreign = sheet "004525987 40102810845370000004 03100643000000014800  0 6730054024  0 772801001 18201061201010000510     "
 
 -- the same with 17 03212643000000014800
@@ -39,7 +39,7 @@ unfolding blanked foreign hopeless sheet cell put putAt every any are among same
 first = first-is blanked refl refl refl
 
 -- "status 04, count 97"
-later : firstFilling foreign ≡ found 97 (sheet "004525987 40102810845370000004 03100643000000014800 0 0 6730054024 04 0 772801001 18201061201010000510 0 0 0 0 0")
+pub later : firstFilling foreign ≡ found 97 (sheet "004525987 40102810845370000004 03100643000000014800 0 0 6730054024 04 0 772801001 18201061201010000510 0 0 0 0 0")
 unfolding blanked foreign hopeless sheet cell put putAt every any are among same between value valueOf number _isOneOf_ _beginsOneOf_ slotOf cellText cellOf textOf _⟨_⟩ person document leap monthDays gregorian date rules testOf keeps given generalOf accountOf codeOf payerOf formOf wantedBy groupsOf standingOf suits basisOf documentOf dayOf headOf sidesOf restOf factsOf holds look statusAt basisAt documentAt dayAt passesAt places picks firstPick filledAt baseOf pickedOf
 later = first-is foreign refl refl refl
 

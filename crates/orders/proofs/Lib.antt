@@ -8,8 +8,10 @@ pub mod Passing
 pub mod Fills
 pub mod Looking
 pub mod Order
+pub mod Counting
 pub mod Whole
 pub mod Completing
 pub mod Streaming
 pub mod Examples
 pub mod Counts
+pub mod EndToEnd

@@ -215,6 +215,16 @@ module _ (s : List ℕ) (sized : length s ≡ 390) where
       (λ a b m k h. lex-earlier a b (product-drawn cs a m) (product-drawn cs b k) h)
       (product-ordered cs (choices-distinct s slots))
 
+  -- no entry of a part of the list in order stands in it twice
+  once-ordered : (l : List (List ℕ)) → Ordered (Earlier s) l → (a b c : List (List ℕ)) (g : List ℕ) → l ≡ a ++ (g ∷ (b ++ (g ∷ c))) → ⊥
+  once-ordered l o a b c g e =
+      let w = ordered-split (Earlier s) a g (b ++ (g ∷ c)) (subst (Ordered (Earlier s)) e o) in
+      let x : Earlier s g g = w .2 g (Memᴰ·append-right b (List·Memᴰ·head refl)) in
+      earlier-strict s g g x x
+
+  pub once-all : (a b c : List (List ℕ)) (g : List ℕ) → fillings s ≡ a ++ (g ∷ (b ++ (g ∷ c))) → ⊥
+  once-all = once-ordered (fillings s) fillings-ordered
+
   module _ (before after : List (List ℕ)) (t : List ℕ) (split : fillings s ≡ before ++ (t ∷ after)) where
     in-order : Ordered (Earlier s) before × ((g : List ℕ) → List·Memᴰ g before → Earlier s g t) × ((g : List ℕ) → List·Memᴰ g after → Earlier s t g)
     in-order = ordered-split (Earlier s) before t after (subst (Ordered (Earlier s)) split fillings-ordered)
@@ -231,12 +241,6 @@ module _ (s : List ℕ) (sized : length s ≡ 390) where
         (List·Memᴰ·cases-cons m)))
         (List·Memᴰ·append-cases before (subst (List·Memᴰ g) split (of-filling s sized g p)))
 
-    once-in : (a b c : List (List ℕ)) (g : List ℕ) → before ≡ a ++ (g ∷ (b ++ (g ∷ c))) → ⊥
-    once-in a b c g e =
-        let o = ordered-split (Earlier s) a g (b ++ (g ∷ c)) (subst (Ordered (Earlier s)) e (in-order .0)) in
-        let x : Earlier s g g = o .2 g (Memᴰ·append-right b (List·Memᴰ·head refl)) in
-        earlier-strict s g g x x
-
     -- the place in the list is the place in the order
     pub place-of : Place s t (suc (length before))
     place-of = record {
@@ -246,5 +250,5 @@ module _ (s : List ℕ) (sized : length s ≡ 390) where
         λ m. (filling-of s sized g (subst (List·Memᴰ g) (sym split) (Memᴰ·append-left (t ∷ after) m)), in-order .1 g m),
         λ p. earlier-before g (p .0) (p .1),
       );
-      once = once-in;
+      once = once-ordered before (in-order .0);
     }

@@ -24,6 +24,7 @@ use Rattle.orders.specs.Complete.{completing, completed, completeAnswer}
 use Rattle.orders.specs.Whole.{Whole, Completes}
 use Rattle.orders.specs.Stream.{pieceOf, endsStream, pieces, messagesOf, Streams}
 use Rattle.orders.specs.declared.complete.Completed.{Completed}
+use Rattle.orders.proofs.Whole.{left-formed}
 
 -- ---- a piece
 
@@ -161,6 +162,8 @@ pub streamed : (i b d : List ℕ) (r : Completed) (t : List ℕ) → Left (messa
 streamed i b d r t L C = record {
   answer = C .answer ∙ ap (λ (x : List ℕ). completing x b) (L .draft);
   sheet = C .sheet ∙ ap (λ (x : List ℕ). completed x b) (L .draft);
+  refused = C .refused;
+  sized = C .sized (left-formed (messagesOf i) d L);
   whole = subst (λ (x : List ℕ). Whole (messagesOf i) x b (completeAnswer r) t) (L .draft) (C .whole (messagesOf i) L);
 }
 

@@ -1,15 +1,21 @@
 -- Demand 3: from the two equations that the code of `complete` meets, its whole promise. Assumes nothing.
-use mathlib.Core.Path.{_≡_, refl, sym, _∙_, subst}
+use mathlib.Core.Path.{_≡_, refl, sym, ap, _∙_, subst}
 use mathlib.Core.Logic.{_↔_}
-use mathlib.Core.Bool.{true, false, true≢false}
-use mathlib.Core.List.{List, List·Memᴰ, List·Memᴰ·head, Memᴰ·append-right}
+use mathlib.Core.Bool.{Bool, true, false, not, cond, _&&_, true≢false, false≢true}
+use mathlib.Core.List.{List, [], _∷_, List·Memᴰ, List·Memᴰ·head, Memᴰ·append-right}
 use Prim.Native.Nat.{ℕ}
 use native.Mathlib.Omega.{arith}
+use borrow.Author.Tests.{eq-eqb, ne-eqb}
+use lib.Count.{ones}
+use lib.Dec.{eqb}
 use lib.ListN.{length}
 use Rattle.texts.specs.Texts.{every}
+use Rattle.texts.specs.Answers.{Answer, success, refusal, numberOf, _refuses_, _refuses_with_, answerBy, bufferBy}
 use Rattle.texts.proofs.Bools.{both}
-use Rattle.rules.specs.Rules.{budget, keeps, keepsAll}
-use Rattle.rules.proofs.First.{kept-none}
+use Rattle.texts.proofs.Refusals.{no-success, never, unchanged}
+use Rattle.rules.specs.Rules.{budget, rules, fieldOf, keeps, firstBroken, keepsAll}
+use Rattle.rules.proofs.First.{numbered, kept-none, none-kept, split}
+use Rattle.rules.proofs.Judging.{ordinary-class}
 use Rattle.drafts.specs.Draft.{draftFormed, sheetOf}
 use Rattle.drafts.specs.Promises.{Left}
 use Rattle.drafts.proofs.Slots.{Formed, formed-means, formed-by}
@@ -17,13 +23,14 @@ use Rattle.drafts.proofs.Ending.{all-formed}
 use Rattle.drafts.proofs.Perms.{held-by}
 use Rattle.drafts.proofs.Sheets.{length-sheet}
 use Rattle.orders.specs.Fillings.{Filling, Place, Look, found, none, fillings, firstFilling}
-use Rattle.orders.specs.Complete.{basic, budgetPayment, completeAnswer, lookAnswer, lookSheet, classAnswer, completing, completed}
-use Rattle.texts.specs.Answers.{numberOf}
-use Rattle.orders.specs.Whole.{countOf, FirstFilling, Whole, Completes}
+use Rattle.orders.specs.Complete.{setOf, basic, budgetPayment, completeAnswer, nothing, counted, sheetIn, sheetTests, completeTests, completing, completed}
+use Rattle.orders.specs.Whole.{countOf, FirstFilling, All, FilledSet, Unpaid, broken, ordinary, Whole, Completes}
 use Rattle.orders.specs.declared.complete.Completed.{Completed}
-use Rattle.orders.proofs.Fills.{filling-of, of-filling, unchanged}
+use Rattle.orders.specs.declared.complete.Completed.the-variants.{Filled, Impossible, Broken, Refused}
+use Rattle.orders.proofs.Fills.{filling-of, of-filling, unchanged as stays}
 use Rattle.orders.proofs.Looking.{First, look-found, look-none}
-use Rattle.orders.proofs.Order.{earlier-before, place-of}
+use Rattle.orders.proofs.Order.{earlier-before, place-of, once-all}
+use Rattle.orders.proofs.Counting.{fillings-most, fillings-one, filled-set}
 
 pub length-sheetOf : (d : List ℕ) → draftFormed d ≡ true → length (sheetOf d) ≡ 390
 length-sheetOf d f = length-sheet d (formed-means d f .sized)
@@ -32,6 +39,13 @@ length-sheetOf d f = length-sheet d (formed-means d f .sized)
 pub left-formed : (ms : List (List ℕ)) (d : List ℕ) → Left ms d → draftFormed d ≡ true
 left-formed ms d L = formed-by d (subst Formed (sym (L .draft)) (all-formed ms (L .strings)))
 
+-- what is answered and left where only the look is left to test
+abbrev pub lookAnswer : List ℕ → Look (List ℕ) → Answer
+lookAnswer s o = answerBy ((nothing o refuses 10 with (counted o ∷ [])) ∷ []) (counted o ∷ setOf s ∷ ones (setOf s) ∷ [])
+
+abbrev pub lookSheet : List ℕ → Look (List ℕ) → List ℕ
+lookSheet b o = bufferBy ((nothing o refuses 10 with (counted o ∷ [])) ∷ []) (sheetIn b o) b
+
 -- completing a well-formed budget payment is what looking through its fillings finds
 module _ (d b : List ℕ) (f : draftFormed d ≡ true) (z : length b ≡ 390) (p : budgetPayment (sheetOf d) ≡ true) where
   kept : (every (keeps (sheetOf d)) basic ≡ true) × (budget (sheetOf d) ≡ true)
@@ -39,11 +53,11 @@ module _ (d b : List ℕ) (f : draftFormed d ≡ true) (z : length b ≡ 390) (p
   kept = both (every (keeps (sheetOf d)) basic) (budget (sheetOf d)) p
 
   pub answer-is : completing d b ≡ lookAnswer (sheetOf d) (firstFilling (sheetOf d))
-  unfolding completing classAnswer
+  unfolding completing completeTests sheetTests
   answer-is = rw (f, z, kept-none (keeps (sheetOf d)) basic (kept .0), kept .1)
 
   pub sheet-is : completed d b ≡ lookSheet b (firstFilling (sheetOf d))
-  unfolding completed
+  unfolding completed completeTests sheetTests
   sheet-is = rw (f, z, kept-none (keeps (sheetOf d)) basic (kept .0), kept .1)
 
 -- the promise, by what the look found
@@ -54,7 +68,7 @@ module _ (s b : List ℕ) (z : length s ≡ 390) where
       record {
         filling = filling-of s z t m;
         keeps = w .passes;
-        unchanged = unchanged s t (filling-of s z t m);
+        unchanged = stays s t (filling-of s z t m);
         place = subst (Place s t) (sym (w .place)) (place-of s z (w .before) (w .after) t (w .split));
         first = λ g p q. w .fails g (earlier-before s z (w .before) (w .after) t (w .split) g p q);
       }
@@ -68,16 +82,57 @@ module _ (s b : List ℕ) (z : length s ≡ 390) where
   none-keeps n e f w = look-none keepsAll (fillings s) n e .1 f (of-filling s z f w)
 
   refused-by : (o : Look (List ℕ)) → firstFilling s ≡ o → (numberOf (lookAnswer s o) ≡ 10) ↔ ((f : List ℕ) → Filling s f → keepsAll f ≡ false)
-  unfolding lookAnswer
   refused-by (found n t) e =
       let w = found-first n t e in
       (λ q. absurd (omega arith), λ h. absurd (true≢false (sym (w .keeps) ∙ h t (w .filling))))
   refused-by (none n) e = (λ q. none-keeps n e, λ h. refl)
 
   filled-by : (o : Look (List ℕ)) → firstFilling s ≡ o → (numberOf (lookAnswer s o) ≡ 10 → ⊥) → FirstFilling s (lookSheet b o) (countOf (lookAnswer s o))
-  unfolding lookAnswer lookSheet
   filled-by (found n t) e h = found-first n t e
   filled-by (none n) e h = absurd (h refl)
+
+  all-by : (o : Look (List ℕ)) → firstFilling s ≡ o → numberOf (lookAnswer s o) ≡ 10 → (lookAnswer s o ≡ refusal 10 (countOf (lookAnswer s o) ∷ [])) × All s (countOf (lookAnswer s o))
+  unfolding firstFilling
+  all-by (found n t) e h = absurd (omega arith)
+  all-by (none n) e h =
+      let c = look-none keepsAll (fillings s) n e .0 in (
+        refl,
+        record {
+          list = fillings s;
+          count = c;
+          holds = λ g. (filling-of s z g, of-filling s z g);
+          once = once-all s z;
+          most = rw c (fillings-most s);
+          one = λ k. c ∙ fillings-one s k;
+        },
+      )
+
+  answered-by : (o : Look (List ℕ)) → (numberOf (lookAnswer s o) ≡ 10 → ⊥) → (set : ℕ) × (k : ℕ) × (lookAnswer s o ≡ success (countOf (lookAnswer s o) ∷ set ∷ k ∷ [])) × FilledSet s set k
+  answered-by (found n t) h = (setOf s, ones (setOf s), refl, filled-set s)
+  answered-by (none n) h = absurd (h refl)
+
+pub basic-numbered : every numbered basic ≡ true
+unfolding every
+basic-numbered = refl
+
+-- a draft that is no budget payment
+module _ (d b : List ℕ) (f : draftFormed d ≡ true) (z : length b ≡ 390) where
+  unpaid-broken : (every (keeps (sheetOf d)) basic ≡ true → ⊥) → Unpaid (sheetOf d) (completing d b)
+  unfolding completing completeTests sheetTests
+  unpaid-broken h =
+      let s = sheetOf d in
+      let (before, n, after, e, k, p, i) = split (keeps s) basic h in
+      let y : n ≡ 0 → ⊥ = λ q. h (none-kept (keeps s) basic basic-numbered (i ∙ q)) in
+      rw (f, z, i, ne-eqb n 0 y) (broken before after n e k p)
+
+  unpaid-by : budgetPayment (sheetOf d) ≡ false → Unpaid (sheetOf d) (completing d b)
+  unfolding completing completeTests sheetTests budgetPayment
+  unpaid-by p = go (every (keeps (sheetOf d)) basic) (budget (sheetOf d)) refl refl p
+    where
+      go : (k c : Bool) → every (keeps (sheetOf d)) basic ≡ k → budget (sheetOf d) ≡ c → (k && c) ≡ false → Unpaid (sheetOf d) (completing d b)
+      go true true ek ec h = absurd (true≢false h)
+      go true false ek ec h = rw (f, z, kept-none (keeps (sheetOf d)) basic ek, ec) (ordinary ek (ordinary-class (sheetOf d) ec))
+      go false c ek ec h = unpaid-broken (λ q. false≢true (sym ek ∙ q))
 
 pub whole-law : (ms : List (List ℕ)) (d b : List ℕ) → Left ms d → Whole ms d b (completing d b) (completed d b)
 whole-law ms d b L =
@@ -87,9 +142,51 @@ whole-law ms d b L =
     record {
       held = held-by ms d L;
       refused = λ l p. rw (answer-is d b f l p) (refused-by s b z (firstFilling s) refl);
+      all = λ l p. rw (answer-is d b f l p) (all-by s b z (firstFilling s) refl);
       filled = λ l p. rw (answer-is d b f l p, sheet-is d b f l p) (filled-by s b z (firstFilling s) refl);
+      answered = λ l p. rw (answer-is d b f l p) (answered-by s b z (firstFilling s));
+      unpaid = λ l p. unpaid-by d b f l p;
     }
+
+-- refusals: a test that is true, and no other, gives its number
+filled-of : (r : Completed) (n set k : ℕ) → completeAnswer r ≡ success (n ∷ set ∷ k ∷ []) → r ≡ Filled n set k
+unfolding completeAnswer
+filled-of (Filled m t j) n set k e =
+    let p : m ≡ n = cc in
+    let q : t ≡ set = cc in
+    let w : j ≡ k = cc in
+    λ i. Filled (p i) (q i) (w i)
+filled-of (Impossible m) n set k e = absurd (no-success 10 _ _ e)
+filled-of (Broken g m) n set k e = absurd (no-success 8 _ _ e)
+filled-of (Refused m) n set k e = absurd (no-success (m .0) _ _ e)
+
+module _ (d b : List ℕ) where
+  values : List ℕ
+  values = counted (firstFilling (sheetOf d)) ∷ setOf (sheetOf d) ∷ ones (setOf (sheetOf d)) ∷ []
+
+  malformed-by : (numberOf (completing d b) ≡ 1) ↔ (draftFormed d ≡ false)
+  unfolding completing completeTests sheetTests values
+  malformed-by = (λ h. go (draftFormed d) refl h, λ w. rw w)
+    where
+      go : (w : Bool) → draftFormed d ≡ w → numberOf (completing d b) ≡ 1 → w ≡ false
+      go false e h = refl
+      go true e h = absurd (never 1 values ((not (eqb (length b) 390) refuses 7) ∷ sheetTests (sheetOf d)) (λ z. omega arith) refl (rw e at h))
+
+  sized-by : draftFormed d ≡ true → (numberOf (completing d b) ≡ 7) ↔ (length b ≡ 390 → ⊥)
+  unfolding completing completeTests sheetTests values
+  sized-by w = (
+    λ h l. never 7 values (sheetTests (sheetOf d)) (λ z. omega arith) refl (rw (w, l) at h),
+    λ n. simp (w, ne-eqb (length b) 390 n),
+  )
 
 -- the promise of `complete`, from the two equations that its code is proved to meet
 pub completes-by : (d b : List ℕ) (r : Completed) (t : List ℕ) → completeAnswer r ≡ completing d b → t ≡ completed d b → Completes d b r t
-completes-by d b r t p q = record { answer = p; sheet = q; whole = λ ms L. rw (p, q) (whole-law ms d b L) }
+unfolding completing completed
+completes-by d b r t p q = record {
+  answer = p;
+  sheet = q;
+  refused = λ h. q ∙ unchanged _ _ _ (completeTests d b) (λ e. h _ _ _ (filled-of r _ _ _ (p ∙ e)));
+  malformed = rw p (malformed-by d b);
+  sized = rw p (sized-by d b);
+  whole = λ ms L. rw (p, q) (whole-law ms d b L);
+}

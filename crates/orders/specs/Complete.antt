@@ -1,14 +1,14 @@
 -- What completion answers, and what it leaves in the sheet buffer (document 01, "Completion", "Answers other than success").
 -- Assumes nothing.
 use mathlib.Core.Path.{_≡_}
-use mathlib.Core.Bool.{Bool, true, false, cond, _&&_}
+use mathlib.Core.Bool.{Bool, true, false, not, cond, _&&_}
 use mathlib.Core.List.{List, [], _∷_}
 use Prim.Native.Nat.{ℕ, _+_, _^_}
 use lib.Count.{ones}
 use lib.Dec.{eqb}
 use lib.ListN.{length}
 use Rattle.texts.specs.Texts.{every}
-use Rattle.texts.specs.Answers.{Answer, success, refusal}
+use Rattle.texts.specs.Answers.{Answer, success, refusal, Test, _refuses_, _refuses_with_, answerBy, bufferBy}
 use Rattle.sheets.specs.Sheet.{slots, sheetSize}
 use Rattle.rules.specs.Rules.{budget, rules, fieldOf, keeps, firstBroken}
 use Rattle.drafts.specs.Draft.{draftFormed, sheetOf}
@@ -39,31 +39,35 @@ completeAnswer (Impossible n) = refusal 10 (n ∷ [])
 completeAnswer (Broken f r) = refusal 8 (f .0 ∷ r .0 ∷ [])
 completeAnswer (Refused n) = refusal (n .0) []
 
--- "the first filling that keeps all rules, the count of fillings up to and including it, a 16-bit set of the filled slots, and how
--- many bits are set"; "no filling keeps the rules", "count of all fillings"
-unfoldable pub lookAnswer : List ℕ → Look (List ℕ) → Answer
-lookAnswer s (found n f) = success (n ∷ setOf s ∷ ones (setOf s) ∷ [])
-lookAnswer s (none n) = refusal 10 (n ∷ [])
+-- what looking through the fillings found: whether none keeps the rules, the count of those looked at, and the sheet of which b is the buffer
+abbrev pub nothing : Look (List ℕ) → Bool
+nothing (found n f) = false
+nothing (none n) = true
 
-unfoldable pub lookSheet : List ℕ → Look (List ℕ) → List ℕ
-lookSheet b (found n f) = f
-lookSheet b (none n) = b
+abbrev pub counted : Look (List ℕ) → ℕ
+counted (found n f) = n
+counted (none n) = n
 
-unfoldable pub classAnswer : List ℕ → ℕ → Answer
-classAnswer s g =
-    cond (eqb g 0) (cond (budget s) (lookAnswer s (firstFilling s)) (refusal 9 [])) (refusal 8 (fieldOf rules g s ∷ g ∷ []))
+abbrev pub sheetIn : List ℕ → Look (List ℕ) → List ℕ
+sheetIn b (found n f) = f
+sheetIn b (none n) = b
 
--- completing the draft d into the buffer b
+-- "draft or sheet malformed", "output: a sheet not of 390", "a broken rule; in completion only 1 to 3", "completion of class O", "no filling
+-- keeps the rules": of the draft's sheet s
+unfoldable pub sheetTests : List ℕ → List Test
+sheetTests s =
+    (not (eqb (firstBroken s basic) 0) refuses 8 with (fieldOf rules (firstBroken s basic) s ∷ firstBroken s basic ∷ []))
+    ∷ (not (budget s) refuses 9)
+    ∷ (nothing (firstFilling s) refuses 10 with (counted (firstFilling s) ∷ []))
+    ∷ []
+
+unfoldable pub completeTests : List ℕ → List ℕ → List Test
+completeTests d b = (not (draftFormed d) refuses 1) ∷ (not (eqb (length b) sheetSize) refuses 7) ∷ sheetTests (sheetOf d)
+
+-- completing the draft d into the buffer b: "the first filling that keeps all rules, the count of fillings up to and including it, a
+-- 16-bit set of the filled slots, and how many bits are set"
 unfoldable pub completing : List ℕ → List ℕ → Answer
-completing d b =
-    cond (draftFormed d)
-    (cond (eqb (length b) sheetSize) (classAnswer (sheetOf d) (firstBroken (sheetOf d) basic)) (refusal 7 []))
-    (refusal 1 [])
+completing d b = answerBy (completeTests d b) (counted (firstFilling (sheetOf d)) ∷ setOf (sheetOf d) ∷ ones (setOf (sheetOf d)) ∷ [])
 
 unfoldable pub completed : List ℕ → List ℕ → List ℕ
-completed d b =
-    cond (draftFormed d)
-    (cond (eqb (length b) sheetSize)
-    (cond (eqb (firstBroken (sheetOf d) basic) 0) (cond (budget (sheetOf d)) (lookSheet b (firstFilling (sheetOf d))) b) b)
-    b)
-    b
+completed d b = bufferBy (completeTests d b) (sheetIn b (firstFilling (sheetOf d))) b

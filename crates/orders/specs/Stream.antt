@@ -1,16 +1,19 @@
 -- The messages of an input (document 01, "Writer and program"), and demand 3 of posting them and completing. Assumes nothing.
 use mathlib.Core.Path.{_≡_}
+use mathlib.Core.Logic.{_↔_}
 use mathlib.Core.Bool.{Bool, cond}
 use mathlib.Core.List.{List, [], _∷_}
 use Prim.Native.Nat.{ℕ, zero, suc, _+_}
 use lib.Dec.{eqb}
 use lib.ListN.{length, take, drop}
 use Rattle.texts.specs.Answers.{numberOf}
+use Rattle.sheets.specs.Sheet.{sheetSize}
 use Rattle.drafts.specs.Message.{lengthOf, readingOf}
 use Rattle.drafts.specs.History.{postedAll}
 use Rattle.orders.specs.Complete.{completing, completed, completeAnswer}
 use Rattle.orders.specs.Whole.{Whole}
 use Rattle.orders.specs.declared.complete.Completed.{Completed}
+use Rattle.orders.specs.declared.complete.Completed.the-variants.{Filled}
 
 -- the first message: "2 + L bytes or what is left if that is less"
 unfoldable pub pieceOf : List ℕ → List ℕ
@@ -35,5 +38,8 @@ messagesOf i = pieces (length i) i
 pub record Streams (i b : List ℕ) (r : Completed) (t : List ℕ) : Type 0 where
   pub answer : completeAnswer r ≡ completing (postedAll (messagesOf i)) b
   pub sheet : t ≡ completed (postedAll (messagesOf i)) b
+  -- "A refused call changes none of them"; "output: a sheet not of 390"
+  pub refused : ((n set k : ℕ) → r ≡ Filled n set k → ⊥) → t ≡ b
+  pub sized : (numberOf (completeAnswer r) ≡ 7) ↔ (length b ≡ sheetSize → ⊥)
   -- demand 3, of this list of messages
   pub whole : Whole (messagesOf i) (postedAll (messagesOf i)) b (completeAnswer r) t

@@ -1,19 +1,21 @@
 -- Demand 3, entire: one claim about a list of messages, the draft that posting them leaves, and completing that draft. Assumes nothing.
 use mathlib.Core.Path.{_≡_}
 use mathlib.Core.Logic.{_↔_}
-use mathlib.Core.Bool.{Bool, true, false}
-use mathlib.Core.List.{List, [], _∷_}
-use Prim.Native.Nat.{ℕ, _<_}
+use mathlib.Core.Bool.{Bool, true, false, cond}
+use mathlib.Core.List.{List, [], _∷_, _++_, List·Memᴰ}
+use Prim.Native.Nat.{ℕ, _+_, _/_, _%_, _^_, _<_, _≤_}
 use lib.ListN.{length, getD}
-use Rattle.texts.specs.Texts.{blank}
+use Rattle.texts.specs.Texts.{every, blank}
 use Rattle.texts.specs.Answers.{Answer, success, refusal, numberOf}
-use Rattle.sheets.specs.Sheet.{sheetSize, cellOf, textOf}
-use Rattle.rules.specs.Rules.{keepsAll}
-use Rattle.drafts.specs.Draft.{sheetOf}
+use Rattle.sheets.specs.Sheet.{slots, sheetSize, cellOf, textOf}
+use Rattle.rules.specs.Rules.{classOf, rules, fieldOf, keeps, keepsAll}
+use Rattle.rules.specs.declared.Class.the-variants.{O}
+use Rattle.drafts.specs.Draft.{draftFormed, sheetOf}
 use Rattle.drafts.specs.Promises.{Left, Held}
-use Rattle.orders.specs.Fillings.{Filling, Earlier, Place}
-use Rattle.orders.specs.Complete.{budgetPayment, completing, completed, completeAnswer}
+use Rattle.orders.specs.Fillings.{toFill, Filling, Earlier, Place}
+use Rattle.orders.specs.Complete.{basic, budgetPayment, completing, completed, completeAnswer}
 use Rattle.orders.specs.declared.complete.Completed.{Completed}
+use Rattle.orders.specs.declared.complete.Completed.the-variants.{Filled}
 
 -- the first value of an answer, the count
 abbrev pub countOf : Answer → ℕ
@@ -31,6 +33,39 @@ pub record FirstFilling (s t : List ℕ) (n : ℕ) : Type 0 where
   -- "no earlier filling keeps them"
   pub first : (g : List ℕ) → Filling s g → Earlier s g t → keepsAll g ≡ false
 
+-- n is the number of all fillings of s: the list has each once; "there are at most 22 × 12 × 2 × 2 = 1,056, and one if nothing is to be
+-- filled"
+pub record All (s : List ℕ) (n : ℕ) : Type 0 where
+  pub list : List (List ℕ)
+  pub count : n ≡ length list
+  pub holds : (g : List ℕ) → List·Memᴰ g list ↔ Filling s g
+  pub once : (a b c : List (List ℕ)) (g : List ℕ) → list ≡ a ++ (g ∷ (b ++ (g ∷ c))) → ⊥
+  pub most : n ≤ 1056
+  pub one : ((k : ℕ) → toFill s k ≡ false) → n ≡ 1
+
+-- how many of some slots pass a test
+abbrev pub tally : (ℕ → Bool) → List ℕ → ℕ
+tally p [] = 0
+tally p (k ∷ ks) = cond (p k) 1 0 + tally p ks
+
+-- "a 16-bit set of the filled slots (bit i for slot i), and how many bits are set": bit i is 1 exactly if slot i is blank and has a list
+pub record FilledSet (s : List ℕ) (set k : ℕ) : Type 0 where
+  pub bit : (i : ℕ) → i < 15 → set / 2 ^ i % 2 ≡ cond (toFill s i) 1 0
+  pub below : set < 2 ^ 15
+  pub ones : k ≡ tally (toFill s) slots
+
+-- why a draft that is no budget payment is refused, s being its sheet: one of rules 1 to 3 is broken, and the answer names the first of
+-- these and its field; or they are kept, and the class is O
+pub data Unpaid (s : List ℕ) : Answer → Type 0 where
+  broken :
+      (before after : List ℕ)
+      (n : ℕ)
+      → basic ≡ before ++ (n ∷ after)
+      → every (keeps s) before ≡ true
+      → keeps s n ≡ false
+      → Unpaid s (refusal 8 (fieldOf rules n s ∷ n ∷ []))
+  ordinary : every (keeps s) basic ≡ true → classOf s ≡ O → Unpaid s (refusal 9 [])
+
 -- posting ms one after another from a fresh draft left d; completing d into a buffer that held b answered a and left t
 pub record Whole (ms : List (List ℕ)) (d b : List ℕ) (a : Answer) (t : List ℕ) : Type 0 where
   -- each field ends with its winner, and every arrangement ends in the same draft
@@ -41,11 +76,26 @@ pub record Whole (ms : List (List ℕ)) (d b : List ℕ) (a : Answer) (t : List 
       length b ≡ sheetSize
       → budgetPayment (sheetOf d) ≡ true
       → (numberOf a ≡ 10) ↔ ((f : List ℕ) → Filling (sheetOf d) f → keepsAll f ≡ false)
+  -- "number, count of all fillings"
+  pub all : length b ≡ sheetSize → budgetPayment (sheetOf d) ≡ true → numberOf a ≡ 10 → (a ≡ refusal 10 (countOf a ∷ [])) × All (sheetOf d) (countOf a)
   -- "else the sheet returned is a filling that keeps them .."
   pub filled : length b ≡ sheetSize → budgetPayment (sheetOf d) ≡ true → (numberOf a ≡ 10 → ⊥) → FirstFilling (sheetOf d) t (countOf a)
+  -- and the answer is a success with that count, the set of the filled slots and how many they are
+  pub answered :
+      length b ≡ sheetSize
+      → budgetPayment (sheetOf d) ≡ true
+      → (numberOf a ≡ 10 → ⊥)
+      → (set : ℕ) × (k : ℕ) × (a ≡ success (countOf a ∷ set ∷ k ∷ [])) × FilledSet (sheetOf d) set k
+  -- a draft that is no budget payment is refused with 8 or 9
+  pub unpaid : length b ≡ sheetSize → budgetPayment (sheetOf d) ≡ false → Unpaid (sheetOf d) a
 
 -- the promise of `complete`: completing d into a buffer that held b returned r and left t
 pub record Completes (d b : List ℕ) (r : Completed) (t : List ℕ) : Type 0 where
   pub answer : completeAnswer r ≡ completing d b
   pub sheet : t ≡ completed d b
+  -- "A refused call changes none of them"
+  pub refused : ((n set k : ℕ) → r ≡ Filled n set k → ⊥) → t ≡ b
+  -- "draft or sheet malformed"; "output: a sheet not of 390"
+  pub malformed : (numberOf (completeAnswer r) ≡ 1) ↔ (draftFormed d ≡ false)
+  pub sized : draftFormed d ≡ true → (numberOf (completeAnswer r) ≡ 7) ↔ (length b ≡ sheetSize → ⊥)
   pub whole : (ms : List (List ℕ)) → Left ms d → Whole ms d b (completeAnswer r) t

@@ -1,20 +1,21 @@
 -- The ways through the end of the report, and the whole. Assumes nothing.
 use mathlib.Core.Path.{_≡_, refl, sym, ap, _∙_}
-use mathlib.Core.Bool.{true, false, cond, and-false}
+use mathlib.Core.Bool.{Bool, true, false, cond, _&&_, and-false}
 use mathlib.Core.List.{List, [], _∷_, _++_, append-assoc}
-use Prim.Native.Nat.{ℕ, _+_, _<_, _≤_}
+use Prim.Native.Nat.{ℕ, suc, _+_, _<_, _≤_}
 use native.Mathlib.Omega.{arith}
-use borrow.Author.Tests.{le-leb, lt-leb}
+use borrow.Author.Tests.{le-leb, lt-leb, leb-true}
 use lib.Dec.{leb}
-use lib.ListN.{length, take}
+use lib.ListN.{length, take, length-append}
 use lib.Seq.{take-at}
 use Rattle.texts.specs.Quoted.{Text, bytes}
 use Rattle.texts.specs.Buffers.{put}
+use Rattle.texts.specs.Answers.{Answer, success, refusal}
 use Rattle.texts.proofs.Puts.{put-none, put-put, mid-put}
 use Rattle.sheets.specs.Sheet.{slots}
 use Rattle.rules.specs.declared.Rule.{Rule}
 use Rattle.sheets.specs.declared.sheet.Field.{Field}
-use Rattle.drafts.specs.Draft.{freshDraft}
+use Rattle.drafts.specs.Draft.{freshDraft, postingOf, postedTo}
 use Rattle.drafts.specs.History.{postedAll}
 use Rattle.drafts.specs.Promises.{Freshens}
 use Rattle.drafts.specs.declared.message.Refusal.{Refusal}
@@ -24,7 +25,8 @@ use Rattle.orders.specs.Whole.{Completes}
 use Rattle.orders.specs.declared.complete.Completed.{Completed}
 use Rattle.orders.specs.declared.complete.Completed.the-variants.{Filled, Impossible, Broken, Refused}
 use Rattle.report.specs.Lines.{decimal, item, space, newline, Wrote}
-use Rattle.report.specs.Report.{fieldLines, endLines, noSheet, ending, reportOf, reported, Reports}
+use Rattle.orders.specs.Stream.{messagesOf}
+use Rattle.report.specs.Report.{messageLine, fieldLines, endLines, noSheet, ending, reportFrom, reportOf, reported, Reports}
 use Rattle.report.specs.Told.{Told}
 use Rattle.report.proofs.Writing.{wrote-as, number-as, wrote-then}
 
@@ -82,9 +84,52 @@ pub fresh-is : (d : List ℕ) (r : Begun) (e : List ℕ) → Freshens d r e → 
 unfolding postedAll
 fresh-is d r e F l = F .start l .draft
 
+-- a report is never empty
+end-some : (a : Answer) (s : List ℕ) → 0 < length (endLines a s)
+unfolding endLines item
+end-some (success vs) s = omega arith
+end-some (refusal n vs) s = omega arith
+
+report-some : (n : ℕ) (d : List ℕ) (ms : List (List ℕ)) → 0 < length (reportFrom n d ms)
+unfolding reportFrom ending
+report-some n d [] = end-some (completing d noSheet) (completed d noSheet)
+report-some n d (m ∷ ms) = omega (arith, length-append (messageLine n (postingOf d m)) (reportFrom (suc n) (postedTo d m) ms), report-some (suc n) (postedTo d m) ms)
+
 module _ (i b : List ℕ) where
+  fitting : length i ≤ 32768 → 46080 ≤ length b → reported i b ≡ reportOf i
+  unfolding reported
+  fitting h l = simp (le-leb (length i) 32768 h, le-leb 46080 (length b) l)
+
+  fitted : 0 < length (reported i b) → (length i ≤ 32768) × (46080 ≤ length b)
+  unfolding reported
+  fitted h = go (leb (length i) 32768) (leb 46080 (length b)) refl refl h
+    where
+      go : (x y : Bool) → leb (length i) 32768 ≡ x → leb 46080 (length b) ≡ y → 0 < length (cond (x && y) (reportOf i) []) → (length i ≤ 32768) × (46080 ≤ length b)
+      go true true ex ey k = (leb-true (length i) 32768 ex, leb-true 46080 (length b) ey)
+      go true false ex ey k = absurd (omega arith)
+      go false y ex ey k = absurd (omega arith)
+
+  empty : (t : List ℕ) → length t ≡ 0 → put b 0 t ≡ b
+  empty [] h = put-none b
+  empty (x ∷ t) h = absurd (omega arith)
+
+  -- the promise of `report`, from its three equations
+  reports-by : (r : ℕ) (e : List ℕ) → r ≡ length (reported i b) → e ≡ put b 0 (reported i b) → take r e ≡ reported i b → Reports i b r e
+  unfolding reportOf
+  reports-by r e c p t = record {
+    count = c;
+    buffer = p;
+    text = t;
+    refused = λ z. p ∙ empty (reported i b) (sym c ∙ z);
+    exactly = (
+      λ h. fitted (omega (arith, c)),
+      λ h. omega (arith, c, ap length (fitting (h .0) (h .1)), report-some 1 freshDraft (messagesOf i)),
+    );
+    whole = λ h l. t ∙ fitting h l;
+  }
+
   nothing : reported i b ≡ [] → Reports i b 0 b
-  nothing h = record { count = ap length (sym h); buffer = sym (ap (put b 0) h ∙ put-none b); text = sym h }
+  nothing h = reports-by 0 b (ap length (sym h)) (sym (ap (put b 0) h ∙ put-none b)) (sym h)
 
   pub report-long : 32768 < length i → Reports i b 0 b
   unfolding reported
@@ -95,10 +140,9 @@ module _ (i b : List ℕ) where
   report-small h = nothing (simp (lt-leb 46080 (length b) h, and-false (leb (length i) 32768)))
 
   pub report-whole : (d x e : List ℕ) (at r : ℕ) → length i ≤ 32768 → 46080 ≤ length b → Told i b at d x → Wrote x at (ending d) r e → r ≤ length b → Reports i b r e
-  unfolding reported
   report-whole d x e at r h l T w u =
       let v = wrote-then b x e 0 at r (T .text) (ending d) (T .buffer, T .count ∙ omega arith) w u in
-      let g : T .text ++ ending d ≡ reported i b = T .rest ∙ sym (simp (le-leb (length i) 32768 h, le-leb 46080 (length b) l)) in
+      let g : T .text ++ ending d ≡ reported i b = T .rest ∙ sym (fitting h l) in
       let o : Wrote b 0 (reported i b) r e = wrote-as b e 0 r (T .text ++ ending d) (reported i b) g v in
       let n : length (reported i b) ≡ r = omega (arith, o .1) in
-      record { count = sym n; buffer = o .0; text = ap (take r) (o .0) ∙ mid-put b 0 (reported i b) r n (omega arith) }
+      reports-by r e (sym n) (o .0) (ap (take r) (o .0) ∙ mid-put b 0 (reported i b) r n (omega arith))

@@ -1,8 +1,9 @@
 -- What the program writes, as a function of what it reads (document 01, "Writer and program"). Assumes nothing.
 use mathlib.Core.Path.{_≡_}
+use mathlib.Core.Logic.{_↔_}
 use mathlib.Core.Bool.{Bool, cond, _&&_}
 use mathlib.Core.List.{List, [], _∷_, _++_, map}
-use Prim.Native.Nat.{ℕ, suc}
+use Prim.Native.Nat.{ℕ, suc, _<_, _≤_}
 use lib.Dec.{leb}
 use lib.ListN.{length, getD, take, replicate}
 use Rattle.texts.specs.Quoted.{Text, bytes}
@@ -68,3 +69,7 @@ pub record Reports (i b : List ℕ) (r : ℕ) (e : List ℕ) : Type 0 where
   pub buffer : e ≡ put b 0 (reported i b)
   -- the bytes written are the report
   pub text : take r e ≡ reported i b
+  -- nothing written, so unchanged
+  pub refused : r ≡ 0 → e ≡ b
+  pub exactly : (0 < r) ↔ ((length i ≤ 32768) × (46080 ≤ length b))
+  pub whole : length i ≤ 32768 → 46080 ≤ length b → take r e ≡ reportOf i

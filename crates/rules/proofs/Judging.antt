@@ -167,7 +167,7 @@ module _ (s : Sheet) where
   budget-broken [] b = refl
   budget-broken (k ∷ ks) b = rw (budget-keeps s k b, budget-broken ks b)
 
-  ordinary-class : budget s ≡ false → classOf s ≡ O
+  pub ordinary-class : budget s ≡ false → classOf s ≡ O
   unfolding classOf
   ordinary-class b = go (classA s) (classB s) b
     where

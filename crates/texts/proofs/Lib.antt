@@ -6,3 +6,4 @@ pub mod Codes
 pub mod Puts
 pub mod Arms
 pub mod Every
+pub mod Refusals

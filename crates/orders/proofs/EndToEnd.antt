@@ -1,0 +1,139 @@
+-- One order from its messages to the answer, of the definitions that the contracts cite: document 01's "status 04, count 97", with all
+-- fifteen fields posted, seven of them blank, and field 60 corrected by revision 258. Assumes nothing.
+use mathlib.Core.Path.{_≡_, refl, sym, ap, _∙_}
+use mathlib.Core.Bool.{true}
+use mathlib.Core.List.{List, [], _∷_, _++_}
+use Prim.Native.Nat.{ℕ}
+use lib.Count.{ones}
+use lib.ListN.{replicate}
+use Rattle.texts.specs.Quoted.{bytes}
+use Rattle.texts.specs.Texts.{every, any, are, among, same, between, value, valueOf, number, _isOneOf_, _beginsOneOf_}
+use Rattle.texts.specs.Answers.{success}
+use Rattle.texts.specs.Buffers.{put}
+use Rattle.sheets.specs.Sheet.{slots, slotOf, cell, cellText, cellOk, cellOf, textOf, slotOk, _⟨_⟩, given}
+use Rattle.sheets.specs.Forms.{person, document, leap, monthDays, gregorian, date}
+use Rattle.rules.specs.Rules.{classOf, firstBlank, rules, testOf, fieldOf, keeps, firstNot}
+use Rattle.rules.specs.Verdicts.{judged, checked}
+use Rattle.drafts.specs.Message.{messageText, readTests, headOf, messageOf}
+use Rattle.drafts.specs.Draft.{slotIn, slotCell, slotText, slotBytes, slotFormed, slotsFormed, draftFormed, freshDraft, slotStanding, standingOf, postTests, stored, postedTo, cells, sheetOf}
+use Rattle.drafts.specs.History.{postedAll}
+use Rattle.orders.specs.Fillings.{listOf, toFill, firstFilling}
+use Rattle.orders.specs.Complete.{setOf, budgetPayment, completing, completed}
+use Rattle.orders.specs.Whole.{tally}
+use Rattle.orders.proofs.Counts.{sheet, foreign, later}
+use Rattle.orders.proofs.Counting.{filled-set}
+use Rattle.orders.proofs.Whole.{lookAnswer, lookSheet, answer-is, sheet-is}
+
+order : List (List ℕ)
+order =
+    messageOf 14 1 (bytes "004525987")
+    ∷ messageOf 15 1 (bytes "40102810845370000004")
+    ∷ messageOf 17 1 (bytes "03100643000000014800")
+    ∷ messageOf 22 1 (bytes "")
+    ∷ messageOf 60 1 (bytes "7701569743")
+    ∷ messageOf 61 1 (bytes "6730054024")
+    ∷ messageOf 101 1 (bytes "")
+    ∷ messageOf 102 1 (bytes "0")
+    ∷ messageOf 103 1 (bytes "772801001")
+    ∷ messageOf 104 1 (bytes "18201061201010000510")
+    ∷ messageOf 105 1 (bytes "")
+    ∷ messageOf 106 1 (bytes "")
+    ∷ messageOf 107 1 (bytes "")
+    ∷ messageOf 108 1 (bytes "")
+    ∷ messageOf 109 1 (bytes "")
+    ∷ messageOf 60 258 (bytes "0")
+    ∷ []
+
+zeros : ℕ → List ℕ
+zeros n = replicate n 0
+
+-- the draft, byte for byte: "revision (4, big-endian), text length (1), text padded with zero bytes to 25"
+draft : List ℕ
+draft =
+    (0 ∷ 0 ∷ 0 ∷ 1 ∷ 9 ∷ bytes "004525987") ++ zeros 16
+    ++ (0 ∷ 0 ∷ 0 ∷ 1 ∷ 20 ∷ bytes "40102810845370000004") ++ zeros 5
+    ++ (0 ∷ 0 ∷ 0 ∷ 1 ∷ 20 ∷ bytes "03100643000000014800") ++ zeros 5
+    ++ (0 ∷ 0 ∷ 0 ∷ 1 ∷ 0 ∷ bytes "") ++ zeros 25
+    ++ (0 ∷ 0 ∷ 1 ∷ 2 ∷ 1 ∷ bytes "0") ++ zeros 24
+    ++ (0 ∷ 0 ∷ 0 ∷ 1 ∷ 10 ∷ bytes "6730054024") ++ zeros 15
+    ++ (0 ∷ 0 ∷ 0 ∷ 1 ∷ 0 ∷ bytes "") ++ zeros 25
+    ++ (0 ∷ 0 ∷ 0 ∷ 1 ∷ 1 ∷ bytes "0") ++ zeros 24
+    ++ (0 ∷ 0 ∷ 0 ∷ 1 ∷ 9 ∷ bytes "772801001") ++ zeros 16
+    ++ (0 ∷ 0 ∷ 0 ∷ 1 ∷ 20 ∷ bytes "18201061201010000510") ++ zeros 5
+    ++ (0 ∷ 0 ∷ 0 ∷ 1 ∷ 0 ∷ bytes "") ++ zeros 25
+    ++ (0 ∷ 0 ∷ 0 ∷ 1 ∷ 0 ∷ bytes "") ++ zeros 25
+    ++ (0 ∷ 0 ∷ 0 ∷ 1 ∷ 0 ∷ bytes "") ++ zeros 25
+    ++ (0 ∷ 0 ∷ 0 ∷ 1 ∷ 0 ∷ bytes "") ++ zeros 25
+    ++ (0 ∷ 0 ∷ 0 ∷ 1 ∷ 0 ∷ bytes "") ++ zeros 25
+
+-- its sheet, and the filling: "text length, text padded to 25"
+blanks : List ℕ
+blanks =
+    (9 ∷ bytes "004525987") ++ zeros 16
+    ++ (20 ∷ bytes "40102810845370000004") ++ zeros 5
+    ++ (20 ∷ bytes "03100643000000014800") ++ zeros 5
+    ++ (0 ∷ bytes "") ++ zeros 25
+    ++ (1 ∷ bytes "0") ++ zeros 24
+    ++ (10 ∷ bytes "6730054024") ++ zeros 15
+    ++ (0 ∷ bytes "") ++ zeros 25
+    ++ (1 ∷ bytes "0") ++ zeros 24
+    ++ (9 ∷ bytes "772801001") ++ zeros 16
+    ++ (20 ∷ bytes "18201061201010000510") ++ zeros 5
+    ++ (0 ∷ bytes "") ++ zeros 25
+    ++ (0 ∷ bytes "") ++ zeros 25
+    ++ (0 ∷ bytes "") ++ zeros 25
+    ++ (0 ∷ bytes "") ++ zeros 25
+    ++ (0 ∷ bytes "") ++ zeros 25
+
+filling : List ℕ
+filling =
+    (9 ∷ bytes "004525987") ++ zeros 16
+    ++ (20 ∷ bytes "40102810845370000004") ++ zeros 5
+    ++ (20 ∷ bytes "03100643000000014800") ++ zeros 5
+    ++ (1 ∷ bytes "0") ++ zeros 24
+    ++ (1 ∷ bytes "0") ++ zeros 24
+    ++ (10 ∷ bytes "6730054024") ++ zeros 15
+    ++ (2 ∷ bytes "04") ++ zeros 23
+    ++ (1 ∷ bytes "0") ++ zeros 24
+    ++ (9 ∷ bytes "772801001") ++ zeros 16
+    ++ (20 ∷ bytes "18201061201010000510") ++ zeros 5
+    ++ (1 ∷ bytes "0") ++ zeros 24
+    ++ (1 ∷ bytes "0") ++ zeros 24
+    ++ (1 ∷ bytes "0") ++ zeros 24
+    ++ (1 ∷ bytes "0") ++ zeros 24
+    ++ (1 ∷ bytes "0") ++ zeros 24
+
+-- a buffer to complete into, whatever it held
+buffer : List ℕ
+buffer = replicate 390 9
+
+computed :
+    (postedAll order ≡ draft)
+    × (draftFormed draft ≡ true)
+    × (sheetOf draft ≡ blanks)
+    × (blanks ≡ foreign)
+    × (budgetPayment foreign ≡ true)
+    × (setOf foreign ≡ 31816)
+    × (tally (toFill foreign) slots ≡ 7)
+    × (checked filling ≡ success (bytes "A"))
+unfolding order zeros draft blanks filling foreign sheet postedAll messageOf headOf messageText readTests every any are among same between value valueOf number _isOneOf_ _beginsOneOf_ put slotOf cell cellText cellOk cellOf textOf slotOk _⟨_⟩ given person document leap monthDays gregorian date slotIn slotCell slotText slotBytes slotFormed slotsFormed draftFormed freshDraft slotStanding standingOf postTests stored postedTo cells sheetOf classOf firstBlank rules testOf fieldOf keeps firstNot judged checked listOf toFill setOf budgetPayment
+computed = (refl, refl, refl, refl, refl, refl, refl, refl)
+
+-- the draft that the messages leave is a budget payment, and completing it fills 22, 101 and 105 to 109
+left : sheetOf (postedAll order) ≡ foreign
+left = ap sheetOf (computed .0) ∙ computed .2 ∙ computed .3
+
+set-ones : ones (setOf foreign) ≡ 7
+set-ones = filled-set foreign .ones ∙ computed .6
+
+answered : (completing (postedAll order) buffer ≡ success (97 ∷ 31816 ∷ 7 ∷ [])) × (completed (postedAll order) buffer ≡ filling)
+unfolding buffer filling zeros sheet cell
+answered =
+    let f = ap draftFormed (computed .0) ∙ computed .1 in
+    let p = ap budgetPayment left ∙ computed .4 in (
+      answer-is (postedAll order) buffer f refl p
+          ∙ ap (λ (s : List ℕ). lookAnswer s (firstFilling s)) left
+          ∙ ap (lookAnswer foreign) later
+          ∙ (λ i. success (97 ∷ computed .5 i ∷ set-ones i ∷ [])),
+      sheet-is (postedAll order) buffer f refl p ∙ ap (λ (s : List ℕ). lookSheet buffer (firstFilling s)) left ∙ ap (lookSheet buffer) later,
+    )
