@@ -1,144 +1,163 @@
--- The arms of the functions for C. Assumes nothing.
-use mathlib.Core.Path.{_≡_, refl, sym, ap, _∙_}
+-- An answer is read back from its numbers, and what each function for C returned. Assumes nothing.
+use mathlib.Core.Path.{_≡_, refl, ap, _∙_}
 use mathlib.Core.Bool.{Bool, true, false, cond}
-use mathlib.Core.List.{List}
-use Prim.Native.Nat.{ℕ}
+use mathlib.Core.List.{List, [], _∷_}
+use Prim.Native.Nat.{ℕ, _+_, _-_}
+use native.Mathlib.Omega.{arith}
 use lib.Dec.{eqb}
-use Rattle.rules.specs.Verdicts.{verdictAnswer, checked, Checked}
+use lib.ListN.{length, take, drop}
+use lib.Seq.{take-all}
+use Rattle.texts.specs.Texts.{between, same}
+use Rattle.texts.specs.Answers.{Answer, success, refusal, numberOf}
+use Rattle.sheets.specs.Sheet.{wellFormed, sheetSize}
+use Rattle.rules.specs.Rules.{budget, classOf, firstBroken, order}
+use Rattle.rules.specs.Verdicts.{className, verdictAnswer, judged, checked, Checked}
 use Rattle.rules.specs.declared.Class.{Class}
 use Rattle.rules.specs.declared.Class.the-variants.{A, B, O}
-use Rattle.rules.specs.declared.Rule.{Rule}
-use Rattle.sheets.specs.declared.sheet.Field.{Field}
 use Rattle.rules.specs.declared.Verdict.{Verdict}
-use Rattle.rules.specs.declared.Verdict.the-variants.{Malformed, Broken, Accepted}
-use Rattle.texts.specs.Answers.{Answer, numberOf}
-use Rattle.drafts.specs.Message.{readAnswer, readingOf, writeAnswer, writingOf, writtenOf}
-use Rattle.drafts.specs.Draft.{beginAnswer, beginningOf, begunFrom, postAnswer, postingOf, postedTo, copyAnswer, copyingOf, copiedTo}
+use Rattle.rules.specs.declared.Verdict.the-variants.{Accepted}
+use Rattle.drafts.specs.Tests.{Test, _⇒_, answerBy}
+use Rattle.drafts.specs.Message.{fieldOf, revisionOf, messageText, readTests, readable, readingOf, readAnswer, writeTests, writingOf, writeAnswer}
+use Rattle.drafts.specs.Draft.{draftFormed, sheetOf, beginTests, beginningOf, beginAnswer, word, standingOf, postTests, postingOf, postAnswer, copyTests, copyingOf, copyAnswer}
 use Rattle.drafts.specs.Promises.{Reads, Writes, Freshens, Posts, Copies}
-use Rattle.drafts.specs.declared.message.Refusal.{Refusal}
-use Rattle.drafts.specs.declared.revision.Revision.{Revision}
+use Rattle.drafts.specs.declared.revision.Standing.{Standing}
+use Rattle.drafts.specs.declared.revision.Standing.the-variants.{Newer, Same, Older, Clash}
 use Rattle.drafts.specs.declared.message.Reading.{Reading}
-use Rattle.drafts.specs.declared.message.Reading.the-variants as reading
 use Rattle.drafts.specs.declared.message.Written.{Written}
-use Rattle.drafts.specs.declared.message.Written.the-variants as written
 use Rattle.drafts.specs.declared.draft.Begun.{Begun}
-use Rattle.drafts.specs.declared.draft.Begun.the-variants as begun
 use Rattle.drafts.specs.declared.draft.Posted.{Posted}
-use Rattle.drafts.specs.declared.draft.Posted.the-variants as posted
 use Rattle.drafts.specs.declared.draft.Copied.{Copied}
-use Rattle.drafts.specs.declared.draft.Copied.the-variants as copied
-use Rattle.orders.specs.Complete.{completeAnswer, completing, completed}
+use Rattle.drafts.proofs.Messages.{readable-means, reading-is, text-length}
+use Rattle.orders.specs.Fillings.{Look, found, none, firstFilling}
+use Rattle.orders.specs.Complete.{basic, completeAnswer, lookAnswer, classAnswer, completing}
 use Rattle.orders.specs.Whole.{Completes}
 use Rattle.orders.specs.declared.complete.Completed.{Completed}
-use Rattle.orders.specs.declared.complete.Completed.the-variants as completion
-use Rattle.capi.specs.Numbers.{checkNumbers, readNumbers, writeNumbers, postNumbers, completeNumbers}
+use Rattle.capi.specs.Numbers.{numbered, numberAnswer, checkNumbers, checkOf, readNumbers, readOf, writeNumbers, writeOf, postNumbers, wordOf, postOf, completeNumbers, completeOf}
+use Rattle.capi.specs.Promises.{CheckReturns, ReadReturns, WriteReturns, FreshReturns, PostReturns, CopyReturns, CompleteReturns}
 use Rattle.capi.specs.declared.Check.{Check}
 use Rattle.capi.specs.declared.Read.{Read}
 use Rattle.capi.specs.declared.Write.{Write}
 use Rattle.capi.specs.declared.Post.{Post}
 use Rattle.capi.specs.declared.Complete.{Complete}
 
-module _ (s : List ℕ) (v : Verdict) (p : Checked s v) where
-  -- the numbers of the verdict are the numbers of the answer
-  numbers : checkNumbers (verdictAnswer v) ≡ checkNumbers (checked s)
-  numbers = ap checkNumbers (p .answer)
+-- ---- reading an answer back
 
-  pub malformed-is : v ≡ Malformed → record { number = 1; field = 0; rule = 0; class = 0 } ≡ checkNumbers (checked s)
-  unfolding verdictAnswer checkNumbers
-  malformed-is e = sym (ap (λ (x : Verdict). checkNumbers (verdictAnswer x)) e) ∙ numbers
+-- what a test picks, and what tests answer, has P where each way has it
+pick : (P : Answer → Type 0) (b : Bool) {x y : Answer} → P x → P y → P (cond b x y)
+pick P true p q = p
+pick P false p q = q
 
-  pub broken-is : (f : Field) (r : Rule) → v ≡ Broken f r → record { number = 8; field = f .0; rule = r .0; class = 0 } ≡ checkNumbers (checked s)
-  unfolding verdictAnswer checkNumbers
-  broken-is f r e = sym (ap (λ (x : Verdict). checkNumbers (verdictAnswer x)) e) ∙ numbers
+abbrev Each : (Answer → Type 0) → List Test → Type 0
+Each P [] = Unit
+Each P ((b ⇒ n) ∷ ts) = P (refusal n []) × Each P ts
 
-  accepted-is : (c k : Class) → v ≡ Accepted c → c ≡ k → checkNumbers (verdictAnswer (Accepted k)) ≡ checkNumbers (checked s)
-  accepted-is c k e f = sym (ap (λ (x : Verdict). checkNumbers (verdictAnswer x)) (e ∙ ap Accepted f)) ∙ numbers
+tested : (P : Answer → Type 0) (ts : List Test) (vs : List ℕ) → P (success vs) → Each P ts → P (answerBy ts vs)
+tested P [] vs s q = s
+tested P ((b ⇒ n) ∷ ts) vs s q = pick P b (q .0) (tested P ts vs s (q .1))
 
-  pub accepted-a : (c : Class) → v ≡ Accepted c → c ≡ A → record { number = 0; field = 0; rule = 0; class = 65 } ≡ checkNumbers (checked s)
-  unfolding verdictAnswer checkNumbers
-  accepted-a c e f = accepted-is c A e f
+-- the answer a is what is read in its numbers
+abbrev Back : {X : Type 0} → (Answer → X) → (X → Answer) → Answer → Type 0
+Back num of a = of (num a) ≡ a
 
-  pub accepted-b : (c : Class) → v ≡ Accepted c → c ≡ B → record { number = 0; field = 0; rule = 0; class = 66 } ≡ checkNumbers (checked s)
-  unfolding verdictAnswer checkNumbers
-  accepted-b c e f = accepted-is c B e f
+read-back : (t m : List ℕ) → Back (readNumbers t) readOf (readingOf m)
+unfolding readingOf readTests readNumbers readOf numbered
+read-back t m = tested (Back (readNumbers t) readOf) (readTests m) _ refl (search depth 12)
 
-  pub accepted-o : (c : Class) → v ≡ Accepted c → c ≡ O → record { number = 0; field = 0; rule = 0; class = 79 } ≡ checkNumbers (checked s)
-  unfolding verdictAnswer checkNumbers
-  accepted-o c e f = accepted-is c O e f
+write-back : (f r : ℕ) (t b : List ℕ) → Back writeNumbers writeOf (writingOf f r t b)
+unfolding writingOf writeTests writeNumbers writeOf numbered
+write-back f r t b = tested (Back writeNumbers writeOf) (writeTests f r t b) _ refl (search depth 12)
 
--- an arm's numbers are those of the answer
-arm : {E X : Type 0} (ans : E → Answer) (num : Answer → X) (v k : E) (a : Answer) → ans v ≡ a → v ≡ k → num (ans k) ≡ num a
-arm {E} {X} ans num v k a p e = sym (ap (λ (x : E). num (ans x)) e) ∙ ap num p
+fresh-back : (d : List ℕ) → Back numberOf numberAnswer (beginningOf d)
+unfolding beginningOf beginTests numberAnswer numbered
+fresh-back d = tested (Back numberOf numberAnswer) (beginTests d) _ refl (search depth 12)
 
-module _ (m : List ℕ) (v : Reading) (p : Reads m v) where
-  pub read-message : (f : Field) (r : Revision) → v ≡ reading.Message f r → record { number = 0; field = f .0; revision = r .number } ≡ readNumbers (readingOf m)
-  unfolding readNumbers
-  read-message f r e = arm readAnswer readNumbers v (reading.Message f r) (readingOf m) (p .answer) e
+copy-back : (d s : List ℕ) → Back numberOf numberAnswer (copyingOf d s)
+unfolding copyingOf copyTests numberAnswer numbered
+copy-back d s = tested (Back numberOf numberAnswer) (copyTests d s) _ refl (search depth 12)
 
-  pub read-refused : (n : Refusal) → v ≡ reading.Refused n → record { number = n .0; field = 0; revision = 0 } ≡ readNumbers (readingOf m)
-  unfolding readNumbers
-  read-refused n e = arm readAnswer readNumbers v (reading.Refused n) (readingOf m) (p .answer) e
+word-back : (s : Standing) → Back postNumbers postOf (success (word s))
+unfolding postNumbers postOf wordOf numbered same
+word-back Newer = refl
+word-back Same = refl
+word-back Older = refl
+word-back Clash = refl
 
-module _ (f r : ℕ) (t b : List ℕ) (v : Written) (x : List ℕ) (p : Writes f r t b v x) where
-  pub write-bytes : (n : ℕ) → v ≡ written.Bytes n → record { number = 0; length = n } ≡ writeNumbers (writingOf f r t b)
-  unfolding writeNumbers
-  write-bytes n e = arm writeAnswer writeNumbers v (written.Bytes n) (writingOf f r t b) (p .answer) e
+post-back : (d m : List ℕ) → Back postNumbers postOf (postingOf d m)
+unfolding postingOf postTests readTests postNumbers postOf numbered
+post-back d m = tested (Back postNumbers postOf) (postTests d m) _ (word-back (standingOf d m)) (search depth 12)
 
-  pub write-refused : (n : Refusal) → v ≡ written.Refused n → record { number = n .0; length = 0 } ≡ writeNumbers (writingOf f r t b)
-  unfolding writeNumbers
-  write-refused n e = arm writeAnswer writeNumbers v (written.Refused n) (writingOf f r t b) (p .answer) e
+class-back : (c : Class) → Back checkNumbers checkOf (success (className c))
+unfolding checkNumbers checkOf numbered
+class-back A = refl
+class-back B = refl
+class-back O = refl
 
-module _ (d : List ℕ) (v : Begun) (x : List ℕ) (p : Freshens d v x) where
-  pub fresh-made : v ≡ begun.Made → 0 ≡ numberOf (beginningOf d)
-  fresh-made e = arm beginAnswer numberOf v begun.Made (beginningOf d) (p .answer) e
+check-back : (s : List ℕ) → Back checkNumbers checkOf (checked s)
+unfolding checked judged checkNumbers checkOf numbered
+check-back s =
+    let P = Back checkNumbers checkOf in
+    pick P (wellFormed s) (pick P (eqb (firstBroken s order) 0) (class-back (classOf s)) refl) refl
 
-  pub fresh-refused : (n : Refusal) → v ≡ begun.Refused n → n .0 ≡ numberOf (beginningOf d)
-  fresh-refused n e = arm beginAnswer numberOf v (begun.Refused n) (beginningOf d) (p .answer) e
+look-back : (s : List ℕ) (l : Look (List ℕ)) → Back completeNumbers completeOf (lookAnswer s l)
+unfolding lookAnswer completeNumbers completeOf numbered
+look-back s (found n f) = refl
+look-back s (none n) = refl
 
-module _ (d m : List ℕ) (v : Posted) (x : List ℕ) (p : Posts d m v x) where
-  pub post-newer : v ≡ posted.Newer → record { number = 0; standing = 110 } ≡ postNumbers (postingOf d m)
-  unfolding postNumbers
-  post-newer e = arm postAnswer postNumbers v posted.Newer (postingOf d m) (p .answer) e
+complete-back : (d b : List ℕ) → Back completeNumbers completeOf (completing d b)
+unfolding completing classAnswer completeNumbers completeOf numbered
+complete-back d b =
+    let P = Back completeNumbers completeOf in
+    let s = sheetOf d in
+    pick P (draftFormed d) (pick P (eqb (length b) sheetSize) (pick P (eqb (firstBroken s basic) 0) (pick P (budget s) (look-back s (firstFilling s)) refl) refl) refl) refl
 
-  pub post-same : v ≡ posted.Same → record { number = 0; standing = 115 } ≡ postNumbers (postingOf d m)
-  unfolding postNumbers
-  post-same e = arm postAnswer postNumbers v posted.Same (postingOf d m) (p .answer) e
+-- ---- what each function returned: v is what it called, and k the case of v in an arm
 
-  pub post-older : v ≡ posted.Older → record { number = 0; standing = 111 } ≡ postNumbers (postingOf d m)
-  unfolding postNumbers
-  post-older e = arm postAnswer postNumbers v posted.Older (postingOf d m) (p .answer) e
+module _ (s : List ℕ) (v : Verdict) (p : Checked s v) (k : Verdict) (e : v ≡ k) (r : Check) (q : r ≡ checkNumbers (verdictAnswer k)) where
+  pub checked-is : CheckReturns s r
+  checked-is = record { numbers = cc; answer = cc (check-back s) }
 
-  pub post-refused : (n : Refusal) → v ≡ posted.Refused n → record { number = n .0; standing = 0 } ≡ postNumbers (postingOf d m)
-  unfolding postNumbers
-  post-refused n e = arm postAnswer postNumbers v (posted.Refused n) (postingOf d m) (p .answer) e
+-- the same, where the class is matched in its turn
+pub accepted-is : (s : List ℕ) (v : Verdict) → Checked s v → (c k : Class) → v ≡ Accepted c → c ≡ k → (r : Check) → r ≡ checkNumbers (verdictAnswer (Accepted k)) → CheckReturns s r
+accepted-is s v p c k e f r q = checked-is s v p (Accepted k) (e ∙ ap Accepted f) r q
 
-module _ (d b : List ℕ) (v : Copied) (x : List ℕ) (p : Copies d b v x) where
-  pub copy-made : v ≡ copied.Made → 0 ≡ numberOf (copyingOf d b)
-  copy-made e = arm copyAnswer numberOf v copied.Made (copyingOf d b) (p .answer) e
+module _ (m : List ℕ) (v : Reading) (p : Reads m v) (k : Reading) (e : v ≡ k) (t : List ℕ) (g : t ≡ messageText m) (r : Read) (q : r ≡ readNumbers t (readAnswer k)) where
+  numbers-are : r ≡ readNumbers (messageText m) (readingOf m)
+  numbers-are = cc
 
-  pub copy-refused : (n : Refusal) → v ≡ copied.Refused n → n .0 ≡ numberOf (copyingOf d b)
-  copy-refused n e = arm copyAnswer numberOf v (copied.Refused n) (copyingOf d b) (p .answer) e
+  module _ (h : readable m ≡ true) where
+    found-is : r ≡ readNumbers (messageText m) (success (fieldOf m ∷ revisionOf m ∷ []))
+    found-is = numbers-are ∙ ap (readNumbers (messageText m)) (reading-is m (readable-means m h))
 
--- a refusal that returns no values
-flat : (b : Bool) → _≡_ {A = ℕ} (cond b 0 0) 0
-flat true = refl
-flat false = refl
+    text-is : (r .text ≡ 8) × (r .length ≡ length (messageText m))
+    unfolding readNumbers
+    text-is = (ap (λ (x : Read). x .text) found-is, ap (λ (x : Read). x .length) found-is)
 
-module _ (d b : List ℕ) (v : Completed) (x : List ℕ) (p : Completes d b v x) where
-  pub complete-filled : (n s k : ℕ) → v ≡ completion.Filled n s k → record { number = 0; field = 0; rule = 0; set = s; ones = k; count = n } ≡ completeNumbers (completing d b)
-  unfolding completeAnswer completeNumbers
-  complete-filled n s k e = arm completeAnswer completeNumbers v (completion.Filled n s k) (completing d b) (p .answer) e
+    part-is : between m (r .text) (r .text + r .length) ≡ messageText m
+    unfolding between messageText
+    part-is = let l = text-is .1 in rw (text-is .0) (take-all (8 + r .length - 8) (drop 8 m) (omega arith))
 
-  pub complete-impossible : (n : ℕ) → v ≡ completion.Impossible n → record { number = 10; field = 0; rule = 0; set = 0; ones = 0; count = n } ≡ completeNumbers (completing d b)
-  unfolding completeAnswer completeNumbers
-  complete-impossible n e = arm completeAnswer completeNumbers v (completion.Impossible n) (completing d b) (p .answer) e
+    within-is : r .text + r .length ≡ length m
+    within-is = omega (arith, text-is, text-length m h)
 
-  pub complete-broken : (f : Field) (r : Rule) → v ≡ completion.Broken f r → record { number = 8; field = f .0; rule = r .0; set = 0; ones = 0; count = 0 } ≡ completeNumbers (completing d b)
-  unfolding completeAnswer completeNumbers
-  complete-broken f r e = arm completeAnswer completeNumbers v (completion.Broken f r) (completing d b) (p .answer) e
+  pub read-is : ReadReturns m r
+  read-is = record { numbers = numbers-are; answer = cc (read-back t m); part = part-is; within = within-is }
 
-  pub complete-refused : (n : Refusal) → v ≡ completion.Refused n → record { number = n .0; field = 0; rule = 0; set = 0; ones = 0; count = 0 } ≡ completeNumbers (completing d b)
-  unfolding completeAnswer completeNumbers
-  complete-refused n e =
-      let z = sym (flat (eqb (n .0) 8)) in
-      (λ i. record { number = n .0; field = z i; rule = z i; set = 0; ones = 0; count = z i }) ∙ arm completeAnswer completeNumbers v (completion.Refused n) (completing d b) (p .answer) e
+module _ (f n : ℕ) (t b : List ℕ) (v : Written) (x : List ℕ) (p : Writes f n t b v x) (k : Written) (e : v ≡ k) (r : Write) (q : r ≡ writeNumbers (writeAnswer k)) where
+  pub written-is : WriteReturns f n t b r x
+  written-is = record { numbers = cc; answer = cc (write-back f n t b); buffer = p .buffer }
+
+module _ (d : List ℕ) (v : Begun) (x : List ℕ) (p : Freshens d v x) (k : Begun) (e : v ≡ k) (r : ℕ) (q : r ≡ numberOf (beginAnswer k)) where
+  pub fresh-is : FreshReturns d r x
+  fresh-is = record { numbers = cc; answer = cc (fresh-back d); draft = p .draft }
+
+module _ (d m : List ℕ) (v : Posted) (x : List ℕ) (p : Posts d m v x) (k : Posted) (e : v ≡ k) (r : Post) (q : r ≡ postNumbers (postAnswer k)) where
+  pub posted-is : PostReturns d m r x
+  posted-is = record { numbers = cc; answer = cc (post-back d m); draft = p .draft }
+
+module _ (d s : List ℕ) (v : Copied) (x : List ℕ) (p : Copies d s v x) (k : Copied) (e : v ≡ k) (r : ℕ) (q : r ≡ numberOf (copyAnswer k)) where
+  pub copied-is : CopyReturns d s r x
+  copied-is = record { numbers = cc; answer = cc (copy-back d s); sheet = p .sheet }
+
+module _ (d b : List ℕ) (v : Completed) (x : List ℕ) (p : Completes d b v x) (k : Completed) (e : v ≡ k) (r : Complete) (q : r ≡ completeNumbers (completeAnswer k)) where
+  pub completed-is : CompleteReturns d b r x
+  completed-is = record { numbers = cc; answer = cc (complete-back d b); sheet = p .sheet }

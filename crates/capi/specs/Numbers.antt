@@ -1,42 +1,75 @@
--- Document 01's answers as the numbers that a caller in C reads: 0 for success, else a number of the table; a value that an answer
--- does not return is 0. Assumes nothing.
+-- Document 01's answers as the numbers that a caller in C reads (`..Numbers`), and the answer that such numbers stand for (`..Of`).
+-- Assumes nothing.
 use mathlib.Core.Bool.{cond}
+use mathlib.Core.List.{List, [], _∷_}
 use Prim.Native.Nat.{ℕ}
 use lib.Dec.{eqb}
-use lib.ListN.{getD}
+use lib.ListN.{length, getD}
+use Rattle.texts.specs.Quoted.{Text, bytes}
+use Rattle.texts.specs.Texts.{_is_}
 use Rattle.texts.specs.Answers.{Answer, success, refusal}
+use Rattle.drafts.specs.Message.{headSize}
 use Rattle.capi.specs.declared.Check.{Check}
 use Rattle.capi.specs.declared.Read.{Read}
 use Rattle.capi.specs.declared.Write.{Write}
 use Rattle.capi.specs.declared.Post.{Post}
 use Rattle.capi.specs.declared.Complete.{Complete}
 
+-- number 0 is success, which returns vs; another number is a refusal, with ws beside it
+unfoldable pub numbered : ℕ → List ℕ → List ℕ → Answer
+numbered n vs ws = cond (eqb n 0) (success vs) (refusal n ws)
+
+-- a number that is returned alone
+unfoldable pub numberAnswer : ℕ → Answer
+numberAnswer n = numbered n [] []
+
 -- the class, as its letter
 unfoldable pub checkNumbers : Answer → Check
 checkNumbers (success vs) = record { number = 0; field = 0; rule = 0; class = getD vs 0 0 }
 checkNumbers (refusal n vs) = record { number = n; field = getD vs 0 0; rule = getD vs 1 0; class = 0 }
 
-unfoldable pub readNumbers : Answer → Read
-readNumbers (success vs) = record { number = 0; field = getD vs 0 0; revision = getD vs 1 0 }
-readNumbers (refusal n vs) = record { number = n; field = 0; revision = 0 }
+-- number 8 has the field and the rule beside it, another refusal nothing
+unfoldable pub checkOf : Check → Answer
+checkOf r = numbered (r .number) (r .class ∷ []) (cond (eqb (r .number) 8) (r .field ∷ r .rule ∷ []) [])
+
+-- reading a message of the text t: where that begins, and how many bytes it has
+unfoldable pub readNumbers : Text → Answer → Read
+readNumbers t (success vs) = record { number = 0; field = getD vs 0 0; revision = getD vs 1 0; text = headSize; length = length t }
+readNumbers t (refusal n vs) = record { number = n; field = 0; revision = 0; text = 0; length = 0 }
+
+unfoldable pub readOf : Read → Answer
+readOf r = numbered (r .number) (r .field ∷ r .revision ∷ []) []
 
 unfoldable pub writeNumbers : Answer → Write
 writeNumbers (success vs) = record { number = 0; length = getD vs 0 0 }
 writeNumbers (refusal n vs) = record { number = n; length = 0 }
+
+unfoldable pub writeOf : Write → Answer
+writeOf r = numbered (r .number) (r .length ∷ []) []
 
 -- newer, same or older, as its first letter
 unfoldable pub postNumbers : Answer → Post
 postNumbers (success vs) = record { number = 0; standing = getD vs 0 0 }
 postNumbers (refusal n vs) = record { number = n; standing = 0 }
 
+-- the word that a letter stands for
+unfoldable pub wordOf : ℕ → Text
+wordOf l =
+    cond ((l ∷ []) is "n") (bytes "newer") (cond ((l ∷ []) is "s") (bytes "same") (cond ((l ∷ []) is "o") (bytes "older") []))
+
+unfoldable pub postOf : Post → Answer
+postOf r = numbered (r .number) (wordOf (r .standing)) []
+
+-- one value of a refusal is a count, two are a field and a rule
 unfoldable pub completeNumbers : Answer → Complete
 completeNumbers (success vs) = record { number = 0; field = 0; rule = 0; set = getD vs 1 0; ones = getD vs 2 0; count = getD vs 0 0 }
-completeNumbers (refusal n vs) =
-    record {
-      number = n;
-      field = cond (eqb n 8) (getD vs 0 0) 0;
-      rule = cond (eqb n 8) (getD vs 1 0) 0;
-      set = 0;
-      ones = 0;
-      count = cond (eqb n 8) 0 (getD vs 0 0);
-    }
+completeNumbers (refusal n []) = record { number = n; field = 0; rule = 0; set = 0; ones = 0; count = 0 }
+completeNumbers (refusal n (k ∷ [])) = record { number = n; field = 0; rule = 0; set = 0; ones = 0; count = k }
+completeNumbers (refusal n (f ∷ r ∷ vs)) = record { number = n; field = f; rule = r; set = 0; ones = 0; count = 0 }
+
+-- number 8 has the field and the rule beside it, 10 the count, another refusal nothing
+unfoldable pub completeOf : Complete → Answer
+completeOf r =
+    numbered (r .number)
+    (r .count ∷ r .set ∷ r .ones ∷ [])
+    (cond (eqb (r .number) 8) (r .field ∷ r .rule ∷ []) (cond (eqb (r .number) 10) (r .count ∷ []) []))

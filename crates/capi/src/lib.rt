@@ -1,14 +1,9 @@
 // The library for C and for what links like C. Each function forwards to a proved one, and gives document 01's numbers.
-ghost use mathlib.Core.Path.{_≡_};
-ghost use Rattle.texts.specs.Answers.{numberOf};
-ghost use Rattle.rules.specs.Verdicts.{checked};
-ghost use Rattle.drafts.specs.Message.{readingOf, writingOf, writtenOf};
-ghost use Rattle.drafts.specs.Draft.{beginningOf, begunFrom, postingOf, postedTo, copyingOf, copiedTo};
-ghost use Rattle.orders.specs.Complete.{completing, completed};
-ghost use Rattle.capi.specs.Numbers.{checkNumbers, readNumbers, writeNumbers, postNumbers, completeNumbers};
+ghost use Rattle.capi.specs.Promises.{CheckReturns, ReadReturns, WriteReturns, FreshReturns, PostReturns, CopyReturns, CompleteReturns};
 use drafts::draft::Begun;
 use drafts::draft::Copied;
 use drafts::draft::Posted;
+use drafts::message::HEAD_SIZE;
 use drafts::message::Reading;
 use drafts::message::Written;
 use drafts::revision::Revision;
@@ -30,6 +25,8 @@ pub struct Read {
     pub number: u8,
     pub field: u8,
     pub revision: u32,
+    pub text: usize,
+    pub length: usize,
 }
 
 #[repr(C)]
@@ -56,7 +53,7 @@ pub struct Complete {
 
 #[no_mangle]
 pub extern "C" fn kieselbrot_check(sheet: &[u8]) -> Check
-    ensures { λ r. ⌜ r ≡ checkNumbers (checked (now (sheet .entry))) ⌝ }
+    ensures { λ r. ⌜ CheckReturns (now (sheet .entry)) r ⌝ }
 {
     let v = rules::check(sheet);
     match v {
@@ -95,22 +92,27 @@ pub extern "C" fn kieselbrot_check(sheet: &[u8]) -> Check
     }
 }
 
-// The text is the message's bytes from place 8 on.
+// The text is `length` bytes of the message from place `text` on.
 #[no_mangle]
 pub extern "C" fn kieselbrot_read(message: &[u8]) -> Read
-    ensures { λ r. ⌜ r ≡ readNumbers (readingOf (now (message .entry))) ⌝ }
+    ensures { λ r. ⌜ ReadReturns (now (message .entry)) r ⌝ }
 {
+    let text = drafts::message::message_text(message);
     let v = drafts::message::read(message);
     match v {
         Reading::Message(f, r) => Read {
             number: 0,
             field: f.0,
             revision: r.number,
+            text: HEAD_SIZE,
+            length: text.len(),
         },
         Reading::Refused(n) => Read {
             number: n.0,
             field: 0,
             revision: 0,
+            text: 0,
+            length: 0,
         },
     }
 }
@@ -122,7 +124,7 @@ pub extern "C" fn kieselbrot_write(
     text: &[u8],
     buffer: &mut [u8],
 ) -> Write
-    ensures { λ r. ⌜ (r ≡ writeNumbers (writingOf field revision (now (text .entry)) (now (buffer .entry)))) × (now (buffer .exit) ≡ writtenOf field revision (now (text .entry)) (now (buffer .entry))) ⌝ }
+    ensures { λ r. ⌜ WriteReturns field revision (now (text .entry)) (now (buffer .entry)) r (now (buffer .exit)) ⌝ }
 {
     let v = drafts::message::write(Field(field), Revision { number: revision }, text, buffer);
     match v {
@@ -139,7 +141,7 @@ pub extern "C" fn kieselbrot_write(
 
 #[no_mangle]
 pub extern "C" fn kieselbrot_fresh(draft: &mut [u8]) -> u8
-    ensures { λ r. ⌜ (r ≡ numberOf (beginningOf (now (draft .entry)))) × (now (draft .exit) ≡ begunFrom (now (draft .entry))) ⌝ }
+    ensures { λ r. ⌜ FreshReturns (now (draft .entry)) r (now (draft .exit)) ⌝ }
 {
     let v = drafts::draft::fresh(draft);
     match v {
@@ -150,7 +152,7 @@ pub extern "C" fn kieselbrot_fresh(draft: &mut [u8]) -> u8
 
 #[no_mangle]
 pub extern "C" fn kieselbrot_post(draft: &mut [u8], message: &[u8]) -> Post
-    ensures { λ r. ⌜ (r ≡ postNumbers (postingOf (now (draft .entry)) (now (message .entry)))) × (now (draft .exit) ≡ postedTo (now (draft .entry)) (now (message .entry))) ⌝ }
+    ensures { λ r. ⌜ PostReturns (now (draft .entry)) (now (message .entry)) r (now (draft .exit)) ⌝ }
 {
     let v = drafts::draft::post(draft, message);
     match v {
@@ -175,7 +177,7 @@ pub extern "C" fn kieselbrot_post(draft: &mut [u8], message: &[u8]) -> Post
 
 #[no_mangle]
 pub extern "C" fn kieselbrot_copy(draft: &[u8], sheet: &mut [u8]) -> u8
-    ensures { λ r. ⌜ (r ≡ numberOf (copyingOf (now (draft .entry)) (now (sheet .entry)))) × (now (sheet .exit) ≡ copiedTo (now (draft .entry)) (now (sheet .entry))) ⌝ }
+    ensures { λ r. ⌜ CopyReturns (now (draft .entry)) (now (sheet .entry)) r (now (sheet .exit)) ⌝ }
 {
     let v = drafts::draft::copy(draft, sheet);
     match v {
@@ -186,7 +188,7 @@ pub extern "C" fn kieselbrot_copy(draft: &[u8], sheet: &mut [u8]) -> u8
 
 #[no_mangle]
 pub extern "C" fn kieselbrot_complete(draft: &[u8], sheet: &mut [u8]) -> Complete
-    ensures { λ r. ⌜ (r ≡ completeNumbers (completing (now (draft .entry)) (now (sheet .entry)))) × (now (sheet .exit) ≡ completed (now (draft .entry)) (now (sheet .entry))) ⌝ }
+    ensures { λ r. ⌜ CompleteReturns (now (draft .entry)) (now (sheet .entry)) r (now (sheet .exit)) ⌝ }
 {
     let v = orders::complete::complete(draft, sheet);
     match v {

@@ -14,7 +14,7 @@ use texts::texts::at;
 use texts::texts::part;
 
 // The bytes before a message's text.
-const HEAD_SIZE: usize = 8;
+pub const HEAD_SIZE: usize = 8;
 
 // The number of a refusal, in the table "Answers other than success".
 pub struct Refusal(pub u8);

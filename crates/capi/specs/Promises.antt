@@ -1,0 +1,62 @@
+-- What the contracts for C promise. In each, `numbers` makes the values that do not belong to an answer 0, and by `answer` a caller reads
+-- document 01's answer in what was returned. Assumes nothing.
+use mathlib.Core.Path.{_≡_}
+use mathlib.Core.Bool.{true}
+use mathlib.Core.List.{List}
+use Prim.Native.Nat.{ℕ, _+_}
+use lib.ListN.{length}
+use Rattle.texts.specs.Texts.{between}
+use Rattle.texts.specs.Answers.{numberOf}
+use Rattle.rules.specs.Verdicts.{checked}
+use Rattle.drafts.specs.Message.{messageText, readable, readingOf, writingOf, writtenOf}
+use Rattle.drafts.specs.Draft.{beginningOf, begunFrom, postingOf, postedTo, copyingOf, copiedTo}
+use Rattle.orders.specs.Complete.{completing, completed}
+use Rattle.capi.specs.Numbers.{numberAnswer, checkNumbers, checkOf, readNumbers, readOf, writeNumbers, writeOf, postNumbers, postOf, completeNumbers, completeOf}
+use Rattle.capi.specs.declared.Check.{Check}
+use Rattle.capi.specs.declared.Read.{Read}
+use Rattle.capi.specs.declared.Write.{Write}
+use Rattle.capi.specs.declared.Post.{Post}
+use Rattle.capi.specs.declared.Complete.{Complete}
+
+-- checking the sheet s returned r
+pub record CheckReturns (s : List ℕ) (r : Check) : Type 0 where
+  pub numbers : r ≡ checkNumbers (checked s)
+  pub answer : checkOf r ≡ checked s
+
+-- reading the message m returned r
+pub record ReadReturns (m : List ℕ) (r : Read) : Type 0 where
+  pub numbers : r ≡ readNumbers (messageText m) (readingOf m)
+  pub answer : readOf r ≡ readingOf m
+  -- "the text, as a part of the caller's message": `length` bytes from place `text` on, up to the message's end
+  pub part : readable m ≡ true → between m (r .text) (r .text + r .length) ≡ messageText m
+  pub within : readable m ≡ true → r .text + r .length ≡ length m
+
+-- writing the field f, the revision v and the text t to the buffer b returned r and left e
+pub record WriteReturns (f v : ℕ) (t b : List ℕ) (r : Write) (e : List ℕ) : Type 0 where
+  pub numbers : r ≡ writeNumbers (writingOf f v t b)
+  pub answer : writeOf r ≡ writingOf f v t b
+  pub buffer : e ≡ writtenOf f v t b
+
+-- making d fresh returned the number r and left e
+pub record FreshReturns (d : List ℕ) (r : ℕ) (e : List ℕ) : Type 0 where
+  pub numbers : r ≡ numberOf (beginningOf d)
+  pub answer : numberAnswer r ≡ beginningOf d
+  pub draft : e ≡ begunFrom d
+
+-- posting m to d returned r and left e
+pub record PostReturns (d m : List ℕ) (r : Post) (e : List ℕ) : Type 0 where
+  pub numbers : r ≡ postNumbers (postingOf d m)
+  pub answer : postOf r ≡ postingOf d m
+  pub draft : e ≡ postedTo d m
+
+-- copying d to the buffer s returned the number r and left e
+pub record CopyReturns (d s : List ℕ) (r : ℕ) (e : List ℕ) : Type 0 where
+  pub numbers : r ≡ numberOf (copyingOf d s)
+  pub answer : numberAnswer r ≡ copyingOf d s
+  pub sheet : e ≡ copiedTo d s
+
+-- completing d into the buffer b returned r and left e
+pub record CompleteReturns (d b : List ℕ) (r : Complete) (e : List ℕ) : Type 0 where
+  pub numbers : r ≡ completeNumbers (completing d b)
+  pub answer : completeOf r ≡ completing d b
+  pub sheet : e ≡ completed d b
