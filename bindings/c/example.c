@@ -8,7 +8,7 @@
 #include "kieselbrot.h"
 
 _Static_assert(sizeof(kieselbrot_check_answer) == 4, "the answers' layout");
-_Static_assert(sizeof(kieselbrot_read_answer) == 8, "the answers' layout");
+_Static_assert(sizeof(kieselbrot_read_answer) == 24, "the answers' layout");
 _Static_assert(sizeof(kieselbrot_write_answer) == 16, "the answers' layout");
 _Static_assert(sizeof(kieselbrot_post_answer) == 2, "the answers' layout");
 _Static_assert(sizeof(kieselbrot_complete_answer) == 24, "the answers' layout");
@@ -62,7 +62,9 @@ static kieselbrot_post_answer send_message(uint8_t *draft, const struct arrival 
     const kieselbrot_read_answer read = kieselbrot_read(message, written.length);
     expect(read.number == KIESELBROT_OK, "reading");
     expect(read.field == arrival->field && read.revision == arrival->revision, "what was read");
-    expect(memcmp(message + 8, arrival->text, length) == 0, "the text that was read");
+    expect(read.length == length && read.text + read.length == written.length,
+           "where the text is");
+    expect(memcmp(message + read.text, arrival->text, read.length) == 0, "the text that was read");
 
     return kieselbrot_post(draft, KIESELBROT_DRAFT_SIZE, message, written.length);
 }
@@ -85,6 +87,10 @@ static void refuse(uint8_t *draft)
     const struct arrival clash = {14, 1, "044525000", 0};
     expect(send_message(draft, &clash).number == KIESELBROT_CLASH, "a clash");
     expect(memcmp(before, draft, sizeof before) == 0, "the draft after a clash");
+
+    const kieselbrot_read_answer unread = kieselbrot_read(before, 1);
+    expect(unread.number == KIESELBROT_LENGTH && unread.text == 0 && unread.length == 0,
+           "a message of one byte");
 
     const kieselbrot_check_answer broken = kieselbrot_check(sheet, sizeof sheet);
     expect(broken.number == KIESELBROT_BROKEN && broken.field == 14 && broken.rule == 1 &&

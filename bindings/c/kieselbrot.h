@@ -67,11 +67,14 @@ typedef struct {
     uint8_t class_; /* accepted: 'A', 'B' (budget payments) or 'O' (ordinary) */
 } kieselbrot_check_answer;
 
-/* The answer of reading a message. The text is the message from place 8 on. */
+/* The answer of reading a message. The text is `length` bytes of the message,
+ * from place `text` on up to its end. */
 typedef struct {
     uint8_t number;    /* 0, or 2 to 5 */
     uint8_t field;     /* the field's number */
     uint32_t revision; /* the revision, not 0 */
+    size_t text;       /* the place in the message, from 0, where the text begins */
+    size_t length;     /* how many bytes the text has, 0 to 25 */
 } kieselbrot_read_answer;
 
 /* The answer of writing a message. */

@@ -139,16 +139,16 @@ impl<'a, L: Library> Comparison<'a, L> {
         Ok(answer)
     }
 
-    /// Reads a message; its text must be a part of it.
+    /// Reads a message; its text must be the same part of it, by place and length.
     pub fn read<'m>(&mut self, message: &'m [u8]) -> Outcome<Result<Message<'m>, Refusal>> {
         let input = || format!("message {}", hex(message));
         let answer = self.library.read(message);
-        same("read", answer, Reference.read(message), input)?;
-        let place = |answer: Result<Message<'m>, Refusal>| {
+        let expected = Reference.read(message);
+        same("read", answer, expected, input)?;
+        let part = |answer: Result<Message<'m>, Refusal>| {
             answer.map(|message| message.text.as_ptr_range())
         };
-        let part = message.get(8..).unwrap_or_default().as_ptr_range();
-        same("read", place(answer), answer.map(|_| part), input)?;
+        same("read", part(answer), part(expected), input)?;
         self.reached.answer("read", answer);
         Ok(answer)
     }

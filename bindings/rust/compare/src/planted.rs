@@ -24,6 +24,8 @@ pub enum Planted {
     ClashStored,
     /// 5 is tested before 4.
     RevisionFirst,
+    /// An empty text stands at the message's start.
+    EmptyText,
     /// Writing clears the rest of the buffer.
     RestCleared,
     /// Copying tests 7 before 1.
@@ -37,7 +39,7 @@ pub enum Planted {
 }
 
 /// All of them.
-pub const PLANTS: [Planted; 13] = [
+pub const PLANTS: [Planted; 14] = [
     Planted::Century,
     Planted::Status01,
     Planted::Without03252,
@@ -46,6 +48,7 @@ pub const PLANTS: [Planted; 13] = [
     Planted::LastArrival,
     Planted::ClashStored,
     Planted::RevisionFirst,
+    Planted::EmptyText,
     Planted::RestCleared,
     Planted::OutputFirst,
     Planted::CountAnew,
@@ -105,6 +108,10 @@ impl Library for Planted {
             {
                 Err(Refusal::RevisionZero)
             }
+            Ok(read) if *self == Self::EmptyText && read.text.is_empty() => Ok(Message {
+                text: &message[..0],
+                ..read
+            }),
             answer => answer,
         }
     }

@@ -175,14 +175,18 @@ impl ffi::Read {
             number,
             field,
             revision,
+            text,
+            length,
         } = self;
-        match (number, field, revision) {
-            (0, 1.., 1..) => Ok(Message {
+        let end = text.checked_add(length);
+        let part = end.and_then(|end| message.get(text..end));
+        match (number, field, revision, text, length, part) {
+            (0, 1.., 1.., _, _, Some(text)) => Ok(Message {
                 field,
                 revision,
-                text: message.get(8..).unwrap_or_default(),
+                text,
             }),
-            (number, 0, 0) => Err(Refusal::plain(number)),
+            (number, 0, 0, 0, 0, _) => Err(Refusal::plain(number)),
             _ => Err(Refusal::Unknown { number }),
         }
     }
@@ -255,6 +259,31 @@ mod tests {
         );
         let none = Refusal::NoFilling { count: 1056 };
         assert_eq!((none.number(), none.to_string().as_str()), (10, "10 1056"));
+    }
+
+    #[test]
+    fn a_text_is_a_part_of_its_message() {
+        let read = |number, field, revision, text, length| {
+            let answer = ffi::Read {
+                number,
+                field,
+                revision,
+                text,
+                length,
+            };
+            let message = answer.message(b"\0\x08\x01\x65\0\0\0\x0208");
+            message.map(|message| message.text)
+        };
+        assert_eq!(read(0, 101, 2, 8, 2), Ok(&b"08"[..]));
+        assert_eq!(read(2, 0, 0, 0, 0), Err(Refusal::Length));
+        for (text, length) in [(8, 3), (11, 0), (8, usize::MAX)] {
+            assert_eq!(
+                read(0, 101, 2, text, length),
+                Err(Refusal::Unknown { number: 0 })
+            );
+        }
+        assert_eq!(read(2, 0, 0, 8, 0), Err(Refusal::Unknown { number: 2 }));
+        assert_eq!(read(2, 0, 0, 0, 2), Err(Refusal::Unknown { number: 2 }));
     }
 
     #[test]

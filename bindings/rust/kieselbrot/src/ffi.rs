@@ -13,13 +13,16 @@ pub struct Check {
     pub class: u8,
 }
 
-/// The answer of reading a message; the text is the bytes from place 8 on.
+/// The answer of reading a message; the text is `length` bytes from place `text`
+/// on.
 #[repr(C)]
 #[derive(Clone, Copy)]
 pub struct Read {
     pub number: u8,
     pub field: u8,
     pub revision: u32,
+    pub text: usize,
+    pub length: usize,
 }
 
 /// The answer of writing a message.
@@ -52,7 +55,7 @@ pub struct Complete {
 
 // The sizes that bindings/c/kieselbrot.h has.
 const _: () = assert!(size_of::<Check>() == 4);
-const _: () = assert!(size_of::<Read>() == 8);
+const _: () = assert!(size_of::<Read>() == 24);
 const _: () = assert!(size_of::<Write>() == 16);
 const _: () = assert!(size_of::<Post>() == 2);
 const _: () = assert!(size_of::<Complete>() == 24);
