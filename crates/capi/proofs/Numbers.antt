@@ -8,17 +8,16 @@ use lib.Dec.{eqb}
 use lib.ListN.{length, take, drop}
 use lib.Seq.{take-all}
 use Rattle.texts.specs.Texts.{between, same}
-use Rattle.texts.specs.Answers.{Answer, success, refusal, numberOf}
-use Rattle.sheets.specs.Sheet.{wellFormed, sheetSize}
-use Rattle.rules.specs.Rules.{budget, classOf, firstBroken, order}
+use Rattle.texts.specs.Answers.{Answer, success, refusal, numberOf, Test, test, answerBy}
+use Rattle.sheets.specs.Sheet.{wellFormed}
+use Rattle.rules.specs.Rules.{classOf, firstBroken, order}
 use Rattle.rules.specs.Verdicts.{className, verdictAnswer, judged, checked, Checked}
 use Rattle.rules.specs.declared.Class.{Class}
 use Rattle.rules.specs.declared.Class.the-variants.{A, B, O}
 use Rattle.rules.specs.declared.Verdict.{Verdict}
 use Rattle.rules.specs.declared.Verdict.the-variants.{Accepted}
-use Rattle.drafts.specs.Tests.{Test, _⇒_, answerBy}
 use Rattle.drafts.specs.Message.{fieldOf, revisionOf, messageText, readTests, readable, readingOf, readAnswer, writeTests, writingOf, writeAnswer}
-use Rattle.drafts.specs.Draft.{draftFormed, sheetOf, beginTests, beginningOf, beginAnswer, word, standingOf, postTests, postingOf, postAnswer, copyTests, copyingOf, copyAnswer}
+use Rattle.drafts.specs.Draft.{beginTests, beginningOf, beginAnswer, word, standingOf, postTests, postingOf, postAnswer, copyTests, copyingOf, copyAnswer}
 use Rattle.drafts.specs.Promises.{Reads, Writes, Freshens, Posts, Copies}
 use Rattle.drafts.specs.declared.revision.Standing.{Standing}
 use Rattle.drafts.specs.declared.revision.Standing.the-variants.{Newer, Same, Older, Clash}
@@ -28,8 +27,7 @@ use Rattle.drafts.specs.declared.draft.Begun.{Begun}
 use Rattle.drafts.specs.declared.draft.Posted.{Posted}
 use Rattle.drafts.specs.declared.draft.Copied.{Copied}
 use Rattle.drafts.proofs.Messages.{readable-means, reading-is, text-length}
-use Rattle.orders.specs.Fillings.{Look, found, none, firstFilling}
-use Rattle.orders.specs.Complete.{basic, completeAnswer, lookAnswer, classAnswer, completing}
+use Rattle.orders.specs.Complete.{completeAnswer, sheetTests, completeTests, completing}
 use Rattle.orders.specs.Whole.{Completes}
 use Rattle.orders.specs.declared.complete.Completed.{Completed}
 use Rattle.capi.specs.Numbers.{numbered, numberAnswer, checkNumbers, checkOf, readNumbers, readOf, writeNumbers, writeOf, postNumbers, wordOf, postOf, completeNumbers, completeOf}
@@ -49,11 +47,11 @@ pick P false p q = q
 
 abbrev Each : (Answer → Type 0) → List Test → Type 0
 Each P [] = Unit
-Each P ((b ⇒ n) ∷ ts) = P (refusal n []) × Each P ts
+Each P (test b n ws ∷ ts) = P (refusal n ws) × Each P ts
 
 tested : (P : Answer → Type 0) (ts : List Test) (vs : List ℕ) → P (success vs) → Each P ts → P (answerBy ts vs)
 tested P [] vs s q = s
-tested P ((b ⇒ n) ∷ ts) vs s q = pick P b (q .0) (tested P ts vs s (q .1))
+tested P (test b n ws ∷ ts) vs s q = pick P b (q .0) (tested P ts vs s (q .1))
 
 -- the answer a is what is read in its numbers
 abbrev Back : {X : Type 0} → (Answer → X) → (X → Answer) → Answer → Type 0
@@ -98,17 +96,9 @@ check-back s =
     let P = Back checkNumbers checkOf in
     pick P (wellFormed s) (pick P (eqb (firstBroken s order) 0) (class-back (classOf s)) refl) refl
 
-look-back : (s : List ℕ) (l : Look (List ℕ)) → Back completeNumbers completeOf (lookAnswer s l)
-unfolding lookAnswer completeNumbers completeOf numbered
-look-back s (found n f) = refl
-look-back s (none n) = refl
-
 complete-back : (d b : List ℕ) → Back completeNumbers completeOf (completing d b)
-unfolding completing classAnswer completeNumbers completeOf numbered
-complete-back d b =
-    let P = Back completeNumbers completeOf in
-    let s = sheetOf d in
-    pick P (draftFormed d) (pick P (eqb (length b) sheetSize) (pick P (eqb (firstBroken s basic) 0) (pick P (budget s) (look-back s (firstFilling s)) refl) refl) refl) refl
+unfolding completing completeTests sheetTests completeNumbers completeOf numbered
+complete-back d b = tested (Back completeNumbers completeOf) (completeTests d b) _ refl (search depth 12)
 
 -- ---- what each function returned: v is what it called, and k the case of v in an arm
 
