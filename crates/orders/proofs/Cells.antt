@@ -16,7 +16,8 @@ use Rattle.texts.proofs.Bools.{both}
 use Rattle.sheets.specs.Sheet.{cell, slots, cellText, cellOf, textOf}
 use Rattle.orders.specs.Fillings.{joined}
 use Rattle.orders.specs.Search.{places}
-use Rattle.orders.specs.Filled.{Entry, filledAt, filledWith}
+use Rattle.sheets.specs.Entries.{filledAt}
+use Rattle.orders.specs.Filled.{Entry, filledWith}
 
 abbrev pub Cells : Type 0
 Cells = List (List ℕ)
@@ -145,24 +146,3 @@ filled-sized [] cs z f = z
 filled-sized (e ∷ es) cs z f =
     let l = length-sets cs (e .0) (cond (blank (cellText (getD cs (e .0) []))) (e .1) (getD cs (e .0) [])) in
     filled-sized es (fillCell cs e) (fill-sized cs (e .0) (e .1) (blank (cellText (getD cs (e .0) []))) z (f .0 .0) (f .0 .1)) (rw l (f .1))
-
--- a text as a cell
-pub text-cell : (t : Text) → cellText (cell t) ≡ t
-unfolding cellText cell between
-text-cell t =
-    let e : 1 + length t - 1 ≡ length t = omega arith in
-    rw e (take-at t (replicate (25 - length t) 0) (length t) refl)
-
-pub length-cell : (t : Text) → length t ≤ 25 → length (cell t) ≡ 26
-unfolding cell
-length-cell t h = simp (length-append, length-replicate) (omega arith)
-
--- an entry of a list of short texts
-abbrev short : Text → Bool
-short t = leb (length t) 25
-
-pub entry-short : (ts : List Text) (k : ℕ) → every short ts ≡ true → length (getD ts k []) ≤ 25
-unfolding every
-entry-short [] k h = omega arith
-entry-short (t ∷ ts) zero h = leb-true (length t) 25 (both (short t) (every short ts) h .0)
-entry-short (t ∷ ts) (suc k) h = entry-short ts k (both (short t) (every short ts) h .1)

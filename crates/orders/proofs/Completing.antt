@@ -1,7 +1,7 @@
 -- The ways through `complete`. Assumes nothing.
-use mathlib.Core.Path.{_≡_, refl, sym, ap, _∙_}
+use mathlib.Core.Path.{_≡_, refl, sym, ap, _∙_, subst}
 use mathlib.Core.Bool.{Bool, true, false, not, cond}
-use mathlib.Core.List.{List, [], _∷_, map}
+use mathlib.Core.List.{List, [], _∷_}
 use Prim.Native.Nat.{ℕ}
 use native.Mathlib.Omega.{arith}
 use borrow.Author.Tests.{eq-eqb, ne-eqb, not-true, not-false}
@@ -11,12 +11,8 @@ use Rattle.texts.specs.Texts.{every}
 use Rattle.texts.specs.Answers.{success, refusal}
 use Rattle.texts.specs.Buffers.{putAt}
 use Rattle.texts.proofs.Puts.{put-fits, put-whole}
-use Rattle.rules.specs.Rules.{budget, rules, fieldOf, keeps, firstNot, firstBroken, testOf}
-use Rattle.sheets.specs.Sheet.{slotOf, _⟨_⟩}
-use Rattle.sheets.specs.Facts.{factsOf, factsIn, headOf, generalOf, accountOf, standingOf}
-use Rattle.rules.specs.Tests.{holds, on1, on2, on3, ordinary, firstFailed}
-use Rattle.rules.proofs.On.{ordinary-on}
-use Rattle.sheets.proofs.Ways.{facts-sized}
+use Rattle.rules.specs.Rules.{budget, rules, fieldOf, keeps, firstNot, firstBroken}
+use Rattle.sheets.specs.Facts.{Read}
 use Rattle.rules.proofs.First.{none-kept}
 use Rattle.sheets.specs.declared.facts.Facts.{Facts}
 use Rattle.rules.specs.declared.Rule.{Rule as RuleNumber}
@@ -27,7 +23,7 @@ use Rattle.drafts.specs.declared.draft.Copied.{Copied}
 use Rattle.drafts.specs.declared.draft.Copied.the-variants as copied
 use Rattle.drafts.specs.declared.message.Refusal.{Refusal}
 use Rattle.orders.specs.Fillings.{Look, found, none, firstFilling}
-use Rattle.orders.specs.Search.{firstPick}
+use Rattle.orders.specs.Search.{Payment, firstPick}
 use Rattle.orders.specs.Found.{pickOf, foundOf}
 use Rattle.orders.specs.Filled.{baseOf, pickedOf}
 use Rattle.orders.specs.Complete.{setOf, basic, budgetPayment, completeAnswer, sheetTests, completeTests, completing, completed}
@@ -36,7 +32,7 @@ use Rattle.orders.specs.declared.search.Pick.{Pick}
 use Rattle.orders.specs.declared.search.Found.{Found}
 use Rattle.orders.specs.declared.search.Found.the-variants.{Place, Nothing}
 use Rattle.orders.specs.declared.complete.Completed.the-variants.{Filled, Impossible, Broken, Refused}
-use Rattle.orders.proofs.Keeping.{mapLook, base-budget, base-broken, base-length, first-is, picked-length}
+use Rattle.orders.proofs.Keeping.{mapLook, base-budget, base-basic, base-broken, base-length, first-is, picked-length}
 use Rattle.orders.proofs.Whole.{completes-by, basic-numbered, length-sheetOf, answer-is, sheet-is, lookAnswer, lookSheet}
 
 -- what the search answered
@@ -51,13 +47,6 @@ none-cases : (l : Look (List ℕ)) (n : ℕ) → Nothing n ≡ foundOf l → l �
 none-cases (found m q) n e = let z : _≡_ {A = ℕ} 0 1 = cc in absurd (omega arith)
 none-cases (none m) n e = let a : n ≡ m = cc in ap none (sym a)
 
-basic-on : (s : List ℕ) → firstFailed (factsOf s) basic ≡ firstBroken s basic
-unfolding firstNot keeps rules testOf holds factsOf headOf generalOf accountOf standingOf slotOf _⟨_⟩
-basic-on s = refl
-
-pub basic-outcomes : (f : Facts) (a b c : Bool) → a ≡ on1 f → b ≡ on2 f → c ≡ on3 f → (a ∷ b ∷ c ∷ []) ≡ map (holds f) basic
-unfolding holds
-basic-outcomes f a b c ea eb ec = λ i. ea i ∷ eb i ∷ ec i ∷ []
 
 copied-is : (d z : List ℕ) → draftFormed d ≡ true → length z ≡ 390 → copiedTo d z ≡ sheetOf d
 unfolding copiedTo copyTests
@@ -118,15 +107,15 @@ module _ (d b o s : List ℕ) (c : Copied) (lo : length o ≡ 390) (hs : Copies 
     unfolding completing completed completeTests completeAnswer
     refused-7 z = completes-by d b (Refused (record { 0 = 7 })) b (sym (simp (formed, ne-eqb (length b) 390 z))) (sym (simp (formed, ne-eqb (length b) 390 z)))
 
-    module _ (z : length b ≡ 390) (u : List ℕ) (x : Facts) (g : RuleNumber) (hu : u ≡ baseOf s) (hx : x ≡ factsIn u) (hg : g .0 ≡ firstFailed x basic) where
+    module _ (z : length b ≡ 390) (u : List ℕ) (x : Facts) (g : RuleNumber) (hu : u ≡ baseOf s) (hx : length u ≡ 390 → Read x u) (hg : (t : List ℕ) → Read x t → g .0 ≡ firstBroken t basic) where
       base : u ≡ baseOf (sheetOf d)
       base = hu ∙ ap baseOf sheet
 
-      facts : x ≡ factsOf (baseOf (sheetOf d))
-      facts = hx ∙ ap factsIn base ∙ facts-sized (baseOf (sheetOf d)) (base-length (sheetOf d) size)
+      read : Read x (baseOf (sheetOf d))
+      read = subst (Read x) base (hx (ap length base ∙ base-length (sheetOf d) size))
 
       first : firstBroken (sheetOf d) basic ≡ g .0
-      first = sym (hg ∙ ap (λ (f : Facts). firstFailed f basic) facts ∙ basic-on (baseOf (sheetOf d)) ∙ base-broken (sheetOf d) size)
+      first = sym (hg (baseOf (sheetOf d)) read ∙ base-broken (sheetOf d) size)
 
       pub broken-8 : (f : Field) → (g .0 ≡ 0 → ⊥) → f .0 ≡ fieldOf rules (g .0) u → Completes d b (Broken f g) b
       unfolding completing completed completeTests sheetTests completeAnswer
@@ -135,32 +124,36 @@ module _ (d b o s : List ℕ) (c : Copied) (lo : length o ≡ 390) (hs : Copies 
           (sym (simp (formed, eq-eqb (length b) 390 z, first, ne-eqb (g .0) 0 y) (ap (λ (n : ℕ). refusal 8 (n ∷ g .0 ∷ [])) (sym (j ∙ basic-field (sheetOf d) u (g .0) (sym first))))))
           (sym (simp (formed, eq-eqb (length b) 390 z, first, ne-eqb (g .0) 0 y)))
 
-      module _ (y : g .0 ≡ 0) (r : Bool) (hr : r ≡ ordinary x) where
+      module _ (y : g .0 ≡ 0) (r : Bool) (hr : (t : List ℕ) → Read x t → r ≡ budget t) where
         zero : firstBroken (sheetOf d) basic ≡ 0
         zero = first ∙ y
 
-        class : r ≡ not (budget (sheetOf d))
-        class = hr ∙ ap ordinary facts ∙ ordinary-on (baseOf (sheetOf d)) ∙ ap not (base-budget (sheetOf d) size)
+        class : r ≡ budget (sheetOf d)
+        class = hr (baseOf (sheetOf d)) read ∙ base-budget (sheetOf d) size
 
-        pub refused-9 : r ≡ true → Completes d b (Refused (record { 0 = 9 })) b
+        pub refused-9 : not r ≡ true → Completes d b (Refused (record { 0 = 9 })) b
         unfolding completing completed completeTests sheetTests completeAnswer
         refused-9 t =
-            let p : budget (sheetOf d) ≡ false = not-true (budget (sheetOf d)) (sym class ∙ t) in
+            let p : budget (sheetOf d) ≡ false = sym class ∙ not-true r t in
             completes-by d b (Refused (record { 0 = 9 })) b (sym (simp (formed, eq-eqb (length b) 390 z, zero, p))) (sym (simp (formed, eq-eqb (length b) 390 z, zero, p)))
 
-        module _ (t : r ≡ false) (m : Found) (hm : m ≡ foundOf (firstPick x)) where
+        module _ (t : not r ≡ false) (m : Found) (hm : (v : List ℕ) → Payment x v → m ≡ foundOf (firstPick v)) where
           pays : budget (sheetOf d) ≡ true
-          pays = not-false (budget (sheetOf d)) (sym class ∙ t)
+          pays = sym class ∙ not-false r t
+
+          kept : every (keeps (sheetOf d)) basic ≡ true
+          kept = none-kept (keeps (sheetOf d)) basic basic-numbered zero
+
+          picks : m ≡ foundOf (firstPick (baseOf (sheetOf d)))
+          picks = hm (baseOf (sheetOf d)) (record { read = read; class = base-budget (sheetOf d) size ∙ pays; basics = base-basic (sheetOf d) size ∙ kept })
 
           -- what the search found, as a look through the fillings
-          looks : (l : Look (List ℕ)) → firstPick x ≡ l → firstFilling (sheetOf d) ≡ mapLook (pickedOf (baseOf (sheetOf d))) l
-          looks l e =
-              first-is (sheetOf d) size pays (none-kept (keeps (sheetOf d)) basic basic-numbered zero)
-              ∙ ap (mapLook (pickedOf (baseOf (sheetOf d)))) (ap firstPick (sym facts) ∙ e)
+          looks : (l : Look (List ℕ)) → firstPick (baseOf (sheetOf d)) ≡ l → firstFilling (sheetOf d) ≡ mapLook (pickedOf (baseOf (sheetOf d))) l
+          looks l e = first-is (sheetOf d) size ∙ ap (mapLook (pickedOf (baseOf (sheetOf d)))) e
 
           paid : budgetPayment (sheetOf d) ≡ true
           unfolding budgetPayment
-          paid = rw (none-kept (keeps (sheetOf d)) basic basic-numbered zero, pays)
+          paid = rw (kept, pays)
 
           found-answer : lookAnswer (sheetOf d) (firstFilling (sheetOf d)) ≡ completing d b
           found-answer = sym (answer-is d b formed z paid)
@@ -171,7 +164,7 @@ module _ (d b o s : List ℕ) (c : Copied) (lo : length o ≡ 390) (hs : Copies 
           pub refused-10 : (n : ℕ) → m ≡ Nothing n → Completes d b (Impossible n) b
           unfolding completeAnswer
           refused-10 n e =
-              let l = looks (none n) (none-cases (firstPick x) n (sym e ∙ hm)) in
+              let l = looks (none n) (none-cases (firstPick (baseOf (sheetOf d))) n (sym e ∙ picks)) in
               completes-by d b (Impossible n) b
               (ap (lookAnswer (sheetOf d)) (sym l) ∙ found-answer)
               (ap (lookSheet b) (sym l) ∙ found-sheet)
@@ -179,7 +172,7 @@ module _ (d b o s : List ℕ) (c : Copied) (lo : length o ≡ 390) (hs : Copies 
           pub filled-first : (n set : ℕ) (p : Pick) (v f : List ℕ) → set ≡ setOf s → m ≡ Place n p → v ≡ pickedOf u (p .status ∷ p .basis ∷ p .document ∷ p .day ∷ []) → f ≡ putAt b 0 v → Completes d b (Filled n set (ones set)) f
           unfolding completeAnswer pickedOf
           filled-first n set p v f hset e hv hf =
-              let (q, lq, pq) = place-cases (firstPick x) n p (sym e ∙ hm) in
+              let (q, lq, pq) = place-cases (firstPick (baseOf (sheetOf d))) n p (sym e ∙ picks) in
               let l = looks (found n q) lq in
               let c1 : v ≡ pickedOf (baseOf (sheetOf d)) q = hv ∙ (λ i. pickedOf (base i) (pq i .status ∷ pq i .basis ∷ pq i .document ∷ pq i .day ∷ [])) in
               let c2 : length v ≡ 390 = ap length c1 ∙ picked-length (sheetOf d) size q in

@@ -1,21 +1,23 @@
 -- Document 01's completion examples, of the definition: a filling's place is computed. Assumes nothing.
 use mathlib.Core.Path.{_≡_, refl, ap, _∙_}
-use mathlib.Core.Bool.{true}
+use mathlib.Core.Bool.{Bool, true, false}
 use mathlib.Core.List.{List, [], _∷_, map}
-use Prim.Native.Nat.{ℕ}
+use Prim.Native.Nat.{ℕ, suc, _+_}
+use native.Mathlib.Omega.{arith}
+use lib.ListN.{length}
 use Prim.Native.String.{String}
 use Rattle.texts.specs.Quoted.{bytes, words}
 use Rattle.texts.specs.Texts.{every, any, are, among, same, between, value, valueOf, number, _isOneOf_, _beginsOneOf_}
 use Rattle.texts.specs.Buffers.{put, putAt}
 use Rattle.sheets.specs.Sheet.{cell, slotOf, cellText, cellOf, textOf, _⟨_⟩, given}
 use Rattle.sheets.specs.Forms.{person, document, leap, monthDays, gregorian, date}
-use Rattle.rules.specs.Rules.{rules, testOf, keeps}
-use Rattle.sheets.specs.Facts.{generalOf, accountOf, codeOf, payerOf, formOf, wantedBy, groupsOf, standingOf, basisOf, documentOf, dayOf, headOf, sidesOf, restOf, factsOf}
-use Rattle.rules.specs.Tests.{suits, holds}
+use Rattle.rules.specs.Rules.{rules, testOf, keeps, keepsAll}
+use Rattle.sheets.specs.Entries.{filledAt}
 use Rattle.orders.specs.Fillings.{joined, Look, found, none, look, firstFilling}
-use Rattle.orders.specs.Search.{statusAt, basisAt, documentAt, dayAt, passesAt, places, picks, firstPick}
-use Rattle.orders.specs.Filled.{filledAt, baseOf, pickedOf}
+use Rattle.orders.specs.Search.{passesAt, places, picks, firstPick}
+use Rattle.orders.specs.Filled.{baseOf, pickedOf}
 use Rattle.orders.proofs.Keeping.{mapLook, first-is}
+use Rattle.orders.proofs.Passing.{broken-fixed}
 
 -- a sheet by its texts in slot order, parted by spaces
 unfoldable pub sheet : String → List ℕ
@@ -35,15 +37,22 @@ hopeless = sheet "004525987 40102810845370000004 03212643000000014800  0 6730054
 
 -- "count 1": S itself
 first : firstFilling blanked ≡ found 1 (sheet "004525987 40102810845370000004 03100643000000014800 0 7701569743 6730054024 01 770301001 772801001 18201061201010000510 0 0 0 0 0")
-unfolding blanked foreign hopeless sheet cell put putAt every any are among same between value valueOf number _isOneOf_ _beginsOneOf_ slotOf cellText cellOf textOf _⟨_⟩ person document leap monthDays gregorian date rules testOf keeps given generalOf accountOf codeOf payerOf formOf wantedBy groupsOf standingOf suits basisOf documentOf dayOf headOf sidesOf restOf factsOf holds look statusAt basisAt documentAt dayAt passesAt places picks firstPick filledAt baseOf pickedOf
-first = first-is blanked refl refl refl
+unfolding blanked foreign hopeless sheet cell put putAt every any are among same between value valueOf number _isOneOf_ _beginsOneOf_ slotOf cellText cellOf textOf _⟨_⟩ person document leap monthDays gregorian date given rules testOf keeps keepsAll look filledAt passesAt places picks firstPick baseOf pickedOf
+first = first-is blanked refl
 
 -- "status 04, count 97"
 pub later : firstFilling foreign ≡ found 97 (sheet "004525987 40102810845370000004 03100643000000014800 0 0 6730054024 04 0 772801001 18201061201010000510 0 0 0 0 0")
-unfolding blanked foreign hopeless sheet cell put putAt every any are among same between value valueOf number _isOneOf_ _beginsOneOf_ slotOf cellText cellOf textOf _⟨_⟩ person document leap monthDays gregorian date rules testOf keeps given generalOf accountOf codeOf payerOf formOf wantedBy groupsOf standingOf suits basisOf documentOf dayOf headOf sidesOf restOf factsOf holds look statusAt basisAt documentAt dayAt passesAt places picks firstPick filledAt baseOf pickedOf
-later = first-is foreign refl refl refl
+unfolding blanked foreign hopeless sheet cell put putAt every any are among same between value valueOf number _isOneOf_ _beginsOneOf_ slotOf cellText cellOf textOf _⟨_⟩ person document leap monthDays gregorian date given rules testOf keeps keepsAll look filledAt passesAt places picks firstPick baseOf pickedOf
+later = first-is foreign refl
 
--- "10, count 1,056"
+-- "10, count 1,056": 22 is filled with "0", which breaks rule 22 whatever the other entries are
+none-passes : {A : Type 0} (p : A → Bool) → ((x : A) → p x ≡ false) → (l : List A) (n : ℕ) → look p n l ≡ none (n + length l)
+unfolding look
+none-passes p h [] n = let e : n ≡ n + 0 = omega arith in ap none e
+none-passes p h (x ∷ xs) n =
+    let e : n + 1 + length xs ≡ n + suc (length xs) = omega arith in
+    rw (h x) (none-passes p h xs (n + 1) ∙ ap none e)
+
 never : firstFilling hopeless ≡ none 1056
-unfolding blanked foreign hopeless sheet cell put putAt every any are among same between value valueOf number _isOneOf_ _beginsOneOf_ slotOf cellText cellOf textOf _⟨_⟩ person document leap monthDays gregorian date rules testOf keeps given generalOf accountOf codeOf payerOf formOf wantedBy groupsOf standingOf suits basisOf documentOf dayOf headOf sidesOf restOf factsOf holds look statusAt basisAt documentAt dayAt passesAt places picks firstPick filledAt baseOf pickedOf
-never = first-is hopeless refl refl refl
+unfolding blanked foreign hopeless sheet cell put putAt every any are among same between value valueOf number _isOneOf_ _beginsOneOf_ slotOf cellText cellOf textOf _⟨_⟩ person document leap monthDays gregorian date given rules testOf keeps keepsAll look filledAt passesAt places picks firstPick baseOf pickedOf
+never = first-is hopeless refl ∙ ap (mapLook (pickedOf (baseOf hopeless))) (none-passes (passesAt (baseOf hopeless)) (broken-fixed (baseOf hopeless) 22 refl refl refl refl) (picks (baseOf hopeless)) 0)

@@ -10,9 +10,10 @@ use Rattle.texts.specs.Quoted.{Text}
 use Rattle.texts.specs.Texts.{blank}
 use Rattle.texts.specs.Buffers.{putAt}
 use Rattle.sheets.specs.Sheet.{cell, textOf}
-use Rattle.orders.specs.Fillings.{statusTexts, basisTexts, zeroTexts, listOf, toFill}
-use Rattle.orders.specs.Rows.{statusRows, basisRows, zeroRows, noRow}
-use Rattle.orders.specs.Filled.{rowCell, filledAt, filledWith, baseOf, pickedOf}
+use Rattle.sheets.specs.Entries.{statusTexts, basisTexts, zeroTexts, filledAt}
+use Rattle.orders.specs.Fillings.{listOf, toFill}
+use Rattle.sheets.specs.Rows.{statusRows, basisRows, zeroRows, noRow}
+use Rattle.orders.specs.Filled.{rowCell, filledWith, baseOf, pickedOf}
 use Rattle.orders.specs.Complete.{bits, setOf}
 
 -- fill_slot

@@ -1,4 +1,3 @@
-pub mod Entries
 pub mod Levels
 pub mod Filling
 pub mod Cells

@@ -1,21 +1,15 @@
 -- How the code makes a filling: an entry is put into a slot if that is blank. A reader of the promise needs none of this.
 -- Assumes nothing.
-use mathlib.Core.Bool.{cond}
 use mathlib.Core.List.{List, [], _∷_}
-use Prim.Native.Nat.{ℕ, _*_}
+use Prim.Native.Nat.{ℕ}
 use lib.ListN.{getD, replicate}
 use Rattle.texts.specs.Quoted.{bytes}
-use Rattle.texts.specs.Texts.{blank}
-use Rattle.texts.specs.Buffers.{putAt}
-use Rattle.sheets.specs.Sheet.{cell, textOf}
-use Rattle.orders.specs.Fillings.{statusTexts, basisTexts, zeroTexts}
+use Rattle.sheets.specs.Sheet.{cell}
+use Rattle.sheets.specs.Entries.{statusTexts, basisTexts, zeroTexts, filledAt}
 
 -- a table's row as a cell
 abbrev pub rowCell : List ℕ → List ℕ
 rowCell r = getD r 0 0 ∷ getD r 1 0 ∷ getD r 2 0 ∷ replicate 23 0
-
-unfoldable pub filledAt : List ℕ → ℕ → List ℕ → List ℕ
-filledAt s k x = cond (blank (textOf s k)) (putAt s (k * 26) x) s
 
 -- some slots, one after another
 abbrev pub Entry : Type 0

@@ -9,20 +9,11 @@ use lib.ListN.{length, getD, replicate}
 use Rattle.texts.specs.Quoted.{Text, words}
 use Rattle.texts.specs.Texts.{blank, same}
 use Rattle.sheets.specs.Sheet.{slots, slotOf, sheetSize, cell, cellOf, textOf}
-use Rattle.sheets.specs.Forms.{statuses, letterPairs}
+use Rattle.sheets.specs.Entries.{statusTexts, basisTexts, zeroTexts}
 use Rattle.rules.specs.Rules.{keepsAll}
 
--- "101: rule 10's order. 106: rule 15's order. 108 and 109: "0", "00""
-abbrev pub statusTexts : List Text
-statusTexts = words statuses
-
-abbrev pub basisTexts : List Text
-basisTexts = words "0 00" ++ words letterPairs
-
-abbrev pub zeroTexts : List Text
-zeroTexts = words "0 00"
-
--- "Lists: 22, 60, 102, 104, 105, 107: "0"", and these: by slot, no entry for a field that has no list
+-- "Lists: 22, 60, 102, 104, 105, 107: "0". 101: rule 10's order. 106: rule 15's order. 108 and 109: "0", "00"": by slot, no entry for
+-- a field that has no list
 abbrev pub lists : List (List Text)
 lists =
     [] ∷ [] ∷ [] ∷ words "0" ∷ words "0" ∷ [] ∷ statusTexts ∷ words "0" ∷ [] ∷ words "0" ∷ words "0" ∷ basisTexts ∷ words "0" ∷ zeroTexts

@@ -1,6 +1,5 @@
 pub mod Fillings
 pub mod Search
-pub mod Rows
 pub mod Found
 pub mod Filled
 pub mod Complete

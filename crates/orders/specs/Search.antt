@@ -1,42 +1,17 @@
--- The search over facts: only 101, 106, 108 and 109 vary, so it varies the facts of these four. A reader of the promise needs none of
--- this. Assumes nothing.
-use mathlib.Core.Bool.{Bool, true, false, cond}
-use mathlib.Core.List.{List, [], _∷_, _++_}
-use Prim.Native.Nat.{ℕ, zero, suc, _+_}
-use lib.ListN.{length, getD}
-use Rattle.texts.specs.Quoted.{Text}
-use Rattle.texts.specs.Texts.{every}
-use Rattle.sheets.specs.Facts.{standingOf, basisOf, documentOf, dayOf}
-use Rattle.rules.specs.Tests.{holds, specialOrder}
-use Rattle.sheets.specs.declared.facts.Standing.{Standing}
-use Rattle.sheets.specs.declared.facts.Basis.{Basis}
-use Rattle.sheets.specs.declared.facts.Document.{Document}
-use Rattle.sheets.specs.declared.facts.Day.{Day}
+-- The search: only 101, 106, 108 and 109 of the base vary, so it goes through places in their lists. A reader of the promise needs none
+-- of this. Assumes nothing.
+use mathlib.Core.Path.{_≡_}
+use mathlib.Core.Bool.{Bool, true, cond}
+use mathlib.Core.List.{List, [], _∷_}
+use Prim.Native.Nat.{ℕ, zero, suc}
+use Rattle.texts.specs.Texts.{blank, every}
+use Rattle.sheets.specs.Sheet.{Sheet, textOf}
+use Rattle.sheets.specs.Facts.{Read}
 use Rattle.sheets.specs.declared.facts.Facts.{Facts}
-use Rattle.orders.specs.Fillings.{statusTexts, basisTexts, zeroTexts, product, look, Look, found, none}
-
--- the facts with entry k of a field's list, where the field is blank
-unfoldable pub statusAt : Facts → ℕ → Standing
-statusAt f k = cond (f .status .blank) (standingOf (getD statusTexts k [])) (f .status)
-
-unfoldable pub basisAt : Facts → ℕ → Basis
-basisAt f k = cond (f .basis .blank) (basisOf (getD basisTexts k [])) (f .basis)
-
-unfoldable pub documentAt : Facts → ℕ → Document
-documentAt f k = cond (f .document .blank) (documentOf (getD zeroTexts k [])) (f .document)
-
-unfoldable pub dayAt : Facts → ℕ → Day
-dayAt f k = cond (f .day .blank) (dayOf (getD zeroTexts k [])) (f .day)
-
-abbrev pub withAll : Facts → Standing → Basis → Document → Day → Facts
-withAll f a b c d = record { head = f .head; sides = f .sides; rest = f .rest; status = a; basis = b; document = c; day = d }
-
-abbrev pub withAt : Facts → List ℕ → Facts
-withAt f p = withAll f (statusAt f (getD p 0 0)) (basisAt f (getD p 1 0)) (documentAt f (getD p 2 0)) (dayAt f (getD p 3 0))
-
--- the rules for classes A and B are kept with the entries at these four places
-unfoldable pub passesAt : Facts → List ℕ → Bool
-passesAt f p = every (holds (withAt f p)) specialOrder
+use Rattle.rules.specs.Rules.{budget, keeps, keepsAll}
+use Rattle.orders.specs.Fillings.{product, look, Look}
+use Rattle.orders.specs.Filled.{pickedOf}
+use Rattle.orders.specs.Complete.{basic}
 
 -- the places in a list of n: as many as are listed where the field is blank, one where it is not
 abbrev pub width : Bool → ℕ → ℕ
@@ -46,14 +21,24 @@ unfoldable pub places : ℕ → ℕ → List ℕ
 places zero i = []
 places (suc n) i = i ∷ places n (suc i)
 
-unfoldable pub picks : Facts → List (List ℕ)
-picks f =
+unfoldable pub picks : Sheet → List (List ℕ)
+picks s =
     product
-    (places (width (f .status .blank) 22) 0
-    ∷ places (width (f .basis .blank) 12) 0
-    ∷ places (width (f .document .blank) 2) 0
-    ∷ places (width (f .day .blank) 2) 0
+    (places (width (blank (textOf s 6)) 22) 0
+    ∷ places (width (blank (textOf s 11)) 12) 0
+    ∷ places (width (blank (textOf s 13)) 2) 0
+    ∷ places (width (blank (textOf s 14)) 2) 0
     ∷ [])
 
-unfoldable pub firstPick : Facts → Look (List ℕ)
-firstPick f = look (passesAt f) 0 (picks f)
+-- the sheet with the entries at these four places keeps all rules
+unfoldable pub passesAt : Sheet → List ℕ → Bool
+passesAt s p = keepsAll (pickedOf s p)
+
+unfoldable pub firstPick : Sheet → Look (List ℕ)
+firstPick s = look (passesAt s) 0 (picks s)
+
+-- f was read of s, a budget payment that keeps rules 1 to 3
+pub record Payment (f : Facts) (s : Sheet) : Type 0 where
+  pub read : Read f s
+  pub class : budget s ≡ true
+  pub basics : every (keeps s) basic ≡ true

@@ -1,8 +1,4 @@
 // Completion: the first filling of a draft that keeps the rules.
-ghost use mathlib.Core.Path.{_≡_};
-ghost use mathlib.Core.List.{map};
-ghost use Rattle.rules.specs.Tests.{holds, firstFailed};
-ghost use Rattle.orders.specs.Complete.{basic};
 ghost use Rattle.orders.specs.Whole.{Completes};
 use crate::fill::fill_picked;
 use crate::fill::fill_zeros;
@@ -13,13 +9,9 @@ use drafts::draft::Copied;
 use drafts::draft::copy;
 use drafts::message::Refusal;
 use rules::Rule;
+use rules::broken_basic;
 use rules::field_of;
-use rules::first_broken;
-use rules::tests::is_ordinary;
-use rules::tests::keeps1;
-use rules::tests::keeps2;
-use rules::tests::keeps3;
-use sheets::facts::Facts;
+use rules::is_budget;
 use sheets::facts::facts_of;
 use sheets::sheet::Field;
 use sheets::sheet::SHEET_SIZE;
@@ -31,21 +23,6 @@ pub enum Completed {
     Impossible(usize),
     Broken(Field, Rule),
     Refused(Refusal),
-}
-
-// "In completion only 1 to 3".
-const BASIC: [u8; 3] = [1, 2, 3];
-
-fn basic_outcomes(f: Facts) -> [bool; 3]
-    ensures { λ r. ⌜ r ≡ map (holds f) basic ⌝ }
-{
-    [keeps1(f), keeps2(f), keeps3(f)]
-}
-
-fn broken_basic(f: Facts) -> Rule
-    ensures { λ r. ⌜ r .0 ≡ firstFailed f basic ⌝ }
-{
-    first_broken(&basic_outcomes(f), &BASIC)
 }
 
 // A copy to a sheet of its size is refused only where the draft is malformed. "0" goes into the fields that take nothing else first, and
@@ -68,7 +45,7 @@ pub fn complete(draft: &[u8], sheet: &mut [u8]) -> Completed
     if broken.0 != 0 {
         return Completed::Broken(field_of(broken, &work), broken);
     }
-    if is_ordinary(f) {
+    if !is_budget(f) {
         return Completed::Refused(Refusal(9));
     }
     match search(f) {

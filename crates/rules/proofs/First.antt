@@ -1,18 +1,18 @@
 -- The first of some numbers that fails a test. Assumes nothing.
-use mathlib.Core.Path.{_≡_, refl, ap, _∙_}
-use mathlib.Core.Bool.{Bool, true, false, not, cond, _&&_}
+use mathlib.Core.Path.{_≡_, refl, ap, sym, _∙_}
+use mathlib.Core.Bool.{Bool, true, false, not, cond, _&&_, and-assoc, and-true}
 use mathlib.Core.List.{List, [], _∷_, _++_, map}
-use Prim.Native.Nat.{ℕ, suc, _+_, _≤_, _<_}
+use Prim.Native.Nat.{ℕ, zero, suc, _+_, _≤_, _<_}
 use native.Mathlib.Numerals.{add-one}
 use native.Mathlib.Omega.{arith}
 use borrow.Author.Tests.{eqb-false, not-true, not-false}
 use lib.Dec.{eqb}
-use lib.ListN.{length, getD, drop, drop-of-length-le}
+use lib.ListN.{length, getD, drop, drop-of-length-le, List·getD-eq-default}
 use lib.Seq.{drop-cons}
 use Rattle.texts.specs.Texts.{every}
 use Rattle.texts.proofs.Bools.{both}
 use Rattle.rules.specs.Rules.{firstNot}
-use Rattle.rules.specs.Tests.{firstFalse}
+use Rattle.rules.specs.Tests.{kept, allTrue}
 
 -- a number that names a rule
 abbrev pub numbered : ℕ → Bool
@@ -24,18 +24,6 @@ named n z = eqb-false n 0 (not-true (eqb n 0) z)
 none-step : (k m : ℕ) (h r : Bool) → (k ≡ 0 → ⊥) → (m ≡ 0 → r ≡ true) → cond h m k ≡ 0 → (h && r) ≡ true
 none-step k m true r z f e = f e
 none-step k m false r z f e = absurd (z e)
-
-first-step : (k m n : ℕ) (h : Bool) → (cond h m k ≡ 0 → ⊥) → ((m ≡ 0 → ⊥) → n ≡ m) → cond h n k ≡ cond h m k
-first-step k m n true z f = f z
-first-step k m n false z f = refl
-
-then-step : (k m n l : ℕ) (h : Bool) → (k ≡ 0 → ⊥) → cond h m k ≡ 0 → (m ≡ 0 → n ≡ l) → cond h n k ≡ l
-then-step k m n l true z e f = f e
-then-step k m n l false z e f = absurd (z e)
-
-place-step : (k m n : ℕ) (ns : List ℕ) (h : Bool) → getD ns m 0 ≡ n → getD (k ∷ ns) (cond h (suc m) 0) 0 ≡ cond h n k
-place-step k m n ns true e = e
-place-step k m n ns false e = refl
 
 module _ (p : ℕ → Bool) where
   -- none fails exactly when all pass
@@ -71,46 +59,58 @@ module _ (p : ℕ → Bool) where
   split [] f = absurd (f refl)
   split (k ∷ ks) f = split-step k ks (p k) refl f (split ks)
 
-  -- the first of two lists
-  pub not-first : (ks ls : List ℕ) → (firstNot p ks ≡ 0 → ⊥) → firstNot p (ks ++ ls) ≡ firstNot p ks
+  -- by another test that comes to the same
+  pub not-alike : (q : ℕ → Bool) → ((n : ℕ) → p n ≡ q n) → (ks : List ℕ) → firstNot p ks ≡ firstNot q ks
   unfolding firstNot
-  not-first [] ls z = absurd (z refl)
-  not-first (k ∷ ks) ls z = first-step k (firstNot p ks) (firstNot p (ks ++ ls)) (p k) z (not-first ks ls)
+  not-alike q e [] = refl
+  not-alike q e (k ∷ ks) = λ i. cond (e k i) (not-alike q e ks i) k
 
-  pub not-then : (ks ls : List ℕ) → every numbered ks ≡ true → firstNot p ks ≡ 0 → firstNot p (ks ++ ls) ≡ firstNot p ls
-  unfolding firstNot every
-  not-then [] ls z e = refl
-  not-then (k ∷ ks) ls z e =
-      let q = both (numbered k) (every numbered ks) z in
-      then-step k (firstNot p ks) (firstNot p (ks ++ ls)) (firstNot p ls) (p k) (named k (q .0)) e (not-then ks ls (q .1))
+  -- all outcomes are true
+  pub all-held : (ks : List ℕ) → allTrue (map p ks) ≡ every p ks
+  unfolding allTrue every
+  all-held [] = refl
+  all-held (k ∷ ks) = ap (λ (b : Bool). p k && b) (all-held ks)
 
-  -- it stands where the first outcome is false
-  pub place-is : (ks : List ℕ) → getD ks (firstFalse (map p ks)) 0 ≡ firstNot p ks
-  unfolding firstNot firstFalse
-  place-is [] = refl
-  place-is (k ∷ ks) = place-step k (firstFalse (map p ks)) (firstNot p ks) ks (p k) (place-is ks)
+-- ---- first_broken: the answer for the whole is the answer for what is left from i
 
--- ---- first_false: the place in the whole is i and the place in what is left from i
+module _ (p : ℕ → Bool) (ks : List ℕ) (i : ℕ) where
+  not-step : i < length ks → firstNot p (drop i ks) ≡ cond (p (getD ks i 0)) (firstNot p (drop (i + 1) ks)) (getD ks i 0)
+  unfolding firstNot
+  not-step h = rw (add-one, drop-cons ks i 0)
 
-module _ (os : List Bool) (i : ℕ) where
-  false-step : i < length os → firstFalse (drop i os) ≡ cond (getD os i false) (suc (firstFalse (drop (i + 1) os))) 0
-  unfolding firstFalse
-  false-step h = rw (add-one, drop-cons os i false)
+  pub not-found : (b : Bool) → firstNot p ks ≡ firstNot p (drop i ks) → i < length ks → b ≡ p (getD ks i 0) → not b ≡ true → getD ks i 0 ≡ firstNot p ks
+  not-found b e h q n = cc (not-step h, not-true b n)
 
-  pub false-found : firstFalse os ≡ i + firstFalse (drop i os) → i < length os → not (getD os i false) ≡ true → i ≡ firstFalse os
-  false-found e h n =
-      let z : firstFalse (drop i os) ≡ 0 = false-step h ∙ rw (not-true (getD os i false) n) refl in
-      omega (arith, e, z)
+  pub not-more : (b : Bool) → firstNot p ks ≡ firstNot p (drop i ks) → i < length ks → b ≡ p (getD ks i 0) → not b ≡ false → firstNot p ks ≡ firstNot p (drop (i + 1) ks)
+  not-more b e h q n = cc (not-step h, not-false b n)
 
-  pub false-more : firstFalse os ≡ i + firstFalse (drop i os) → i < length os → not (getD os i false) ≡ false → firstFalse os ≡ (i + 1) + firstFalse (drop (i + 1) os)
-  false-more e h n =
-      let z : firstFalse (drop i os) ≡ suc (firstFalse (drop (i + 1) os)) = false-step h ∙ rw (not-false (getD os i false) n) refl in
-      omega (arith, e, z)
+  pub not-none : firstNot p ks ≡ firstNot p (drop i ks) → length ks ≤ i → 0 ≡ firstNot p ks
+  unfolding firstNot
+  not-none e h = rw e (rw drop-of-length-le)
 
-  pub false-none : firstFalse os ≡ i + firstFalse (drop i os) → length os ≤ i → i ≡ firstFalse os
-  unfolding firstFalse
-  false-none e h = let z : firstFalse (drop i os) ≡ 0 = rw drop-of-length-le in omega (arith, e, z)
+-- ---- all_true: those up to i, and what is left from i
 
--- first_broken
-pub at-place : (ks : List ℕ) (i k r : ℕ) → i ≡ k → r ≡ getD ks i 0 → r ≡ getD ks k 0
-at-place ks i k r e h = h ∙ ap (λ (j : ℕ). getD ks j 0) e
+module _ (os : List Bool) (i : ℕ) (a : Bool) (e : allTrue os ≡ (a && allTrue (drop i os))) where
+  pub true-more : i < length os → allTrue os ≡ ((a && getD os i false) && allTrue (drop (i + 1) os))
+  unfolding allTrue
+  true-more h = e ∙ rw (add-one, drop-cons os i false) (sym (and-assoc a (getD os i false) (allTrue (drop (suc i) os))))
+
+  pub true-all : length os ≤ i → a ≡ allTrue os
+  unfolding allTrue
+  true-all h = sym (e ∙ rw drop-of-length-le (and-true a))
+
+-- ---- is_kept
+
+in-list : (os : List Bool) (n : ℕ) → n < length os → getD os n false ≡ getD os n true
+in-list [] n h = absurd (omega arith)
+in-list (o ∷ os) zero h = refl
+in-list (o ∷ os) (suc n) h = in-list os n (omega arith)
+
+module _ (os : List Bool) (n k : ℕ) (e : k ≡ n) where
+  pub kept-at : k < length os → getD os k false ≡ kept os n
+  unfolding kept
+  kept-at h = in-list os k h ∙ ap (λ (j : ℕ). getD os j true) e
+
+  pub kept-past : length os ≤ k → true ≡ kept os n
+  unfolding kept
+  kept-past h = sym (ap (λ (j : ℕ). getD os j true) (sym e) ∙ List·getD-eq-default os true h)

@@ -5,17 +5,19 @@ use mathlib.Core.List.{List, [], _∷_, _++_, map}
 use Prim.Native.Nat.{ℕ, zero, suc, _+_, _-_, _≤_, _<_}
 use native.Mathlib.Numerals.{add-one}
 use native.Mathlib.Omega.{arith}
-use borrow.Author.Tests.{eqb-true, eqb-false, ne-eqb, not-true, not-false, leb-true}
-use lib.Dec.{eqb, leb}
-use lib.ListN.{length, getD, set, drop, drop-of-length-le}
+use borrow.Author.Tests.{eqb-true, ne-eqb, not-true, not-false, ltb-true}
+use lib.Dec.{eqb, ltb}
+use lib.ListN.{length, getD, set, drop, drop-of-length-le, List·getD-append}
 use lib.Seq.{drop-cons, getD-set-other}
 use Rattle.texts.specs.Texts.{every, any, are, among}
 use Rattle.texts.proofs.Bools.{both}
 use Rattle.texts.proofs.Every.{every-append, every-same}
 use Rattle.sheets.specs.Sheet.{slots, slotOk, wellFormed, fieldIn, slotOf, Sheet, given}
-use Rattle.rules.specs.Rules.{Rule, classA, classB, budget, firstBlank, rules, order, fieldOf, keeps, firstNot, firstBroken, classOf}
-use Rattle.sheets.specs.Facts.{factsOf, factsIn}
-use Rattle.rules.specs.Tests.{ordinary, classOn, look, holds, firstFalse, firstFailed, generalOrder, firstTen, secondTen, lastTen, specialOrder, fixedRules, statusRules, basisRules, documentRules, dayRules, grouped}
+use Rattle.rules.specs.Rules.{Rule, classA, classB, budget, testOf, keepsAll, firstBlank, rules, order, fieldOf, keeps, firstNot, firstBroken, classOf}
+use Rattle.sheets.specs.Facts.{factsOf, Read}
+use Rattle.rules.specs.Tests.{ordinary, classOn, kept, holds, allTrue, generalOn, specialOn, outcomesOn, judgedOn}
+use Rattle.rules.specs.Groups.{fixedRules, statusRules, basisRules, documentRules, dayRules, grouped}
+use Rattle.sheets.specs.Forms.{_⇒_}
 use Rattle.rules.specs.Verdicts.{verdictAnswer, judged, checked, Checked}
 use Rattle.rules.specs.declared.Class.{Class}
 use Rattle.rules.specs.declared.Class.the-variants.{A, B, O}
@@ -23,9 +25,8 @@ use Rattle.rules.specs.declared.Rule.{Rule as RuleNumber}
 use Rattle.sheets.specs.declared.sheet.Field.{Field}
 use Rattle.rules.specs.declared.Verdict.the-variants.{Malformed, Broken, Accepted}
 use Rattle.sheets.specs.declared.facts.Facts.{Facts}
-use Rattle.rules.proofs.On.{budget-keeps, ordinary-keeps, class-on, ordinary-on, general-on}
-use Rattle.sheets.proofs.Ways.{facts-sized}
-use Rattle.rules.proofs.First.{numbered, kept-none, not-first, not-then, place-is}
+use Rattle.rules.proofs.On.{counted, rules-counted, counted-step, budget-keeps, keeps-on, judged-keeps, ordinary-on, class-on}
+use Rattle.rules.proofs.First.{not-alike, all-held}
 use Rattle.rules.proofs.Means.{checked-by}
 
 -- ---- first_blank: the answer for the whole is the answer for what is left from i
@@ -47,41 +48,96 @@ module _ (s : Sheet) (ks : List ℕ) (i : ℕ) where
 
 -- ---- the groups of rules
 
-same-rules : (p : ℕ → Bool) → every p grouped ≡ every p specialOrder
+every-cong : (p q : ℕ → Bool) → ((n : ℕ) → p n ≡ q n) → (l : List ℕ) → every p l ≡ every q l
+unfolding every
+every-cong p q e [] = refl
+every-cong p q e (n ∷ ns) = λ i. e n i && every-cong p q e ns i
+
+pub kept-in : (f : Facts) (ks : List ℕ) (os : List Bool) (r : Bool) → os ≡ map (holds f) ks → r ≡ allTrue os → (s : Sheet) → Read f s → budget s ≡ true → r ≡ every (keeps s) ks
+kept-in f ks os r e h s o b =
+    h ∙ ap allTrue e ∙ all-held (holds f) ks ∙ ap (λ (g : Facts). every (holds g) ks) (o .facts)
+    ∙ every-cong (holds (factsOf s)) (keeps s) (λ n. sym (budget-keeps s n b)) ks
+
+-- the groups have the rules of the order but 1 to 4
+pub order-grouped : (p : ℕ → Bool) → every p order ≡ every p (1 ∷ 2 ∷ 3 ∷ 4 ∷ grouped)
 unfolding every any are among
-same-rules p = every-same p grouped specialOrder refl refl
+order-grouped p = every-same p order (1 ∷ 2 ∷ 3 ∷ 4 ∷ grouped) refl refl
 
-pub groups-held : (f : Facts) (a b c d e : Bool) → a ≡ every (holds f) fixedRules → b ≡ every (holds f) statusRules → c ≡ every (holds f) basisRules → d ≡ every (holds f) documentRules → e ≡ every (holds f) dayRules → (a && (b && (c && (d && e)))) ≡ every (holds f) specialOrder
-groups-held f a b c d e x y z u v =
-    let p = every-append (holds f) documentRules dayRules in
-    let q = every-append (holds f) basisRules (documentRules ++ dayRules) in
-    let r = every-append (holds f) statusRules (basisRules ++ (documentRules ++ dayRules)) in
-    let w = every-append (holds f) fixedRules (statusRules ++ (basisRules ++ (documentRules ++ dayRules))) in
-    let t = same-rules (holds f) in
-    cc
+-- of a budget payment rule 4 asks nothing
+fourth : (u : Sheet) → budget u ≡ true → keeps u 4 ≡ true
+unfolding keeps rules testOf
+fourth u b = simp b
 
--- ---- broken_general, broken_special
+first-of : (p : ℕ → Bool) (n : ℕ) (l : List ℕ) → p n ≡ true → every p (n ∷ l) ≡ every p l
+unfolding every
+first-of p n l e = simp e
 
-module _ (f : Facts) where
-  pub broken-in : (ks : List ℕ) (os : List Bool) (r : ℕ) → os ≡ map (holds f) ks → r ≡ getD ks (firstFalse os) 0 → r ≡ firstFailed f ks
-  broken-in ks os r e h = h ∙ ap (λ (l : List Bool). getD ks (firstFalse l) 0) e ∙ place-is (holds f) ks
+-- a budget payment that keeps rules 1 to 3 keeps all rules if it keeps those of each group
+pub all-grouped : (u : Sheet) → budget u ≡ true → every (keeps u) (1 ∷ 2 ∷ 3 ∷ []) ≡ true → keepsAll u ≡ (every (keeps u) fixedRules && (every (keeps u) statusRules && (every (keeps u) basisRules && (every (keeps u) documentRules && every (keeps u) dayRules))))
+unfolding keepsAll
+all-grouped u b h =
+    let p = every-append (keeps u) documentRules dayRules in
+    let q = every-append (keeps u) basisRules (documentRules ++ dayRules) in
+    let r = every-append (keeps u) statusRules (basisRules ++ (documentRules ++ dayRules)) in
+    let w = every-append (keeps u) fixedRules (statusRules ++ (basisRules ++ (documentRules ++ dayRules))) in
+    order-grouped (keeps u) ∙ sym (every-append (keeps u) (1 ∷ 2 ∷ 3 ∷ []) (4 ∷ grouped)) ∙ ap (λ (x : Bool). x && every (keeps u) (4 ∷ grouped)) h
+    ∙ first-of (keeps u) 4 grouped (fourth u b) ∙ cc
 
-  -- the list with the first broken one
-  module _ (a : ℕ) (ea : a ≡ firstFailed f firstTen) where
-    pub in-first : (a ≡ 0 → ⊥) → a ≡ firstFailed f specialOrder
-    in-first z = ea ∙ sym (not-first (holds f) firstTen (secondTen ++ lastTen) (λ q. z (ea ∙ q)))
+-- ---- broken_general, is_budget
 
-    module _ (za : a ≡ 0) (b : ℕ) (eb : b ≡ firstFailed f secondTen) where
-      past-first : firstFailed f specialOrder ≡ firstFailed f (secondTen ++ lastTen)
-      unfolding every
-      past-first = not-then (holds f) firstTen (secondTen ++ lastTen) refl (sym ea ∙ za)
+general-keeps : (s : Sheet) (n : ℕ) → n < 5 → kept (generalOn (factsOf s)) n ≡ keeps s n
+unfolding kept
+general-keeps s n h = sym (keeps-on s n ∙ List·getD-append (generalOn (factsOf s)) (map (λ (b : Bool). not (ordinary (factsOf s)) ⇒ b) (specialOn (factsOf s))) true n h)
 
-      pub in-second : (b ≡ 0 → ⊥) → b ≡ firstFailed f specialOrder
-      in-second z = eb ∙ sym (past-first ∙ not-first (holds f) secondTen lastTen (λ q. z (eb ∙ q)))
+general-alike : (s : Sheet) (ns : List ℕ) → every (λ (n : ℕ). ltb n 5) ns ≡ true → firstNot (kept (generalOn (factsOf s))) ns ≡ firstBroken s ns
+unfolding firstNot every
+general-alike s [] h = refl
+general-alike s (n ∷ ns) h =
+    let q = both (ltb n 5) (every (λ (m : ℕ). ltb m 5) ns) h in
+    λ i. cond (general-keeps s n (ltb-true n 5 (q .0)) i) (general-alike s ns (q .1) i) n
 
-      pub in-last : (r : ℕ) → b ≡ 0 → r ≡ firstFailed f lastTen → r ≡ firstFailed f specialOrder
-      unfolding every
-      in-last r z e = e ∙ sym (past-first ∙ not-then (holds f) secondTen lastTen refl (sym eb ∙ z))
+pub general-first : (f : Facts) (os : List Bool) (ns : List ℕ) (r : RuleNumber) → os ≡ generalOn f → r .0 ≡ firstNot (kept os) ns → (s : Sheet) → Read f s → every (λ (n : ℕ). ltb n 5) ns ≡ true → r .0 ≡ firstBroken s ns
+general-first f os ns r e h s o l = h ∙ ap (λ (bs : List Bool). firstNot (kept bs) ns) (e ∙ ap (λ (g : Facts). generalOn g) (o .facts)) ∙ general-alike s ns l
+
+pub basic-first : (f : Facts) (os : List Bool) (r : RuleNumber) → os ≡ generalOn f → r .0 ≡ firstNot (kept os) (1 ∷ 2 ∷ 3 ∷ []) → (s : Sheet) → Read f s → r .0 ≡ firstBroken s (1 ∷ 2 ∷ 3 ∷ [])
+unfolding every
+basic-first f os r e h s o = general-first f os (1 ∷ 2 ∷ 3 ∷ []) r e h s o refl
+
+not-not : (b : Bool) → not (not b) ≡ b
+not-not true = refl
+not-not false = refl
+
+pub budget-is : (f : Facts) (s : Sheet) → Read f s → (f .head .account .a || f .head .account .b) ≡ budget s
+budget-is f s o =
+    sym (not-not (f .head .account .a || f .head .account .b))
+    ∙ ap not (ap (λ (g : Facts). ordinary g) (o .facts) ∙ ordinary-on s) ∙ not-not (budget s)
+
+-- ---- outcomes
+
+abbrev pub place : List Bool → List Bool → List Bool → List Bool → List Bool → List Bool → List Bool
+place g x t b d y =
+    true
+    ∷ getD g 1 false ∷ getD g 2 false ∷ getD g 3 false ∷ getD g 4 false ∷ getD x 0 false
+    ∷ getD y 0 false ∷ getD x 1 false ∷ getD x 2 false ∷ getD x 3 false ∷ getD t 0 false
+    ∷ getD x 4 false ∷ getD x 5 false ∷ getD x 6 false ∷ getD x 7 false ∷ getD b 0 false
+    ∷ getD x 8 false ∷ getD d 0 false ∷ getD y 1 false ∷ getD t 1 false ∷ getD t 2 false
+    ∷ getD t 3 false ∷ getD x 9 false ∷ getD t 4 false ∷ getD t 5 false ∷ getD d 1 false
+    ∷ getD d 2 false ∷ getD t 6 false ∷ getD x 10 false ∷ getD b 1 false ∷ getD t 7 false
+    ∷ getD y 2 false ∷ getD d 3 false ∷ getD d 4 false ∷ getD y 3 false ∷ []
+
+pub placed : (f : Facts) (g x t b d y : List Bool) → g ≡ generalOn f → x ≡ map (holds f) fixedRules → t ≡ map (holds f) statusRules → b ≡ map (holds f) basisRules → d ≡ map (holds f) documentRules → y ≡ map (holds f) dayRules → place g x t b d y ≡ outcomesOn f
+unfolding holds
+placed f g x t b d y eg ex et eb ed ey = λ i. place (eg i) (ex i) (et i) (eb i) (ed i) (ey i)
+
+-- ---- broken
+
+pub broken-ordinary : (f : Facts) (o : Bool) (os : List Bool) (r : ℕ) → o ≡ ordinary f → o ≡ true → os ≡ generalOn f → r ≡ firstNot (kept os) order → r ≡ firstNot (kept (judgedOn f)) order
+unfolding judgedOn
+broken-ordinary f o os r e t h i = cc
+
+pub broken-budget : (f : Facts) (o : Bool) (os : List Bool) (r : ℕ) → o ≡ ordinary f → o ≡ false → os ≡ outcomesOn f → r ≡ firstNot (kept os) order → r ≡ firstNot (kept (judgedOn f)) order
+unfolding judgedOn
+broken-budget f o os r e t h i = cc
 
 -- ---- class_of
 
@@ -99,29 +155,15 @@ class-o f t u = cc
 
 -- ---- field_of: the table has the fields of the rules by their numbers, which go up by one
 
-abbrev Counted : ℕ → List Rule → Type 0
-Counted k [] = Unit {0}
-Counted k (r ∷ rs) = (r .number ≡ k) × Counted (suc k) rs
-
 fieldsOf : Sheet → List Rule → List ℕ
-fieldsOf s [] = []
-fieldsOf s (r ∷ rs) = r .field s ∷ fieldsOf s rs
+fieldsOf s rs = map (λ (r : Rule). r .field s) rs
 
-counted-step : (n k m f : ℕ) (fs : List ℕ) (e : Bool) → eqb n k ≡ e → k ≤ n → (suc k ≤ n → m ≡ getD fs (n - suc k) 0) → cond e f m ≡ getD (f ∷ fs) (n - k) 0
-counted-step n k m f fs true h l r =
-    let z : n - k ≡ 0 = omega (arith, eqb-true n k h) in
-    rw z
-counted-step n k m f fs false h l r =
-    let d = eqb-false n k h in
-    let j : suc k ≤ n = omega arith in
-    let z : n - k ≡ suc (n - suc k) = omega arith in
-    r j ∙ rw z
-
-counted-field : (s : Sheet) (n k : ℕ) (rs : List Rule) → Counted k rs → k ≤ n → fieldOf rs n s ≡ getD (fieldsOf s rs) (n - k) 0
+counted-field : (s : Sheet) (n k : ℕ) (rs : List Rule) → counted k rs ≡ true → k ≤ n → fieldOf rs n s ≡ getD (fieldsOf s rs) (n - k) 0
 unfolding fieldOf fieldsOf
 counted-field s n k [] c l = refl
 counted-field s n k (r ∷ rs) c l =
-    rw (c .0) (counted-step n k (fieldOf rs n s) (r .field s) (fieldsOf s rs) (eqb n k) refl l (λ j. counted-field s n (suc k) rs (c .1) j))
+    let q = both (eqb (r .number) k) (counted (suc k) rs) c in
+    rw (eqb-true (r .number) k (q .0)) (counted-step 0 n k (fieldOf rs n s) (r .field s) (fieldsOf s rs) (eqb n k) refl l (λ j. counted-field s n (suc k) rs (q .1) j))
 
 -- the code's table has 0 for rule 6
 abbrev table : List ℕ
@@ -134,9 +176,7 @@ unfolding fieldOf fieldsOf rules
 table-field s zero = refl
 table-field s (suc n) =
     let z : suc n - 1 ≡ n = omega arith in
-    sym (counted-field s (suc n) 1 rules
-    (refl, (refl, (refl, (refl, (refl, (refl, (refl, (refl, (refl, (refl, (refl, (refl, (refl, (refl, (refl, (refl, (refl, (refl, (refl, (refl, (refl, (refl, (refl, (refl, (refl, (refl, (refl, (refl, (refl, (refl, (refl, (refl, (refl, (refl, tt)))))))))))))))))))))))))))))))))) (omega arith)
-    ∙ rw z)
+    sym (counted-field s (suc n) 1 rules rules-counted (omega arith) ∙ rw z)
 
 table-set : (s : Sheet) → table ≡ set (0 ∷ fieldsOf s rules) 6 0
 unfolding fieldsOf rules
@@ -154,19 +194,6 @@ field-six s n r e h = rw e h
 -- ---- check
 
 module _ (s : Sheet) where
-  -- of an ordinary sheet, and of a budget payment
-  ordinary-kept : (ks : List ℕ) → every (leb 5) ks ≡ true → budget s ≡ false → every (keeps s) ks ≡ true
-  unfolding every
-  ordinary-kept [] l b = refl
-  ordinary-kept (k ∷ ks) l b =
-      let q = both (leb 5 k) (every (leb 5) ks) l in
-      rw (ordinary-keeps s k (leb-true 5 k (q .0)) b) (ordinary-kept ks (q .1) b)
-
-  budget-broken : (ks : List ℕ) → budget s ≡ true → firstBroken s ks ≡ firstFailed (factsOf s) ks
-  unfolding firstNot
-  budget-broken [] b = refl
-  budget-broken (k ∷ ks) b = rw (budget-keeps s k b, budget-broken ks b)
-
   pub ordinary-class : budget s ≡ false → classOf s ≡ O
   unfolding classOf
   ordinary-class b = go (classA s) (classB s) b
@@ -175,14 +202,6 @@ module _ (s : Sheet) where
       go true c e = absurd (false≢true (sym e))
       go false true e = absurd (false≢true (sym e))
       go false false e = refl
-
-  five-on : every (leb 5) specialOrder ≡ true
-  unfolding every
-  five-on = refl
-
-  general-numbered : every numbered generalOrder ≡ true
-  unfolding every
-  general-numbered = refl
 
   pub check-malformed : (w : Bool) → w ≡ wellFormed s → not w ≡ true → Checked s Malformed
   unfolding checked verdictAnswer
@@ -197,33 +216,15 @@ module _ (s : Sheet) where
   unfolding checked judged verdictAnswer
   accepted-is w k e n h i = checked-by s (Accepted k) (cc (not-false w n))
 
-  module _ (w : Bool) (x : Facts) (g : RuleNumber) (e : w ≡ wellFormed s) (n : not w ≡ false) (j : x ≡ factsIn s) (i : g .0 ≡ firstFailed x generalOrder) where
+  module _ (w : Bool) (x : Facts) (g : RuleNumber) (e : w ≡ wellFormed s) (n : not w ≡ false) (j : length s ≡ 390 → Read x s) (i : g .0 ≡ firstNot (kept (judgedOn x)) order) where
     h : x ≡ factsOf s
-    h = j ∙ facts-sized s (eqb-true (length s) 390 (both (eqb (length s) 390) (every (slotOk s) slots) (sym e ∙ not-false w n) .0))
+    h = j (eqb-true (length s) 390 (both (eqb (length s) 390) (every (slotOk s) slots) (sym e ∙ not-false w n) .0)) .facts
 
-    general-is : firstBroken s generalOrder ≡ g .0
-    general-is = cc (general-on s, h)
+    first-is : firstBroken s order ≡ g .0
+    first-is = not-alike (keeps s) (kept (judgedOn (factsOf s))) (judged-keeps s) order ∙ cc h
 
-    pub check-general : (f : Field) → (g .0 ≡ 0 → ⊥) → f .0 ≡ fieldOf rules (g .0) s → Checked s (Broken f g)
-    check-general f z k = broken-is w g f e n (not-first (keeps s) generalOrder specialOrder (λ q. z (sym general-is ∙ q)) ∙ general-is) z k
+    pub check-broken : (f : Field) → (g .0 ≡ 0 → ⊥) → f .0 ≡ fieldOf rules (g .0) s → Checked s (Broken f g)
+    check-broken f z k = broken-is w g f e n first-is z k
 
-    module _ (o : Bool) (z : g .0 ≡ 0) (p : o ≡ ordinary x) where
-      special-is : firstBroken s order ≡ firstBroken s specialOrder
-      special-is = not-then (keeps s) generalOrder specialOrder general-numbered (general-is ∙ z)
-
-      pub check-ordinary : o ≡ true → Checked s (Accepted O)
-      check-ordinary t =
-          let b : budget s ≡ false = not-true (budget s) (cc (ordinary-on s, h)) in
-          accepted-is w O e n (special-is ∙ kept-none (keeps s) specialOrder (ordinary-kept specialOrder five-on b)) (sym (ordinary-class b))
-
-      module _ (b : RuleNumber) (t : o ≡ false) (q : b .0 ≡ firstFailed x specialOrder) where
-        broken-special-is : firstBroken s order ≡ b .0
-        broken-special-is =
-            let y : budget s ≡ true = not-false (budget s) (cc (ordinary-on s, h)) in
-            special-is ∙ budget-broken specialOrder y ∙ cc h
-
-        pub check-special : (f : Field) → (b .0 ≡ 0 → ⊥) → f .0 ≡ fieldOf rules (b .0) s → Checked s (Broken f b)
-        check-special f y m = broken-is w b f e n broken-special-is y m
-
-        pub check-accepted : (k : Class) → b .0 ≡ 0 → k ≡ classOn x → Checked s (Accepted k)
-        check-accepted k y m = accepted-is w k e n (broken-special-is ∙ y) (cc (class-on s, h))
+    pub check-accepted : (k : Class) → g .0 ≡ 0 → k ≡ classOn x → Checked s (Accepted k)
+    check-accepted k z m = accepted-is w k e n (first-is ∙ z) (cc (class-on s, h))

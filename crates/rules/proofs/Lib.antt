@@ -1,5 +1,5 @@
-pub mod Lists
 pub mod On
 pub mod First
 pub mod Means
 pub mod Judging
+pub mod Reading

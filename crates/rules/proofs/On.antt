@@ -1,23 +1,25 @@
 -- The tests on facts are the rules. Assumes nothing.
-use mathlib.Core.Path.{_≡_, refl, sym, _∙_}
+use mathlib.Core.Path.{_≡_, refl, ap, sym, _∙_}
 use mathlib.Core.Logic.{_⊎_, ⊎-elim}
 use mathlib.Core.Bool.{Bool, true, false, not, cond, _&&_, _||_, and-assoc, and-comm, and-true}
 use mathlib.Core.List.{List, [], _∷_, _++_, map}
-use Prim.Native.Nat.{ℕ, _≤_}
+use Prim.Native.Nat.{ℕ, zero, suc, _-_, _≤_}
 use native.Mathlib.Omega.{arith}
 use lib.Dec.{eqb}
 use native.Mathlib.Decide.{ℕ-discrete}
-use borrow.Author.Tests.{ne-eqb}
+use borrow.Author.Tests.{eqb-true, eqb-false, ne-eqb}
+use lib.ListN.{getD, set}
 use Rattle.texts.specs.Texts.{every, any, are, among, valueOf, value, number, _is_}
+use Rattle.texts.proofs.Bools.{both}
 use Rattle.texts.proofs.Codes.{is-one-of}
 use Rattle.texts.proofs.Arms.{outside}
 use Rattle.sheets.specs.Sheet.{slotOf, textOf, _⟨_⟩, Sheet, given}
 use Rattle.sheets.specs.Forms.{_⇒_, inn, inn10, inn12}
-use Rattle.rules.specs.Rules.{Rule, budget, classOf, general, special, forBudget, rules, testOf, keeps, firstNot, firstBroken, rule6, rule23}
+use Rattle.rules.specs.Rules.{Rule, budget, classOf, special, forBudget, rules, testOf, keeps, rule6, rule23}
 use Rattle.sheets.specs.Facts.{payerOf, codeOf, formOf, groupsOf, standingOf, basisOf, documentOf, dayOf, generalOf, accountOf, headOf, sidesOf, restOf, factsOf, wantedBy}
-use Rattle.rules.specs.Tests.{suits, classOn, ordinary, on6, on23, generalOn, specialOn, look, holds, firstFailed, generalOrder}
-use Rattle.sheets.specs.declared.facts.Facts.{Facts}
+use Rattle.rules.specs.Tests.{suits, classOn, ordinary, on6, on23, generalOn, specialOn, outcomesOn, judgedOn, kept, holds}
 use Rattle.sheets.specs.declared.facts.Payer.{Payer}
+use Rattle.sheets.specs.declared.facts.Facts.{Facts}
 
 -- rule 6: the slots in another order
 and-left-comm : (a b c : Bool) → (a && (b && c)) ≡ (b && (a && c))
@@ -87,129 +89,107 @@ on-23 s =
     wants-is (number 2 t) (payerOf p)
     ∙ (λ i. (a i ⇒ inn p) && ((b i ⇒ inn10 p) && ((c i ⇒ inn12 p) && (d i ⇒ p is "0"))))
 
--- each rule beside its test on facts
-abbrev Agree : Sheet → List Rule → List (ℕ × (Facts → Bool)) → Type 0
-Agree s [] [] = Unit {0}
-Agree s [] (o ∷ os) = ⊥
-Agree s (r ∷ rs) [] = ⊥
-Agree s (r ∷ rs) (o ∷ os) = ((r .number ≡ o .0) × (o .1 (factsOf s) ≡ r .test s)) × Agree s rs os
+-- the outcomes of rules, and of those for classes A and B, which ask nothing of any other sheet
+testsOf : Sheet → List Rule → List Bool
+testsOf s rs = map (λ (r : Rule). r .test s) rs
 
-general-agree : (s : Sheet) → Agree s general generalOn
-unfolding factsOf headOf generalOf accountOf standingOf slotOf _⟨_⟩
-general-agree s = ((refl, refl), ((refl, refl), ((refl, refl), ((refl, refl), tt))))
+special-on : (s : Sheet) → specialOn (factsOf s) ≡ testsOf s special
+unfolding testsOf factsOf headOf sidesOf restOf generalOf accountOf codeOf payerOf formOf groupsOf standingOf basisOf documentOf dayOf slotOf _⟨_⟩
+special-on s = λ i. set (set (specialOn (factsOf s)) 1 (on-6 s i)) 18 (on-23 s i)
 
-special-agree : (s : Sheet) → Agree s special specialOn
-unfolding factsOf headOf sidesOf restOf generalOf accountOf codeOf payerOf formOf groupsOf standingOf basisOf documentOf dayOf slotOf _⟨_⟩
-special-agree s = (
-  (refl, refl),
-  (
-    (refl, on-6 s),
-    (
-      (refl, refl),
-      (
-        (refl, refl),
-        (
-          (refl, refl),
-          (
-            (refl, refl),
-            (
-              (refl, refl),
-              (
-                (refl, refl),
-                (
-                  (refl, refl),
-                  (
-                    (refl, refl),
-                    (
-                      (refl, refl),
-                      (
-                        (refl, refl),
-                        (
-                          (refl, refl),
-                          (
-                            (refl, refl),
-                            (
-                              (refl, refl),
-                              (
-                                (refl, refl),
-                                (
-                                  (refl, refl),
-                                  (
-                                    (refl, refl),
-                                    (
-                                      (refl, on-23 s),
-                                      (
-                                        (refl, refl),
-                                        ((refl, refl), ((refl, refl), ((refl, refl), ((refl, refl), ((refl, refl), ((refl, refl), ((refl, refl), ((refl, refl), ((refl, refl), ((refl, refl), tt)))))))))),
-                                      ),
-                                    ),
-                                  ),
-                                ),
-                              ),
-                            ),
-                          ),
-                        ),
-                      ),
-                    ),
-                  ),
-                ),
-              ),
-            ),
-          ),
-        ),
-      ),
-    ),
-  ),
-)
+guard-on : (s : Sheet) (rs : List Rule) → budget s ≡ true → testsOf s (map forBudget rs) ≡ testsOf s rs
+unfolding testsOf
+guard-on s [] b = refl
+guard-on s (r ∷ rs) b = rw (guard-on s rs b) (simp b)
 
--- of a budget payment the rules for classes A and B ask what they say
-guarded : (s : Sheet) (rs : List Rule) (os : List (ℕ × (Facts → Bool))) → budget s ≡ true → Agree s rs os → Agree s (map forBudget rs) os
-guarded s [] [] b a = a
-guarded s [] (o ∷ os) b a = a
-guarded s (r ∷ rs) [] b a = a
-guarded s (r ∷ rs) (o ∷ os) b a = ((a .0 .0, a .0 .1 ∙ (simp b)), guarded s rs os b (a .1))
+guard-off : (s : Sheet) (rs : List Rule) (n : ℕ) → budget s ≡ false → getD (testsOf s (map forBudget rs)) n true ≡ true
+unfolding testsOf
+guard-off s [] n b = refl
+guard-off s (r ∷ rs) zero b = simp b
+guard-off s (r ∷ rs) (suc n) b = guard-off s rs n b
 
-agree-append : (s : Sheet) (rs qs : List Rule) (os ps : List (ℕ × (Facts → Bool))) → Agree s rs os → Agree s qs ps → Agree s (rs ++ qs) (os ++ ps)
-agree-append s [] qs [] ps a b = b
-agree-append s [] qs (o ∷ os) ps a b = absurd a
-agree-append s (r ∷ rs) qs [] ps a b = absurd a
-agree-append s (r ∷ rs) qs (o ∷ os) ps a b = (a .0, agree-append s rs qs os ps (a .1) b)
+beyond : (os qs : List Bool) (n : ℕ) → ((m : ℕ) → getD qs m true ≡ true) → getD (os ++ qs) n true ≡ getD os n true
+beyond [] qs n h = h n
+beyond (o ∷ os) qs zero h = refl
+beyond (o ∷ os) qs (suc n) h = beyond os qs n h
 
-agree-test : (s : Sheet) (n : ℕ) (rs : List Rule) (os : List (ℕ × (Facts → Bool))) → Agree s rs os → testOf rs n s ≡ look os n (factsOf s)
-unfolding testOf
-agree-test s n [] [] a = refl
-agree-test s n [] (o ∷ os) a = absurd a
-agree-test s n (r ∷ rs) [] a = absurd a
-agree-test s n (r ∷ rs) (o ∷ os) a =
-    let e = a .0 .0 in
-    let f = a .0 .1 in
-    cc (agree-test s n rs os (a .1))
+-- the rules' numbers go up by one, so that each outcome stands at its rule's number
+abbrev pub counted : ℕ → List Rule → Bool
+counted k [] = true
+counted k (r ∷ rs) = eqb (r .number) k && counted (suc k) rs
+
+pub rules-counted : counted 1 rules ≡ true
+unfolding rules
+rules-counted = refl
+
+module _ {A : Type 0} (d : A) where
+  pub counted-step : (n k : ℕ) (m f : A) (fs : List A) (e : Bool) → eqb n k ≡ e → k ≤ n → (suc k ≤ n → m ≡ getD fs (n - suc k) d) → cond e f m ≡ getD (f ∷ fs) (n - k) d
+  counted-step n k m f fs true h l r =
+      let z : n - k ≡ 0 = omega (arith, eqb-true n k h) in
+      rw z
+  counted-step n k m f fs false h l r =
+      let x = eqb-false n k h in
+      let j : suc k ≤ n = omega arith in
+      let z : n - k ≡ suc (n - suc k) = omega arith in
+      r j ∙ rw z
+
+counted-test : (s : Sheet) (n k : ℕ) (rs : List Rule) → counted k rs ≡ true → k ≤ n → testOf rs n s ≡ getD (testsOf s rs) (n - k) true
+unfolding testOf testsOf
+counted-test s n k [] c l = refl
+counted-test s n k (r ∷ rs) c l =
+    let q = both (eqb (r .number) k) (counted (suc k) rs) c in
+    rw (eqb-true (r .number) k (q .0)) (counted-step true n k (testOf rs n s) (r .test s) (testsOf s rs) (eqb n k) refl l (λ j. counted-test s n (suc k) rs (q .1) j))
+
+none-at : (s : Sheet) → keeps s 0 ≡ true
+unfolding keeps testOf rules
+none-at s = refl
+
+keeps-at : (s : Sheet) (n : ℕ) → keeps s n ≡ getD (true ∷ testsOf s rules) n true
+unfolding keeps
+keeps-at s zero = none-at s
+keeps-at s (suc n) =
+    let z : suc n - 1 ≡ n = omega arith in
+    counted-test s (suc n) 1 rules rules-counted (omega arith) ∙ rw z
+
+general-is : (s : Sheet) → true ∷ testsOf s rules ≡ generalOn (factsOf s) ++ testsOf s (map forBudget special)
+unfolding testsOf rules factsOf headOf generalOf accountOf standingOf slotOf _⟨_⟩
+general-is s = refl
+
+rules-at : (s : Sheet) (n : ℕ) → keeps s n ≡ getD (generalOn (factsOf s) ++ testsOf s (map forBudget special)) n true
+rules-at s n = keeps-at s n ∙ ap (λ (l : List Bool). getD l n true) (general-is s)
 
 pub budget-keeps : (s : Sheet) (n : ℕ) → budget s ≡ true → keeps s n ≡ holds (factsOf s) n
-unfolding keeps rules holds
+unfolding holds
 budget-keeps s n b =
-    agree-test s n (general ++ map forBudget special) (generalOn ++ specialOn)
-    (agree-append s general (map forBudget special) generalOn specialOn (general-agree s) (guarded s special specialOn b (special-agree s)))
+    rules-at s n ∙ ap (λ (l : List Bool). getD (generalOn (factsOf s) ++ l) n true) (guard-on s special b ∙ sym (special-on s))
 
--- of every other sheet they ask nothing
-guard-off : (s : Sheet) (n : ℕ) (rs : List Rule) → budget s ≡ false → testOf (map forBudget rs) n s ≡ true
-unfolding testOf
-guard-off s n [] b = refl
-guard-off s n (r ∷ rs) b = rw (guard-off s n rs b) (guard-cond (eqb n (r .number)) (budget s) (r .test s) b)
-  where
-    guard-cond : (e c t : Bool) → c ≡ false → cond e (c ⇒ t) true ≡ true
-    guard-cond true c t h = simp h
-    guard-cond false c t h = refl
+-- the outcomes of all rules, at their numbers: those for classes A and B are true of any other sheet
+abbrev pub verdictsOn : Facts → List Bool
+verdictsOn f = generalOn f ++ map (λ (b : Bool). not (ordinary f) ⇒ b) (specialOn f)
 
-skip : (s : Sheet) (n : ℕ) (qs : List Rule) → 5 ≤ n → testOf (general ++ qs) n s ≡ testOf qs n s
-unfolding testOf
-skip s n qs h = simp (ne-eqb n 1 (λ e. omega arith), ne-eqb n 2 (λ e. omega arith), ne-eqb n 3 (λ e. omega arith), ne-eqb n 4 (λ e. omega arith))
+guards-on : (s : Sheet) (rs : List Rule) → testsOf s (map forBudget rs) ≡ map (λ (b : Bool). budget s ⇒ b) (testsOf s rs)
+unfolding testsOf
+guards-on s [] = refl
+guards-on s (r ∷ rs) = ap (λ (l : List Bool). (budget s ⇒ r .test s) ∷ l) (guards-on s rs)
 
-pub ordinary-keeps : (s : Sheet) (n : ℕ) → 5 ≤ n → budget s ≡ false → keeps s n ≡ true
-unfolding keeps rules
-ordinary-keeps s n h b = skip s n (map forBudget special) h ∙ guard-off s n special b
+twice : (b : Bool) → b ≡ not (not b)
+twice true = refl
+twice false = refl
 
--- the class, and the first broken one of the rules for every sheet
+budget-on : (s : Sheet) → budget s ≡ not (ordinary (factsOf s))
+unfolding factsOf headOf accountOf slotOf _⟨_⟩
+budget-on s = twice (budget s)
+
+pub keeps-on : (s : Sheet) (n : ℕ) → keeps s n ≡ getD (verdictsOn (factsOf s)) n true
+keeps-on s n =
+    rules-at s n
+    ∙ ap (λ (l : List Bool). getD (generalOn (factsOf s) ++ l) n true)
+    (guards-on s special ∙ ap (map (λ (b : Bool). budget s ⇒ b)) (sym (special-on s)) ∙ ap (λ (c : Bool). map (λ (b : Bool). c ⇒ b) (specialOn (factsOf s))) (budget-on s))
+
+ordinary-keeps : (s : Sheet) (n : ℕ) → budget s ≡ false → keeps s n ≡ getD (generalOn (factsOf s)) n true
+ordinary-keeps s n b = rules-at s n ∙ beyond (generalOn (factsOf s)) (testsOf s (map forBudget special)) n (λ m. guard-off s special m b)
+
+-- the class
 pub class-on : (s : Sheet) → classOn (factsOf s) ≡ classOf s
 unfolding classOn classOf factsOf headOf accountOf slotOf _⟨_⟩
 class-on s = refl
@@ -218,6 +198,14 @@ pub ordinary-on : (s : Sheet) → ordinary (factsOf s) ≡ not (budget s)
 unfolding factsOf headOf accountOf slotOf _⟨_⟩
 ordinary-on s = refl
 
-pub general-on : (s : Sheet) → firstFailed (factsOf s) generalOrder ≡ firstBroken s generalOrder
-unfolding firstNot keeps rules testOf holds factsOf headOf generalOf accountOf standingOf slotOf _⟨_⟩
-general-on s = refl
+-- a rule is kept by a sheet where it is kept by the outcomes that count
+pub judged-keeps : (s : Sheet) (n : ℕ) → keeps s n ≡ kept (judgedOn (factsOf s)) n
+unfolding kept judgedOn holds
+judged-keeps s n = go (budget s) refl ∙ ap counting (sym (ordinary-on s))
+  where
+    counting : Bool → Bool
+    counting o = getD (cond o (generalOn (factsOf s)) (outcomesOn (factsOf s))) n true
+
+    go : (b : Bool) → budget s ≡ b → keeps s n ≡ counting (not b)
+    go true b = budget-keeps s n b
+    go false b = ordinary-keeps s n b

@@ -1,11 +1,10 @@
--- The rules' tests on facts, and the order of testing in parts. A reader of the promise needs none of this; proofs/On.antt shows
+-- The rules' tests on facts, and the rules in groups. A reader of the promise needs none of this; proofs/On.antt shows
 -- that the tests on facts are the rules. Assumes nothing.
-use mathlib.Core.Bool.{Bool, true, false, not, cond, _&&_, _||_}
+use mathlib.Core.Bool.{Bool, true, not, cond, _&&_, _||_}
 use mathlib.Core.List.{List, [], _∷_, _++_}
-use Prim.Native.Nat.{ℕ, suc}
-use lib.Dec.{eqb}
+use Prim.Native.Nat.{ℕ}
+use lib.ListN.{getD}
 use Rattle.sheets.specs.Forms.{_⇒_}
-use Rattle.rules.specs.Rules.{firstNot}
 use Rattle.rules.specs.declared.Class.{Class}
 use Rattle.rules.specs.declared.Class.the-variants.{A, B, O}
 use Rattle.sheets.specs.declared.forms.Wanted.{Wanted}
@@ -135,63 +134,30 @@ on33 f = f .basis .zeros ⇒ f .document .zeros
 abbrev pub on34 : Facts → Bool
 on34 f = (f .day .zeros ⇒ f .basis .zeros) && (f .basis .zeros ⇒ f .day .zeros)
 
--- each rule's number and test
-abbrev pub generalOn : List (ℕ × (Facts → Bool))
-generalOn = (1, on1) ∷ (2, on2) ∷ (3, on3) ∷ (4, on4) ∷ []
+-- the outcomes by the rules' numbers, from 0 on, which is no rule's: of the rules for every sheet, and of all
+abbrev pub generalOn : Facts → List Bool
+generalOn f = true ∷ on1 f ∷ on2 f ∷ on3 f ∷ on4 f ∷ []
 
-abbrev pub specialOn : List (ℕ × (Facts → Bool))
-specialOn =
-    (5, on5) ∷ (6, on6) ∷ (7, on7) ∷ (8, on8) ∷ (9, on9) ∷ (10, on10) ∷ (11, on11) ∷ (12, on12) ∷ (13, on13) ∷ (14, on14) ∷ (15, on15)
-    ∷ (16, on16) ∷ (17, on17) ∷ (18, on18) ∷ (19, on19) ∷ (20, on20) ∷ (21, on21) ∷ (22, on22) ∷ (23, on23) ∷ (24, on24) ∷ (25, on25)
-    ∷ (26, on26) ∷ (27, on27) ∷ (28, on28) ∷ (29, on29) ∷ (30, on30) ∷ (31, on31) ∷ (32, on32) ∷ (33, on33) ∷ (34, on34) ∷ []
+abbrev pub specialOn : Facts → List Bool
+specialOn f =
+    on5 f ∷ on6 f ∷ on7 f ∷ on8 f ∷ on9 f ∷ on10 f ∷ on11 f ∷ on12 f ∷ on13 f ∷ on14 f ∷ on15 f ∷ on16 f ∷ on17 f ∷ on18 f ∷ on19 f
+    ∷ on20 f ∷ on21 f ∷ on22 f ∷ on23 f ∷ on24 f ∷ on25 f ∷ on26 f ∷ on27 f ∷ on28 f ∷ on29 f ∷ on30 f ∷ on31 f ∷ on32 f ∷ on33 f
+    ∷ on34 f ∷ []
 
-abbrev pub look : List (ℕ × (Facts → Bool)) → ℕ → Facts → Bool
-look [] n f = true
-look (r ∷ rs) n f = cond (eqb n (r .0)) (r .1 f) (look rs n f)
+abbrev pub outcomesOn : Facts → List Bool
+outcomesOn f = generalOn f ++ specialOn f
+
+-- those that count: the rest is for classes A and B
+unfoldable pub judgedOn : Facts → List Bool
+judgedOn f = cond (ordinary f) (generalOn f) (outcomesOn f)
+
+-- the rule with a number is kept, by its outcome; one without an outcome is
+unfoldable pub kept : List Bool → ℕ → Bool
+kept os n = getD os n true
 
 unfoldable pub holds : Facts → ℕ → Bool
-holds f n = look (generalOn ++ specialOn) n f
+holds f n = getD (outcomesOn f) n true
 
--- the first broken one of some rules, 0 where none is
-abbrev pub firstFailed : Facts → List ℕ → ℕ
-firstFailed f ns = firstNot (holds f) ns
-
--- the place of the first that is false, the length where none is
-unfoldable pub firstFalse : List Bool → ℕ
-firstFalse [] = 0
-firstFalse (b ∷ bs) = cond b (suc (firstFalse bs)) 0
-
--- the order of testing in two parts: for every sheet, and for classes A and B
-abbrev pub generalOrder : List ℕ
-generalOrder = 1 ∷ 2 ∷ 3 ∷ 4 ∷ []
-
-abbrev pub firstTen : List ℕ
-firstTen = 5 ∷ 6 ∷ 7 ∷ 8 ∷ 9 ∷ 10 ∷ 11 ∷ 12 ∷ 13 ∷ 14 ∷ []
-
-abbrev pub secondTen : List ℕ
-secondTen = 15 ∷ 16 ∷ 17 ∷ 18 ∷ 19 ∷ 20 ∷ 21 ∷ 22 ∷ 23 ∷ 24 ∷ []
-
-abbrev pub lastTen : List ℕ
-lastTen = 25 ∷ 26 ∷ 27 ∷ 28 ∷ 29 ∷ 30 ∷ 31 ∷ 32 ∷ 33 ∷ 34 ∷ []
-
-abbrev pub specialOrder : List ℕ
-specialOrder = firstTen ++ (secondTen ++ lastTen)
-
--- the second part by what a rule asks: nothing of 101, 106, 108, 109; of 101 at last; of 106; of 108; of 109
-abbrev pub fixedRules : List ℕ
-fixedRules = 5 ∷ 7 ∷ 8 ∷ 9 ∷ 11 ∷ 12 ∷ 13 ∷ 14 ∷ 16 ∷ 22 ∷ 28 ∷ []
-
-abbrev pub statusRules : List ℕ
-statusRules = 10 ∷ 19 ∷ 20 ∷ 21 ∷ 23 ∷ 24 ∷ 27 ∷ 30 ∷ []
-
-abbrev pub basisRules : List ℕ
-basisRules = 15 ∷ 29 ∷ []
-
-abbrev pub documentRules : List ℕ
-documentRules = 17 ∷ 25 ∷ 26 ∷ 32 ∷ 33 ∷ []
-
-abbrev pub dayRules : List ℕ
-dayRules = 6 ∷ 18 ∷ 31 ∷ 34 ∷ []
-
-abbrev pub grouped : List ℕ
-grouped = fixedRules ++ (statusRules ++ (basisRules ++ (documentRules ++ dayRules)))
+unfoldable pub allTrue : List Bool → Bool
+allTrue [] = true
+allTrue (b ∷ bs) = b && allTrue bs

@@ -1,11 +1,13 @@
 // The rules of budget payment orders, over sheets (document 01, "Rules").
 ghost use mathlib.Core.Path.{_≡_};
-ghost use mathlib.Core.List.{map};
-ghost use lib.ListN.{getD};
+ghost use mathlib.Core.List.{[], _∷_, map};
 ghost use Rattle.texts.specs.Texts.{every};
-ghost use Rattle.rules.specs.Rules.{firstBlank, needed, rules, fieldOf};
-ghost use Rattle.sheets.specs.Sheet.{given};
-ghost use Rattle.rules.specs.Tests.{classOn, holds, firstFalse, firstFailed, generalOrder, firstTen, secondTen, lastTen, specialOrder, fixedRules, statusRules, basisRules, documentRules, dayRules};
+ghost use Rattle.rules.specs.Rules.{budget, keeps, order, firstNot, firstBroken, firstBlank, needed, rules, fieldOf};
+ghost use mathlib.Core.Bool.{true};
+ghost use Rattle.sheets.specs.Sheet.{Sheet, given};
+ghost use Rattle.sheets.specs.Facts.{Read};
+ghost use Rattle.rules.specs.Tests.{classOn, holds, kept, allTrue, generalOn, outcomesOn, judgedOn};
+ghost use Rattle.rules.specs.Groups.{fixedRules, statusRules, basisRules, documentRules, dayRules};
 ghost use Rattle.rules.specs.Verdicts.{Checked};
 
 pub mod tests;
@@ -35,14 +37,43 @@ pub enum Verdict {
     Accepted(Class),
 }
 
-// "Tested in number order": the rules for every sheet, then those for classes A and B, ten at a time.
-const GENERAL: [u8; 4] = [1, 2, 3, 4];
-
-const FIRST_TEN: [u8; 10] = [5, 6, 7, 8, 9, 10, 11, 12, 13, 14];
-
-const SECOND_TEN: [u8; 10] = [15, 16, 17, 18, 19, 20, 21, 22, 23, 24];
-
-const LAST_TEN: [u8; 10] = [25, 26, 27, 28, 29, 30, 31, 32, 33, 34];
+// "Tested in number order".
+const ORDER: [u8; 34] = [
+    1,
+    2,
+    3,
+    4,
+    5,
+    6,
+    7,
+    8,
+    9,
+    10,
+    11,
+    12,
+    13,
+    14,
+    15,
+    16,
+    17,
+    18,
+    19,
+    20,
+    21,
+    22,
+    23,
+    24,
+    25,
+    26,
+    27,
+    28,
+    29,
+    30,
+    31,
+    32,
+    33,
+    34,
+];
 
 // "The field in brackets", by the rule's number; rule 6 names the first blank one.
 const RULE_FIELDS: [u8; 35] = [
@@ -85,80 +116,51 @@ const RULE_FIELDS: [u8; 35] = [
 
 const NEEDED: [u8; 12] = [3, 4, 5, 6, 7, 8, 9, 10, 11, 12, 13, 14];
 
-// The place of the first that is false, the length where none is.
-fn first_false(outcomes: &[bool]) -> usize
-    ensures { λ r. ⌜ r ≡ firstFalse (now (outcomes .entry)) ⌝ }
+// Whether a rule is kept, by the outcomes of rules at their numbers; one past the end is.
+fn is_kept(outcomes: &[bool], n: u8) -> bool
+    ensures { λ r. ⌜ r ≡ kept (now (outcomes .entry)) n ⌝ }
+{
+    let k = wide(n);
+    if k < outcomes.len() {
+        outcomes[k]
+    } else {
+        true
+    }
+}
+
+// The first broken one of some rules, 0 where none is broken.
+fn first_broken(outcomes: &[bool], order: &[u8]) -> Rule
+    ensures { λ r. ⌜ r .0 ≡ firstNot (kept (now (outcomes .entry))) (now (order .entry)) ⌝ }
 {
     let mut i = 0;
-    while i < outcomes.len() {
-        if !outcomes[i] {
-            return i;
+    while i < order.len() {
+        let n = order[i];
+        if !is_kept(outcomes, n) {
+            return Rule(n);
         }
         i += 1;
     }
-    i
+    Rule(0)
 }
 
-// The first broken one of some rules, by whether each is kept; 0 where none is broken.
-pub fn first_broken(outcomes: &[bool], order: &[u8]) -> Rule
-    ensures { λ r. ⌜ r .0 ≡ getD (now (order .entry)) (firstFalse (now (outcomes .entry))) 0 ⌝ }
+fn all_true(outcomes: &[bool]) -> bool
+    ensures { λ r. ⌜ r ≡ allTrue (now (outcomes .entry)) ⌝ }
 {
-    Rule(at(order, first_false(outcomes)))
+    let mut all = true;
+    let mut i = 0;
+    while i < outcomes.len() {
+        all = all & outcomes[i];
+        i += 1;
+    }
+    all
 }
 
-// Of the rules for classes A and B: those that ask nothing of 101, 106, 108 and 109; then, each with what the ones before
-// it ask too, those of 101, of 106, of 108 and of 109.
-pub fn kept_fixed(f: Facts) -> bool
-    ensures { λ r. ⌜ r ≡ every (holds f) fixedRules ⌝ }
-{
-    tests::keeps5(f)
-        & (tests::keeps7(f)
-            & (tests::keeps8(f)
-                & (tests::keeps9(f)
-                    & (tests::keeps11(f)
-                        & (tests::keeps12(f)
-                            & (tests::keeps13(f)
-                                & (tests::keeps14(f)
-                                    & (tests::keeps16(f)
-                                        & (tests::keeps22(f) & (tests::keeps28(f) & true))))))))))
-}
-
-pub fn kept_status(f: Facts) -> bool
-    ensures { λ r. ⌜ r ≡ every (holds f) statusRules ⌝ }
-{
-    tests::keeps10(f)
-        & (tests::keeps19(f)
-            & (tests::keeps20(f)
-                & (tests::keeps21(f)
-                    & (tests::keeps23(f)
-                        & (tests::keeps24(f) & (tests::keeps27(f) & (tests::keeps30(f) & true)))))))
-}
-
-pub fn kept_basis(f: Facts) -> bool
-    ensures { λ r. ⌜ r ≡ every (holds f) basisRules ⌝ }
-{
-    tests::keeps15(f) & (tests::keeps29(f) & true)
-}
-
-pub fn kept_document(f: Facts) -> bool
-    ensures { λ r. ⌜ r ≡ every (holds f) documentRules ⌝ }
-{
-    tests::keeps17(f)
-        & (tests::keeps25(f)
-            & (tests::keeps26(f) & (tests::keeps32(f) & (tests::keeps33(f) & true))))
-}
-
-pub fn kept_day(f: Facts) -> bool
-    ensures { λ r. ⌜ r ≡ every (holds f) dayRules ⌝ }
-{
-    tests::keeps6(f) & (tests::keeps18(f) & (tests::keeps31(f) & (tests::keeps34(f) & true)))
-}
-
-// Whether each is kept, in the order of the list.
-fn general_outcomes(f: Facts) -> [bool; 4]
-    ensures { λ r. ⌜ r ≡ map (holds f) generalOrder ⌝ }
+// The outcomes of the rules for every sheet, at their numbers.
+fn general_outcomes(f: Facts) -> [bool; 5]
+    ensures { λ r. ⌜ r ≡ generalOn f ⌝ }
 {
     [
+        true,
         tests::keeps1(f),
         tests::keeps2(f),
         tests::keeps3(f),
@@ -166,75 +168,174 @@ fn general_outcomes(f: Facts) -> [bool; 4]
     ]
 }
 
-fn first_outcomes(f: Facts) -> [bool; 10]
-    ensures { λ r. ⌜ r ≡ map (holds f) firstTen ⌝ }
+// "In completion only 1 to 3".
+const BASIC: [u8; 3] = [1, 2, 3];
+
+// What a crate above asks of a sheet's facts, in words of the sheet: the first broken one of some rules for every sheet, and whether
+// it is a budget payment.
+pub fn broken_basic(f: Facts) -> Rule
+    ensures { λ r. ⌜ ((s : Sheet) → Read f s → r .0 ≡ firstBroken s (1 ∷ 2 ∷ 3 ∷ [])) ⌝ }
+{
+    first_broken(&general_outcomes(f), &BASIC)
+}
+
+pub fn is_budget(f: Facts) -> bool
+    ensures { λ r. ⌜ ((s : Sheet) → Read f s → r ≡ budget s) ⌝ }
+{
+    f.head.account.a | f.head.account.b
+}
+
+// The rules for classes A and B in groups: those that ask nothing of 101, 106, 108 and 109; then, each with what the ones before
+// it ask too, those of 101, of 106, of 108 and of 109.
+fn fixed_outcomes(f: Facts) -> [bool; 11]
+    ensures { λ r. ⌜ r ≡ map (holds f) fixedRules ⌝ }
 {
     [
         tests::keeps5(f),
-        tests::keeps6(f),
         tests::keeps7(f),
         tests::keeps8(f),
         tests::keeps9(f),
-        tests::keeps10(f),
         tests::keeps11(f),
         tests::keeps12(f),
         tests::keeps13(f),
         tests::keeps14(f),
+        tests::keeps16(f),
+        tests::keeps22(f),
+        tests::keeps28(f),
     ]
 }
 
-fn second_outcomes(f: Facts) -> [bool; 10]
-    ensures { λ r. ⌜ r ≡ map (holds f) secondTen ⌝ }
+fn status_outcomes(f: Facts) -> [bool; 8]
+    ensures { λ r. ⌜ r ≡ map (holds f) statusRules ⌝ }
 {
     [
-        tests::keeps15(f),
-        tests::keeps16(f),
-        tests::keeps17(f),
-        tests::keeps18(f),
+        tests::keeps10(f),
         tests::keeps19(f),
         tests::keeps20(f),
         tests::keeps21(f),
-        tests::keeps22(f),
         tests::keeps23(f),
         tests::keeps24(f),
+        tests::keeps27(f),
+        tests::keeps30(f),
     ]
 }
 
-fn last_outcomes(f: Facts) -> [bool; 10]
-    ensures { λ r. ⌜ r ≡ map (holds f) lastTen ⌝ }
+fn basis_outcomes(f: Facts) -> [bool; 2]
+    ensures { λ r. ⌜ r ≡ map (holds f) basisRules ⌝ }
+{
+    [tests::keeps15(f), tests::keeps29(f)]
+}
+
+fn document_outcomes(f: Facts) -> [bool; 5]
+    ensures { λ r. ⌜ r ≡ map (holds f) documentRules ⌝ }
 {
     [
+        tests::keeps17(f),
         tests::keeps25(f),
         tests::keeps26(f),
-        tests::keeps27(f),
-        tests::keeps28(f),
-        tests::keeps29(f),
-        tests::keeps30(f),
-        tests::keeps31(f),
         tests::keeps32(f),
         tests::keeps33(f),
+    ]
+}
+
+fn day_outcomes(f: Facts) -> [bool; 4]
+    ensures { λ r. ⌜ r ≡ map (holds f) dayRules ⌝ }
+{
+    [
+        tests::keeps6(f),
+        tests::keeps18(f),
+        tests::keeps31(f),
         tests::keeps34(f),
     ]
 }
 
-fn broken_general(f: Facts) -> Rule
-    ensures { λ r. ⌜ r .0 ≡ firstFailed f generalOrder ⌝ }
+// Each group, as completion tests it.
+pub fn kept_fixed(f: Facts) -> bool
+    ensures { λ r. ⌜ ((s : Sheet) → Read f s → budget s ≡ true → r ≡ every (keeps s) fixedRules) ⌝ }
 {
-    first_broken(&general_outcomes(f), &GENERAL)
+    all_true(&fixed_outcomes(f))
 }
 
-fn broken_special(f: Facts) -> Rule
-    ensures { λ r. ⌜ r .0 ≡ firstFailed f specialOrder ⌝ }
+pub fn kept_status(f: Facts) -> bool
+    ensures { λ r. ⌜ ((s : Sheet) → Read f s → budget s ≡ true → r ≡ every (keeps s) statusRules) ⌝ }
 {
-    let first = first_broken(&first_outcomes(f), &FIRST_TEN);
-    if first.0 != 0 {
-        return first;
+    all_true(&status_outcomes(f))
+}
+
+pub fn kept_basis(f: Facts) -> bool
+    ensures { λ r. ⌜ ((s : Sheet) → Read f s → budget s ≡ true → r ≡ every (keeps s) basisRules) ⌝ }
+{
+    all_true(&basis_outcomes(f))
+}
+
+pub fn kept_document(f: Facts) -> bool
+    ensures { λ r. ⌜ ((s : Sheet) → Read f s → budget s ≡ true → r ≡ every (keeps s) documentRules) ⌝ }
+{
+    all_true(&document_outcomes(f))
+}
+
+pub fn kept_day(f: Facts) -> bool
+    ensures { λ r. ⌜ ((s : Sheet) → Read f s → budget s ≡ true → r ≡ every (keeps s) dayRules) ⌝ }
+{
+    all_true(&day_outcomes(f))
+}
+
+// Those of all rules, at their numbers.
+fn outcomes(f: Facts) -> [bool; 35]
+    ensures { λ r. ⌜ r ≡ outcomesOn f ⌝ }
+{
+    let general = general_outcomes(f);
+    let fixed = fixed_outcomes(f);
+    let status = status_outcomes(f);
+    let basis = basis_outcomes(f);
+    let document = document_outcomes(f);
+    let day = day_outcomes(f);
+    [
+        true,
+        general[1],
+        general[2],
+        general[3],
+        general[4],
+        fixed[0],
+        day[0],
+        fixed[1],
+        fixed[2],
+        fixed[3],
+        status[0],
+        fixed[4],
+        fixed[5],
+        fixed[6],
+        fixed[7],
+        basis[0],
+        fixed[8],
+        document[0],
+        day[1],
+        status[1],
+        status[2],
+        status[3],
+        fixed[9],
+        status[4],
+        status[5],
+        document[1],
+        document[2],
+        status[6],
+        fixed[10],
+        basis[1],
+        status[7],
+        day[2],
+        document[3],
+        document[4],
+        day[3],
+    ]
+}
+
+fn broken(f: Facts) -> Rule
+    ensures { λ r. ⌜ r .0 ≡ firstNot (kept (judgedOn f)) order ⌝ }
+{
+    if tests::is_ordinary(f) {
+        return first_broken(&general_outcomes(f), &ORDER);
     }
-    let second = first_broken(&second_outcomes(f), &SECOND_TEN);
-    if second.0 != 0 {
-        return second;
-    }
-    first_broken(&last_outcomes(f), &LAST_TEN)
+    first_broken(&outcomes(f), &ORDER)
 }
 
 fn class_of(f: Facts) -> Class
@@ -283,14 +384,7 @@ pub fn check(sheet: &[u8]) -> Verdict
         return Verdict::Malformed;
     }
     let f = facts_of(sheet);
-    let g = broken_general(f);
-    if g.0 != 0 {
-        return Verdict::Broken(field_of(g, sheet), g);
-    }
-    if tests::is_ordinary(f) {
-        return Verdict::Accepted(Class::O);
-    }
-    let b = broken_special(f);
+    let b = broken(f);
     if b.0 != 0 {
         return Verdict::Broken(field_of(b, sheet), b);
     }

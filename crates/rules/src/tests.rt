@@ -5,7 +5,7 @@ use sheets::facts::Facts;
 use sheets::facts::Payer;
 use sheets::forms::Wanted;
 
-pub fn is_ordinary(f: Facts) -> bool
+pub(crate) fn is_ordinary(f: Facts) -> bool
     ensures { λ r. ⌜ r ≡ ordinary f ⌝ }
 {
     !(f.head.account.a | f.head.account.b)
@@ -23,19 +23,19 @@ fn is_suited(w: Wanted, p: Payer) -> bool
     }
 }
 
-pub fn keeps1(f: Facts) -> bool
+pub(crate) fn keeps1(f: Facts) -> bool
     ensures { λ r. ⌜ r ≡ on1 f ⌝ }
 {
     f.head.general.bik
 }
 
-pub fn keeps2(f: Facts) -> bool
+pub(crate) fn keeps2(f: Facts) -> bool
     ensures { λ r. ⌜ r ≡ on2 f ⌝ }
 {
     f.head.general.bank
 }
 
-pub fn keeps3(f: Facts) -> bool
+pub(crate) fn keeps3(f: Facts) -> bool
     ensures { λ r. ⌜ r ≡ on3 f ⌝ }
 {
     f.head.general.account

@@ -14,7 +14,7 @@ use Rattle.texts.specs.Texts.{any, are, among, between, same, digits, number, _
 use Rattle.texts.proofs.Arms.{AnyOf, arm, outside}
 use Rattle.sheets.specs.Sheet.{textOf}
 use Rattle.sheets.specs.Forms.{foreignCode, inn10, inn12, person, leap, monthDays, gregorian, date}
-use Rattle.sheets.specs.Facts.{payerOf, isA, isB, accountOf, groupsBy, standingOf, wantedBy, basisOf, documentOf, dayOf, headOf, sidesOf, restOf, factsOf, noFacts, factsIn}
+use Rattle.sheets.specs.Facts.{payerOf, isA, isB, accountOf, groupsBy, standingOf, wantedBy, basisOf, documentOf, dayOf, headOf, sidesOf, restOf, factsOf, Read}
 use Rattle.sheets.specs.declared.forms.Wanted.{Wanted}
 use Rattle.sheets.specs.declared.forms.Wanted.the-variants.{Any, Inn, Ten, Twelve, Zero}
 use Rattle.sheets.specs.declared.facts.Groups.{Groups}
@@ -111,26 +111,20 @@ account-is bik bank account u v w x z m n o a b h f e1 e2 e3 e4 e5 e6 e7 e8 e9 e
     cc (a-is bank account, b-is bik account (between account 13 14 is "4"), to03100-is account, to03212-is account)
 
 -- facts_of
-pub facts-sized : (s : List ℕ) → length s ≡ 390 → factsIn s ≡ factsOf s
-unfolding factsIn
-facts-sized s l = simp (eq-eqb (length s) 390 l)
-
-pub facts-other : (s : List ℕ) (r : Facts) → (length s ≡ 390 → ⊥) → r ≡ noFacts → r ≡ factsIn s
-unfolding factsIn
-facts-other s r l e = simp (ne-eqb (length s) 390 l) e
+pub facts-other : (s : List ℕ) (r : Facts) → (length s ≡ 390 → ⊥) → length s ≡ 390 → Read r s
+facts-other s r l e = absurd (l e)
 
 pub facts-is : (s : List ℕ) (h : Head) (d : Sides) (r : Rest) (a : Standing) (b : Basis) (c : Document) (y : Day) (t u v w : Text)
     → h ≡ headOf s → d ≡ sidesOf s → r ≡ restOf s → t ≡ textOf s 6 → a ≡ standingOf t → u ≡ textOf s 11 → b ≡ basisOf u
     → v ≡ textOf s 13 → c ≡ documentOf v → w ≡ textOf s 14 → y ≡ dayOf w
-    → length s ≡ 390 → record { head = h; sides = d; rest = r; status = a; basis = b; document = c; day = y } ≡ factsIn s
+    → length s ≡ 390 → Read (record { head = h; sides = d; rest = r; status = a; basis = b; document = c; day = y }) s
 unfolding factsOf
 facts-is s h d r a b c y t u v w eh ed er et ea eu eb ev ec ew ey l =
     let fa : a ≡ standingOf (textOf s 6) = ea ∙ ap standingOf et in
     let fb : b ≡ basisOf (textOf s 11) = eb ∙ ap basisOf eu in
     let fc : c ≡ documentOf (textOf s 13) = ec ∙ ap documentOf ev in
     let fy : y ≡ dayOf (textOf s 14) = ey ∙ ap dayOf ew in
-    (λ i. record { head = eh i; sides = ed i; rest = er i; status = fa i; basis = fb i; document = fc i; day = fy i })
-    ∙ sym (facts-sized s l)
+    record { size = l; facts = λ i. record { head = eh i; sides = ed i; rest = er i; status = fa i; basis = fb i; document = fc i; day = fy i } }
 
 -- payer_of
 pub payer-is : (t : Text) (a b c d e f g : Bool) → a ≡ (t is "0") → b ≡ foreignCode t → c ≡ inn10 t → d ≡ inn12 t → e ≡ digits 5 t → f ≡ digits 10 t → g ≡ digits 12 t

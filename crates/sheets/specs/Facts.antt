@@ -1,6 +1,7 @@
 -- What the rules ask of a sheet, found once: each field's text is read into facts, and a rule is a test of facts. A reader
 -- of the promise needs none of this; proofs/On.antt shows that the tests on facts are the rules. Assumes nothing.
-use mathlib.Core.Bool.{Bool, false, cond, _&&_, _||_}
+use mathlib.Core.Path.{_≡_}
+use mathlib.Core.Bool.{Bool, cond, _&&_, _||_}
 use mathlib.Core.List.{List, [], _∷_}
 use Prim.Native.Nat.{ℕ}
 use lib.Dec.{eqb}
@@ -163,42 +164,7 @@ factsOf s =
       day = dayOf (textOf s 14);
     }
 
--- what the code answers of a sheet that has another size: nothing holds. The test of the size tells the compiler where every field
--- stands; no promise depends on these facts.
-unfoldable pub noFacts : Facts
-noFacts =
-    record {
-      head =
-          record {
-            general = record { bik = false; bank = false; account = false };
-            account = record { a = false; b = false; home = false; to03100 = false; to03212 = false };
-            given = false;
-          };
-      sides =
-          record {
-            code = record { zero = false; uin = false; four = false };
-            payer = record { zero = false; foreign = false; inn10 = false; inn12 = false; five = false; ten = false; twelve = false };
-            payee = false;
-            kpp = record { zero = false; full = false };
-            payeekpp = false;
-          };
-      rest =
-          record {
-            kbk = record { zero = false; full = false };
-            oktmo = record { zero = false; full = false };
-            office = record { zero = false; full = false };
-          };
-      status =
-          record {
-            blank = false;
-            listed = false;
-            groups = record { customs = false; treasury = false; courts = false; personal = false; is01 = false; is13 = false; is31 = false };
-            wanted = Any;
-          };
-      basis = record { blank = false; zero = false; zeros = false; letters = false };
-      document = record { blank = false; fit = false; person = false; zero = false; zeros = false };
-      day = record { blank = false; zero = false; zeros = false; date = false };
-    }
-
-unfoldable pub factsIn : Sheet → Facts
-factsIn s = cond (eqb (length s) sheetSize) (factsOf s) noFacts
+-- f is what was read of the sheet s. A crate above sees facts by this alone.
+pub record Read (f : Facts) (s : Sheet) : Type 0 where
+  pub size : length s ≡ sheetSize
+  pub facts : f ≡ factsOf s

@@ -1,9 +1,10 @@
 // What the rules ask of a sheet, found once: each field's text is read into a few facts, and a rule is a test of facts.
 ghost use mathlib.Core.Path.{_≡_};
+ghost use lib.ListN.{length};
 ghost use Rattle.texts.specs.Texts.{every, digits, digitsNotZero};
 ghost use Rattle.sheets.specs.Forms.{kpp};
 ghost use Rattle.sheets.specs.Sheet.{given};
-ghost use Rattle.sheets.specs.Facts.{generalOf, isA, isB, accountOf, codeOf, payerOf, formOf, groupsBy, standingOf, basisOf, documentOf, dayOf, fixed, headOf, sidesOf, restOf, noFacts, factsIn};
+ghost use Rattle.sheets.specs.Facts.{generalOf, isA, isB, accountOf, codeOf, payerOf, formOf, groupsBy, standingOf, basisOf, documentOf, dayOf, fixed, headOf, sidesOf, restOf, Read};
 use crate::forms::Status;
 use crate::forms::Wanted;
 use crate::forms::is_date;
@@ -420,10 +421,8 @@ fn rest_of(sheet: &[u8]) -> Rest
     }
 }
 
-// Nothing holds, of a sheet that has another size.
-fn no_facts() -> Facts
-    ensures { λ r. ⌜ r ≡ noFacts ⌝ }
-{
+// Nothing holds, of a sheet that has another size: nothing is promised of these facts.
+fn no_facts() -> Facts {
     Facts {
         head: Head {
             general: General {
@@ -514,7 +513,7 @@ fn no_facts() -> Facts
 
 // The test of the size tells the compiler where every field stands.
 pub fn facts_of(sheet: &[u8]) -> Facts
-    ensures { λ r. ⌜ r ≡ factsIn (now (sheet .entry)) ⌝ }
+    ensures { λ r. ⌜ (length (now (sheet .entry)) ≡ 390 → Read r (now (sheet .entry))) ⌝ }
 {
     if sheet.len() != SHEET_SIZE {
         return no_facts();

@@ -1,9 +1,0 @@
-use borrow.Author.Needs.{needs}
-use mathlib.Core.Path.{refl}
-use Rattle.orders.specs.Rows.{basisRows}
-use Rattle.orders.proofs.Entries.{past-row, row-is}
-use Rattle.orders.proofs.search.basis_row.Statement.{statement}
-use Rattle.orders.proofs.search.basis_row.Tie as tie
-
-pub basis-row-spec : {M : Type 1} → statement M
-basis-row-spec = tie.close (tie.spec (λ c. past-row basisRows 12 _ refl (c .if1 .taken)) (λ c. search needs) (λ c. search needs) (λ c. row-is basisRows 12 (c .before .before .args .k) refl (c .before .if1 .left)))

@@ -1,7 +1,0 @@
-use borrow.Author.Needs.{needs}
-use Rattle.orders.proofs.Entries.{day-listed, day-given}
-use Rattle.orders.proofs.search.day_at.Statement.{statement}
-use Rattle.orders.proofs.search.day_at.Tie as tie
-
-pub day-at-spec : {M : Type 1} → statement M
-day-at-spec = tie.close (tie.spec (λ c κs. search needs) (λ c. search (needs, day-listed)) (λ c. search (needs, day-given)))

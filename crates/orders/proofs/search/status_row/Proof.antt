@@ -1,9 +1,0 @@
-use borrow.Author.Needs.{needs}
-use mathlib.Core.Path.{refl}
-use Rattle.orders.specs.Rows.{statusRows}
-use Rattle.orders.proofs.Entries.{past-row, row-is}
-use Rattle.orders.proofs.search.status_row.Statement.{statement}
-use Rattle.orders.proofs.search.status_row.Tie as tie
-
-pub status-row-spec : {M : Type 1} → statement M
-status-row-spec = tie.close (tie.spec (λ c. past-row statusRows 22 _ refl (c .if1 .taken)) (λ c. search needs) (λ c. search needs) (λ c. row-is statusRows 22 (c .before .before .args .k) refl (c .before .if1 .left)))

@@ -1,9 +1,0 @@
-use borrow.Author.Needs.{needs}
-use mathlib.Core.Path.{refl}
-use Rattle.orders.specs.Rows.{zeroRows}
-use Rattle.orders.proofs.Entries.{past-row, row-is}
-use Rattle.orders.proofs.search.zero_row.Statement.{statement}
-use Rattle.orders.proofs.search.zero_row.Tie as tie
-
-pub zero-row-spec : {M : Type 1} → statement M
-zero-row-spec = tie.close (tie.spec (λ c. past-row zeroRows 2 _ refl (c .if1 .taken)) (λ c. search needs) (λ c. search needs) (λ c. row-is zeroRows 2 (c .before .before .args .k) refl (c .before .if1 .left)))
