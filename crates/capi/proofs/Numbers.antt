@@ -9,9 +9,8 @@ use lib.ListN.{length, take, drop}
 use lib.Seq.{take-all}
 use Rattle.texts.specs.Texts.{between, same}
 use Rattle.texts.specs.Answers.{Answer, success, refusal, numberOf, Test, test, answerBy}
-use Rattle.sheets.specs.Sheet.{wellFormed}
-use Rattle.rules.specs.Rules.{classOf, firstBroken, order}
-use Rattle.rules.specs.Verdicts.{className, verdictAnswer, judged, checked, Checked}
+use Rattle.rules.specs.Rules.{classOf}
+use Rattle.rules.specs.Verdicts.{className, verdictAnswer, checkTests, checked, Checked}
 use Rattle.rules.specs.declared.Class.{Class}
 use Rattle.rules.specs.declared.Class.the-variants.{A, B, O}
 use Rattle.rules.specs.declared.Verdict.{Verdict}
@@ -91,10 +90,8 @@ class-back B = refl
 class-back O = refl
 
 check-back : (s : List ℕ) → Back checkNumbers checkOf (checked s)
-unfolding checked judged checkNumbers checkOf numbered
-check-back s =
-    let P = Back checkNumbers checkOf in
-    pick P (wellFormed s) (pick P (eqb (firstBroken s order) 0) (class-back (classOf s)) refl) refl
+unfolding checked checkTests checkNumbers checkOf numbered
+check-back s = tested (Back checkNumbers checkOf) (checkTests s) _ (class-back (classOf s)) (search depth 12)
 
 complete-back : (d b : List ℕ) → Back completeNumbers completeOf (completing d b)
 unfolding completing completeTests sheetTests completeNumbers completeOf numbered

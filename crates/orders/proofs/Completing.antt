@@ -47,7 +47,6 @@ none-cases : (l : Look (List ℕ)) (n : ℕ) → Nothing n ≡ foundOf l → l �
 none-cases (found m q) n e = let z : _≡_ {A = ℕ} 0 1 = cc in absurd (omega arith)
 none-cases (none m) n e = let a : n ≡ m = cc in ap none (sym a)
 
-
 copied-is : (d z : List ℕ) → draftFormed d ≡ true → length z ≡ 390 → copiedTo d z ≡ sheetOf d
 unfolding copiedTo copyTests
 copied-is d z f l = simp (f, eq-eqb (length z) 390 l)

@@ -18,7 +18,7 @@ use Rattle.sheets.specs.Facts.{factsOf, Read}
 use Rattle.rules.specs.Tests.{ordinary, classOn, kept, holds, allTrue, generalOn, specialOn, outcomesOn, judgedOn}
 use Rattle.rules.specs.Groups.{fixedRules, statusRules, basisRules, documentRules, dayRules, grouped}
 use Rattle.sheets.specs.Forms.{_⇒_}
-use Rattle.rules.specs.Verdicts.{verdictAnswer, judged, checked, Checked}
+use Rattle.rules.specs.Verdicts.{verdictAnswer, checkTests, checked, Checked}
 use Rattle.rules.specs.declared.Class.{Class}
 use Rattle.rules.specs.declared.Class.the-variants.{A, B, O}
 use Rattle.rules.specs.declared.Rule.{Rule as RuleNumber}
@@ -204,17 +204,21 @@ module _ (s : Sheet) where
       go false false e = refl
 
   pub check-malformed : (w : Bool) → w ≡ wellFormed s → not w ≡ true → Checked s Malformed
-  unfolding checked verdictAnswer
-  check-malformed w e n = checked-by s Malformed (cc (not-true w n))
+  unfolding checked checkTests verdictAnswer
+  check-malformed w e n = let o : wellFormed s ≡ false = sym e ∙ not-true w n in checked-by s Malformed (sym (rw o))
 
   -- the answer that stands where the sheet is well formed and the first broken rule is known
   broken-is : (w : Bool) (g : RuleNumber) (f : Field) → w ≡ wellFormed s → not w ≡ false → firstBroken s order ≡ g .0 → (g .0 ≡ 0 → ⊥) → f .0 ≡ fieldOf rules (g .0) s → Checked s (Broken f g)
-  unfolding checked judged verdictAnswer
-  broken-is w g f e n h z i = checked-by s (Broken f g) (cc (not-false w n, ne-eqb (g .0) 0 z))
+  unfolding checked checkTests verdictAnswer
+  broken-is w g f e n h z i =
+      let o : wellFormed s ≡ true = sym e ∙ not-false w n in
+      checked-by s (Broken f g) (sym (rw (o, h, ne-eqb (g .0) 0 z, i)))
 
   accepted-is : (w : Bool) (k : Class) → w ≡ wellFormed s → not w ≡ false → firstBroken s order ≡ 0 → k ≡ classOf s → Checked s (Accepted k)
-  unfolding checked judged verdictAnswer
-  accepted-is w k e n h i = checked-by s (Accepted k) (cc (not-false w n))
+  unfolding checked checkTests verdictAnswer
+  accepted-is w k e n h i =
+      let o : wellFormed s ≡ true = sym e ∙ not-false w n in
+      checked-by s (Accepted k) (sym (rw (o, h, i)))
 
   module _ (w : Bool) (x : Facts) (g : RuleNumber) (e : w ≡ wellFormed s) (n : not w ≡ false) (j : length s ≡ 390 → Read x s) (i : g .0 ≡ firstNot (kept (judgedOn x)) order) where
     h : x ≡ factsOf s

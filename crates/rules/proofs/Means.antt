@@ -1,18 +1,19 @@
 -- What the answer of `check` means: accepted exactly when every rule is kept, else the first broken rule. Assumes nothing.
 use mathlib.Core.Path.{_≡_, refl, ap, sym, _∙_}
 use mathlib.Core.Logic.{_↔_}
-use mathlib.Core.Bool.{Bool, true, false, cond}
+use mathlib.Core.Bool.{Bool, true, false, not}
 use mathlib.Core.List.{List, [], _∷_, _++_}
 use Prim.Native.Nat.{ℕ}
 use native.Mathlib.Omega.{arith}
-use borrow.Author.Tests.{eqb-true, eqb-false, ne-eqb}
+use borrow.Author.Tests.{eqb-true, ne-eqb, not-false}
 use lib.Dec.{eqb}
 use lib.ListN.{getD}
 use Rattle.texts.specs.Texts.{every}
-use Rattle.texts.specs.Answers.{success, refusal}
+use Rattle.texts.specs.Answers.{success, refusal, numberOf, _refuses_with_}
+use Rattle.texts.proofs.Refusals.{none-of, succeeded, never}
 use Rattle.sheets.specs.Sheet.{wellFormed, Sheet}
 use Rattle.rules.specs.Rules.{classOf, rules, order, fieldOf, keeps, keepsAll, firstBroken}
-use Rattle.rules.specs.Verdicts.{className, verdictAnswer, judged, checked, Checked}
+use Rattle.rules.specs.Verdicts.{className, verdictAnswer, checkTests, checked, Checked}
 use Rattle.rules.proofs.First.{numbered, none-kept, kept-none, split}
 use Rattle.rules.specs.declared.Class.{Class}
 use Rattle.rules.specs.declared.Class.the-variants.{A, B, O}
@@ -61,39 +62,14 @@ order-numbered : every numbered order ≡ true
 unfolding every
 order-numbered = refl
 
-judged-broken : (s : Sheet) (n : ℕ) → (n ≡ 0 → ⊥) → judged s n ≡ refusal 8 (fieldOf rules n s ∷ n ∷ [])
-unfolding judged
-judged-broken s n z = simp (ne-eqb n 0 z)
-
-judged-success : (s : Sheet) (n : ℕ) (c : List ℕ) → judged s n ≡ success c → n ≡ 0
-unfolding judged
-judged-success s n c e = go (eqb n 0) refl
-  where
-    go : (b : Bool) → eqb n 0 ≡ b → n ≡ 0
-    go true h = eqb-true n 0 h
-    go false h = let x : refusal 8 (fieldOf rules n s ∷ n ∷ []) ≡ success c = sym (judged-broken s n (eqb-false n 0 h)) ∙ e in cc
-
-judged-formed : (s : Sheet) (n : ℕ) → judged s n ≡ refusal 1 [] → ⊥
-unfolding judged
-judged-formed s n e = go (eqb n 0) refl
-  where
-    clash : (b : Bool) → cond b (success (className (classOf s))) (refusal 8 (fieldOf rules n s ∷ n ∷ [])) ≡ refusal 1 [] → _≡_ {A = ℕ} 0 1
-    clash true f = cc
-    clash false f = cc
-
-    go : (b : Bool) → eqb n 0 ≡ b → ⊥
-    go b h = absurd (omega (arith, clash (eqb n 0) e))
-
 module _ (s : Sheet) (v : Verdict) (e : verdictAnswer v ≡ checked s) where
-  formed : wellFormed s ≡ true → verdictAnswer v ≡ judged s (firstBroken s order)
-  unfolding checked
-  formed w = e ∙ simp w
-
   accepts : wellFormed s ≡ true → (v ≡ Accepted (classOf s)) ↔ (keepsAll s ≡ true)
-  unfolding keepsAll verdictAnswer judged
+  unfolding checked checkTests keepsAll verdictAnswer
   accepts w = (
-    (λ a. none-kept (keeps s) order order-numbered (judged-success s (firstBroken s order) (className (classOf s)) (sym (formed w) ∙ ap verdictAnswer a))),
-    (λ k. is-accepted v (classOf s) (formed w ∙ rw (kept-none (keeps s) order k) refl)),
+    (λ a.
+        let q = none-of (checkTests s) (succeeded _ _ (checkTests s) (ap verdictAnswer (sym a) ∙ e) .0) in
+        none-kept (keeps s) order order-numbered (eqb-true _ _ (not-false _ (q .1 .0)))),
+    (λ k. is-accepted v (classOf s) (e ∙ rw (w, kept-none (keeps s) order k))),
   )
 
   names : wellFormed s ≡ true → (keepsAll s ≡ true → ⊥)
@@ -102,22 +78,26 @@ module _ (s : Sheet) (v : Verdict) (e : verdictAnswer v ≡ checked s) where
       × (every (keeps s) before ≡ true)
       × (keeps s n ≡ false)
       × (v ≡ Broken (record { 0 = fieldOf rules n s }) (record { 0 = n }))
-  unfolding keepsAll
+  unfolding checked checkTests keepsAll
   names w f =
       let (b, n, a, o, p, k, i) = split (keeps s) order f in
       let z : n ≡ 0 → ⊥ = λ q. f (none-kept (keeps s) order order-numbered (i ∙ q)) in
-      (b, n, a, o, p, k, is-broken v (fieldOf rules n s) n (formed w ∙ ap (judged s) i ∙ judged-broken s n z))
+      (b, n, a, o, p, k, is-broken v (fieldOf rules n s) n (e ∙ rw (w, i, ne-eqb n 0 z)))
 
   malforms : (v ≡ Malformed) ↔ (wellFormed s ≡ false)
-  unfolding verdictAnswer checked
+  unfolding verdictAnswer checked checkTests
   malforms = (
-    (λ a. go (wellFormed s) refl a),
-    (λ w. is-malformed v (e ∙ simp w)),
+    (λ a. go (wellFormed s) refl (sym e ∙ ap verdictAnswer a)),
+    (λ w. is-malformed v (e ∙ rw w)),
   )
     where
-      go : (b : Bool) → wellFormed s ≡ b → v ≡ Malformed → wellFormed s ≡ false
-      go false w a = w
-      go true w a = absurd (judged-formed s (firstBroken s order) (sym (formed w) ∙ ap verdictAnswer a))
+      go : (b : Bool) → wellFormed s ≡ b → checked s ≡ refusal 1 [] → b ≡ false
+      go false w h = refl
+      go true w h =
+          absurd
+          (never 1 (className (classOf s))
+          ((not (eqb (firstBroken s order) 0) refuses 8 with (fieldOf rules (firstBroken s order) s ∷ firstBroken s order ∷ [])) ∷ [])
+          (λ z. omega arith) refl (ap numberOf (rw w at h)))
 
   pub checked-by : Checked s v
   checked-by = record { answer = e; accepted = accepts; named = names; malformed = malforms }

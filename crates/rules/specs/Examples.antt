@@ -10,7 +10,7 @@ use Rattle.texts.specs.Answers.{Answer, success, refusal}
 use Rattle.sheets.specs.Sheet.{slotOf, cell, cellText, cellOk, cellOf, textOf, slotOk, _⟨_⟩, given}
 use Rattle.sheets.specs.Forms.{person, document, leap, monthDays, gregorian, date}
 use Rattle.rules.specs.Rules.{classOf, firstBlank, rules, testOf, fieldOf, keeps, firstNot}
-use Rattle.rules.specs.Verdicts.{judged, checked}
+use Rattle.rules.specs.Verdicts.{checkTests, checked}
 
 infix 20 _≔_
 -- the text of a field
@@ -71,5 +71,5 @@ table =
     ∷ []
 
 examples : map (λ (e : List Change × Answer). checked (sheetOf (changed s (e .0)))) table ≡ map (λ (e : List Change × Answer). e .1) table
-unfolding _≔_ changed sheetOf s accepted broken table every any same between are among valueOf value number _isOneOf_ _beginsOneOf_ slotOf cell cellText cellOk cellOf textOf slotOk _⟨_⟩ person document leap monthDays gregorian date classOf given firstBlank rules testOf fieldOf keeps firstNot judged checked
+unfolding _≔_ changed sheetOf s accepted broken table every any same between are among valueOf value number _isOneOf_ _beginsOneOf_ slotOf cell cellText cellOk cellOf textOf slotOk _⟨_⟩ person document leap monthDays gregorian date classOf given firstBlank rules testOf fieldOf keeps firstNot checkTests checked
 examples = refl

@@ -1,5 +1,5 @@
 -- What checking a sheet answers. Assumes nothing.
-use mathlib.Core.Bool.{true, false, cond}
+use mathlib.Core.Bool.{true, false, not}
 use mathlib.Core.Path.{_≡_}
 use mathlib.Core.Logic.{_↔_}
 use mathlib.Core.List.{List, [], _∷_, _++_}
@@ -7,7 +7,7 @@ use Prim.Native.Nat.{ℕ}
 use lib.Dec.{eqb}
 use Rattle.texts.specs.Quoted.{bytes}
 use Rattle.texts.specs.Texts.{every}
-use Rattle.texts.specs.Answers.{Answer, success, refusal}
+use Rattle.texts.specs.Answers.{Answer, success, refusal, Test, _refuses_, _refuses_with_, answerBy}
 use Rattle.sheets.specs.Sheet.{wellFormed, Sheet}
 use Rattle.rules.specs.Rules.{classOf, rules, order, fieldOf, keeps, keepsAll, firstBroken}
 use Rattle.rules.specs.declared.Class.{Class}
@@ -27,12 +27,15 @@ verdictAnswer Malformed = refusal 1 []
 verdictAnswer (Broken f r) = refusal 8 (f .0 ∷ r .0 ∷ [])
 verdictAnswer (Accepted c) = success (className c)
 
--- "the first broken one is named with the field in brackets"
-unfoldable pub judged : Sheet → ℕ → Answer
-judged s n = cond (eqb n 0) (success (className (classOf s))) (refusal 8 (fieldOf rules n s ∷ n ∷ []))
+-- "draft or sheet malformed"; "the first broken one is named with the field in brackets"
+unfoldable pub checkTests : Sheet → List Test
+checkTests s =
+    (not (wellFormed s) refuses 1)
+    ∷ (not (eqb (firstBroken s order) 0) refuses 8 with (fieldOf rules (firstBroken s order) s ∷ firstBroken s order ∷ []))
+    ∷ []
 
 unfoldable pub checked : Sheet → Answer
-checked s = cond (wellFormed s) (judged s (firstBroken s order)) (refusal 1 [])
+checked s = answerBy (checkTests s) (className (classOf s))
 
 -- the promise of `check`, and what it means
 pub record Checked (s : Sheet) (v : Verdict) : Type 0 where
