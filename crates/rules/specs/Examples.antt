@@ -1,4 +1,5 @@
--- Document 01's starred examples as one table, shown true of the definitions by one computation. Assumes nothing.
+-- Document 01's starred examples as one table, shown true of the definitions by one computation; what specs/Pinned.antt shares with it.
+-- Assumes nothing.
 use mathlib.Core.Path.{_≡_, refl}
 use mathlib.Core.List.{List, [], _∷_, _++_, map}
 use Prim.Native.Nat.{ℕ}
@@ -14,22 +15,22 @@ use Rattle.rules.specs.Verdicts.{checkTests, checked}
 
 infix 20 _≔_
 -- the text of a field
-abbrev Change : Type 0
+abbrev pub Change : Type 0
 Change = ℕ × Text
 
-_≔_ : ℕ → String → Change
+unfoldable pub _≔_ : ℕ → String → Change
 f ≔ q = (f, bytes q)
 
 -- the texts of a sheet's slots with some changed, and the sheet of texts
-changed : List Text → List Change → List Text
+unfoldable pub changed : List Text → List Change → List Text
 changed ts [] = ts
 changed ts (c ∷ cs) = changed (set ts (slotOf (c .0)) (c .1)) cs
 
-sheetOf : List Text → List ℕ
+unfoldable pub sheetOf : List Text → List ℕ
 sheetOf [] = []
 sheetOf (t ∷ ts) = cell t ++ sheetOf ts
 
-s : List Text
+unfoldable pub s : List Text
 s =
     changed (replicate 15 [])
     ((14 ≔ "004525987")
@@ -46,11 +47,19 @@ s =
     ∷ [])
 
 -- "accepted", with the class; the field and the rule
-accepted : String → Answer
+unfoldable pub accepted : String → Answer
 accepted q = success (bytes q)
 
-broken : ℕ → ℕ → Answer
+unfoldable pub broken : ℕ → ℕ → Answer
 broken f r = refusal 8 (f ∷ r ∷ [])
+
+-- S with some differences, and what checking it answers. To unfold `answer` is to unfold all that answers are computed by.
+unfoldable pub sheetWith : List Change → List ℕ
+sheetWith cs = sheetOf (changed s cs)
+
+unfoldable pub answer : List Change → Answer
+unfolding _≔_ changed sheetOf s accepted broken every any same between are among valueOf value number _isOneOf_ _beginsOneOf_ slotOf cell cellText cellOk cellOf textOf slotOk _⟨_⟩ person document leap monthDays gregorian date classOf given firstBlank rules testOf fieldOf keeps firstNot checkTests checked sheetWith
+answer cs = checked (sheetWith cs)
 
 -- "Differences from S", and the answer
 table : List (List Change × Answer)
@@ -70,6 +79,6 @@ table =
     ∷ ((101 ≔ "06") ∷ (107 ≔ "10000000") ∷ (106 ≔ "00") ∷ (108 ≔ "00") ∷ (109 ≔ "0") ∷ [], broken 109 34)
     ∷ []
 
-examples : map (λ (e : List Change × Answer). checked (sheetOf (changed s (e .0)))) table ≡ map (λ (e : List Change × Answer). e .1) table
-unfolding _≔_ changed sheetOf s accepted broken table every any same between are among valueOf value number _isOneOf_ _beginsOneOf_ slotOf cell cellText cellOk cellOf textOf slotOk _⟨_⟩ person document leap monthDays gregorian date classOf given firstBlank rules testOf fieldOf keeps firstNot checkTests checked
+examples : map (λ (e : List Change × Answer). answer (e .0)) table ≡ map (λ (e : List Change × Answer). e .1) table
+unfolding answer table
 examples = refl

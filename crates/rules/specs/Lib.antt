@@ -3,3 +3,4 @@ pub mod Verdicts
 pub mod Tests
 pub mod Groups
 pub mod Examples
+pub mod Pinned
