@@ -1,4 +1,4 @@
-//! Links the proved library, `libcapi.a`.
+//! Links the proved library, `libkieselbrot.a`.
 //!
 //! `KIESELBROT_LIB_DIR` names its directory (an absolute path, or one relative to
 //! this crate); without it the repository's `target/staticlib` is taken.
@@ -11,9 +11,9 @@ const DEFAULT: &str = "../../../target/staticlib";
 
 fn main() {
     let directory = directory();
-    let archive = directory.join("libcapi.a");
+    let archive = directory.join("libkieselbrot.a");
     println!("cargo:rustc-link-search=native={}", directory.display());
-    println!("cargo:rustc-link-lib=static=capi");
+    println!("cargo:rustc-link-lib=static=kieselbrot");
     println!("cargo:rerun-if-env-changed={DIRECTORY}");
     println!("cargo:rerun-if-changed={}", archive.display());
     if !archive.exists() {
