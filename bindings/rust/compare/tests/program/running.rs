@@ -1,8 +1,5 @@
 //! Runs the program `budgetorder` as it was built.
 
-#![forbid(unsafe_code)]
-#![warn(missing_docs)]
-
 use std::env;
 use std::io::{self, ErrorKind, Write};
 use std::path::{Path, PathBuf};
@@ -16,11 +13,6 @@ const BUILT: &str = concat!(
 );
 
 /// Where the program is: `KIESELBROT_PROGRAM`, or where the repository builds it.
-///
-/// # Panics
-///
-/// If it isn't there.
-#[must_use]
 pub fn path() -> PathBuf {
     let path = env::var_os("KIESELBROT_PROGRAM").map_or(BUILT.into(), PathBuf::from);
     assert!(
@@ -32,11 +24,6 @@ pub fn path() -> PathBuf {
 }
 
 /// What the program writes to standard output for this input.
-///
-/// # Panics
-///
-/// As [`run_with`].
-#[must_use]
 pub fn run(input: &[u8]) -> Vec<u8> {
     run_with(Command::new(path()), |stdin| write(stdin, input))
 }
@@ -46,11 +33,6 @@ const START: Duration = Duration::from_millis(50);
 
 /// What the program writes if its input comes in pieces of these sizes, the rest
 /// in one, with a pause after each. The first comes when the program waits for it.
-///
-/// # Panics
-///
-/// As [`run_with`].
-#[must_use]
 pub fn run_in_pieces(
     input: &[u8],
     sizes: impl IntoIterator<Item = usize> + Send,
@@ -70,11 +52,8 @@ pub fn run_in_pieces(
 }
 
 /// What a command that runs the program writes to standard output, with its
-/// standard input given by `give`, which ends it by returning.
-///
-/// # Panics
-///
-/// If the command can't be run, fails, or writes to standard error.
+/// standard input given by `give`, which ends it by returning. The command must
+/// succeed and write nothing to standard error.
 pub fn run_with(mut command: Command, give: impl FnOnce(&mut ChildStdin) + Send) -> Vec<u8> {
     let mut child: Child = command
         .stdin(Stdio::piped())
@@ -93,10 +72,6 @@ pub fn run_with(mut command: Command, give: impl FnOnce(&mut ChildStdin) + Send)
 }
 
 /// Writes as much as the program reads: it may end before the input does.
-///
-/// # Panics
-///
-/// On any other error of the pipe.
 pub fn write(stdin: &mut ChildStdin, bytes: &[u8]) {
     let written: io::Result<()> = stdin.write_all(bytes);
     if let Err(error) = written {

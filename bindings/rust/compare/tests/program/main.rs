@@ -1,5 +1,7 @@
 //! The program against the second implementation, byte for byte.
 
+mod running;
+
 use std::collections::BTreeSet;
 use std::env;
 use std::fs;
@@ -9,8 +11,9 @@ use std::thread;
 use std::time::Duration;
 
 use cases::{message, messages, Random, Texts, FIELDS};
-use program::{path, run, run_in_pieces, run_with, write};
 use reference::{read, report, Refusal};
+
+use running::{path, run, run_in_pieces, run_with, write};
 
 /// As many bytes as the program reads.
 const INPUT_MAX: usize = 32_768;
