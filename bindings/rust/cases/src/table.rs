@@ -50,16 +50,18 @@ fn case(line: &'static str) -> Case {
 
 fn unescaped(text: &str) -> Text {
     let mut bytes = Vec::new();
-    let mut rest = text;
-    while let Some(character) = rest.chars().next() {
-        if let Some(escaped) = rest.strip_prefix("\\x") {
-            let (digits, after) = escaped.split_at(2);
-            bytes.push(u8::from_str_radix(digits, 16).expect("two hexadecimal digits"));
-            rest = after;
-        } else {
-            bytes.push(windows1251::byte(character).expect("a character of Windows-1251"));
-            rest = &rest[character.len_utf8()..];
-        }
+    let mut rest = text.chars();
+    while let Some(character) = rest.next() {
+        bytes.push(match character {
+            '\\' => {
+                assert_eq!(rest.next(), Some('x'), "in {text}");
+                let digits: String = rest.by_ref().take(2).collect();
+                u8::from_str_radix(&digits, 16).expect("two hexadecimal digits")
+            }
+            'А'..='я' => (u32::from(character) - u32::from('А')) as u8 + 0xC0,
+            '!'..='~' => character as u8,
+            _ => panic!("no such character: {text}"),
+        });
     }
     assert!(bytes.len() <= 31, "too long: {text}");
     Text::new(&bytes)

@@ -7,6 +7,8 @@
 #![forbid(unsafe_code)]
 #![warn(missing_docs)]
 
+mod windows1251;
+
 use std::fmt;
 
 use kieselbrot::{Refusal, FIELDS, MESSAGE_MAX, TEXT_MAX};
