@@ -1,6 +1,6 @@
 //! What is measured with: for each row many inputs, all different.
 
-use cases::{blanked, budget, damaged_draft, disturb, message, with_forms, FIELDS};
+use cases::{blanked, budget, damaged_draft, disturb, message, with_forms, BLANKS, FIELDS};
 use cases::{Account, Basis, Code, Date, Document, Draft, Forms, Payer, Random, Sheet, Texts};
 
 /// How many inputs a row has.
@@ -86,9 +86,6 @@ fn draft(texts: &Texts) -> Draft {
 pub fn full(random: &mut Random) -> Vec<Draft> {
     many(random, |random| draft(&like_s(random)))
 }
-
-/// The seven blanks of document 01's examples.
-const BLANKS: [u8; 7] = [22, 101, 105, 106, 107, 108, 109];
 
 /// Drafts that status 04 completes, at count 97.
 pub fn count_97(random: &mut Random) -> Vec<Draft> {

@@ -5,6 +5,7 @@
 #![warn(missing_docs)]
 
 mod damage;
+mod fillings;
 mod forms;
 mod orders;
 mod random;
@@ -13,10 +14,11 @@ mod table;
 mod texts;
 
 pub use damage::{damaged_draft, damaged_message, damaged_sheet, size_near};
+pub use fillings::{filled_set, fillings};
 pub use forms::{list, BASES, CLASS_A, CLASS_B, STATUSES};
 pub use orders::{accepted, blanked, budget, class_a, class_b, disturb, with_forms};
 pub use orders::{Account, Basis, Code, Date, Document, Forms, Payer};
 pub use random::Random;
-pub use streams::messages;
+pub use streams::{draft_after, messages};
 pub use table::{sheets, Case};
-pub use texts::{message, slot_of, Draft, Sheet, Text, Texts, FIELDS, FILLABLE};
+pub use texts::{message, slot_of, Draft, Sheet, Text, Texts, BLANKS, FIELDS, FILLABLE};

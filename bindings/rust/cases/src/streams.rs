@@ -3,7 +3,7 @@
 use crate::damage::damaged_message;
 use crate::orders::{accepted, blanked, budget};
 use crate::random::Random;
-use crate::texts::{message, FIELDS};
+use crate::texts::{message, Draft, Text, FIELDS};
 
 /// An order's messages with others among them, in any order: corrections, repeated
 /// and clashing ones, unreadable ones.
@@ -36,4 +36,22 @@ fn another(random: &mut Random, list: &[Vec<u8>]) -> Vec<u8> {
         (1, Some(known)) => damaged_message(random, known),
         _ => message(field, revision, text),
     }
+}
+
+/// The draft after a list of postings, as document 01 says it, from the readable
+/// messages of the list (field, revision, text): a slot holds the highest revision
+/// among those that name its field, with the text of the first that has it.
+#[must_use]
+pub fn draft_after(readable: &[(u8, u32, &[u8])]) -> Draft {
+    let mut draft = [0; 450];
+    for (slot, field) in draft.chunks_exact_mut(30).zip(FIELDS) {
+        let named = readable.iter().filter(|message| message.0 == field);
+        let highest = named.clone().map(|message| message.1).max();
+        let held = named.clone().find(|message| Some(message.1) == highest);
+        if let Some((_, revision, text)) = held {
+            slot[..4].copy_from_slice(&revision.to_be_bytes());
+            slot[4..].copy_from_slice(&Text::new(text).slot());
+        }
+    }
+    draft
 }

@@ -10,6 +10,9 @@ pub const FIELDS: [u8; 15] = [
 /// The fields that completion may fill.
 pub const FILLABLE: [u8; 10] = [22, 60, 101, 102, 104, 105, 106, 107, 108, 109];
 
+/// The fields that document 01's completion examples leave blank.
+pub const BLANKS: [u8; 7] = [22, 101, 105, 106, 107, 108, 109];
+
 /// The bytes of a sheet.
 pub type Sheet = [u8; 390];
 
@@ -167,6 +170,15 @@ impl Texts {
             slot[4..].copy_from_slice(&text.slot());
         }
         draft
+    }
+
+    /// The messages of all fields, blank ones too, end to end in slot order.
+    #[must_use]
+    pub fn messages(&self, revision: u32) -> Vec<u8> {
+        FIELDS
+            .into_iter()
+            .flat_map(|field| message(field, revision, &self.get(field)))
+            .collect()
     }
 }
 

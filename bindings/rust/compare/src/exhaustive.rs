@@ -12,7 +12,7 @@ type Outcome = Result<(), Difference>;
 /// The table `sheets.txt` against its verdicts.
 pub fn table<L: Library>(comparison: &mut Comparison<'_, L>) -> Outcome {
     for case in sheets() {
-        let answer = match comparison.check(&case.sheet)? {
+        let answer = match comparison.check(&case.texts.sheet())? {
             Ok(class) => format!("ok {class:?}"),
             Err(refusal) => refusal.to_string(),
         };

@@ -1,34 +1,10 @@
-//! All fillings of a draft, as an explicit list, and the first that is accepted.
+//! Completion by going through the list of all fillings.
 
-use cases::{list, Sheet, Texts, FIELDS};
+use cases::{filled_set, fillings, Sheet, Texts};
 use kieselbrot::{Completed, Refusal};
 
 use crate::comparison::{hex, same, Comparison, Difference, Lent};
 use crate::library::Library;
-
-/// All fillings in order: of two, the earlier has the earlier list entry in the
-/// first field where they differ. Slot order has 101, 106, 108, 109 in theirs.
-fn fillings(given: &Texts) -> Vec<Texts> {
-    FIELDS.into_iter().fold(vec![*given], |fillings, field| {
-        let entries = list(field);
-        if !given.get(field).is_empty() || entries.is_empty() {
-            return fillings;
-        }
-        let fill = |filling: &Texts| {
-            let filling = *filling;
-            let filled = entries.iter().map(move |entry| filling.with(field, entry));
-            filled.collect::<Vec<_>>()
-        };
-        fillings.iter().flat_map(fill).collect()
-    })
-}
-
-/// The set of the blank fields that have a list.
-fn blanks(given: &Texts) -> u16 {
-    (0..15)
-        .filter(|&slot| given.get(FIELDS[slot]).is_empty() && !list(FIELDS[slot]).is_empty())
-        .fold(0, |set, slot| set | 1 << slot)
-}
 
 /// What completing a budget payment should answer, by trying every filling.
 fn search(library: &impl Library, given: &Texts) -> (Result<Completed, Refusal>, Option<Sheet>) {
@@ -38,7 +14,7 @@ fn search(library: &impl Library, given: &Texts) -> (Result<Completed, Refusal>,
         let count = all.len();
         return (Err(Refusal::NoFilling { count }), None);
     };
-    let set = blanks(given);
+    let set = filled_set(given);
     let completed = Completed {
         count: place + 1,
         set,

@@ -1,30 +1,18 @@
 //! Lists of messages, and the draft that posting them ends in.
 
-use cases::{message, messages, Draft, Random, FIELDS};
+use cases::{draft_after, message, messages, Draft, Random, FIELDS};
 
 use crate::comparison::{hex, same, Comparison, Difference, Lent};
 use crate::library::Library;
 
-/// The draft after a list of postings, as document 01 says it: a slot holds the
-/// highest revision among the readable messages that name its field, with the
-/// text of the first in the list that has this revision.
+/// The draft that a list of postings ends in.
 fn outcome<L: Library>(comparison: &mut Comparison<'_, L>, list: &[Vec<u8>]) -> Outcome<Draft> {
     let mut readable = Vec::new();
     for bytes in list {
-        readable.extend(comparison.read(bytes)?);
+        let message = comparison.read(bytes)?;
+        readable.extend(message.map(|message| (message.field, message.revision, message.text)));
     }
-    let mut draft = [0; 450];
-    for (slot, field) in draft.chunks_exact_mut(30).zip(FIELDS) {
-        let named = readable.iter().filter(|message| message.field == field);
-        let highest = named.clone().map(|message| message.revision).max();
-        let Some(winner) = named.clone().find(|m| Some(m.revision) == highest) else {
-            continue;
-        };
-        slot[..4].copy_from_slice(&winner.revision.to_be_bytes());
-        slot[4] = winner.text.len() as u8;
-        slot[5..][..winner.text.len()].copy_from_slice(winner.text);
-    }
-    Ok(draft)
+    Ok(draft_after(&readable))
 }
 
 type Outcome<T> = Result<T, Difference>;

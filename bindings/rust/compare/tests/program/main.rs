@@ -10,7 +10,7 @@ use std::sync::mpsc;
 use std::thread;
 use std::time::Duration;
 
-use cases::{message, messages, Random, Texts, FIELDS};
+use cases::{message, messages, Random, Texts};
 use reference::{read, report, Refusal};
 
 use running::{path, run, run_in_pieces, run_with, write};
@@ -37,17 +37,9 @@ fn same(output: &[u8], input: &[u8]) {
     );
 }
 
-/// The messages of an order, with this revision.
-fn order(texts: &Texts, revision: u32) -> Vec<u8> {
-    FIELDS
-        .iter()
-        .flat_map(|&field| message(field, revision, &texts.get(field)))
-        .collect()
-}
-
 /// Messages of all sizes, exactly so many bytes.
 fn filled(size: usize) -> Vec<u8> {
-    let mut input = order(&Texts::s(), 1);
+    let mut input = Texts::s().messages(1);
     let mut length = 0;
     // Room is left for the last two, which share what remains.
     while input.len() + 66 < size {
@@ -79,7 +71,7 @@ fn a_full_input() {
 
 #[test]
 fn only_the_first_32_768_bytes_count() {
-    let mut behind = [filled(INPUT_MAX), order(&Texts::BLANK, 9).repeat(61)].concat();
+    let mut behind = [filled(INPUT_MAX), Texts::BLANK.messages(9).repeat(61)].concat();
     behind.truncate(40_000);
     assert_eq!(compared(&behind), run(&behind[..INPUT_MAX]));
     // 33 bytes each: the limit cuts one.
@@ -92,7 +84,7 @@ fn only_the_first_32_768_bytes_count() {
 
 #[test]
 fn a_message_cut_at_the_end() {
-    let whole = [order(&Texts::s(), 1), message(108, 2, b"17")].concat();
+    let whole = [Texts::s().messages(1), message(108, 2, b"17")].concat();
     for missing in 1..10 {
         let output = compared(&whole[..whole.len() - missing]);
         let text = String::from_utf8(output).expect("ASCII");
@@ -117,7 +109,7 @@ fn the_largest_number_of_messages() {
 /// The longest lines: every message is newer.
 #[test]
 fn the_longest_report() {
-    let s = order(&Texts::s(), 5000);
+    let s = Texts::s().messages(5000);
     let first = (1..).map(|revision| message(22, revision, b""));
     let room = (INPUT_MAX - s.len()) / 8;
     let mut input: Vec<u8> = first.take(room).flatten().collect();
@@ -138,7 +130,7 @@ fn a_stream_of_refusals() {
         message(101, 1, b"08"),
     ]
     .concat();
-    let input = [order(&Texts::s(), 1), refused.repeat(700)].concat();
+    let input = [Texts::s().messages(1), refused.repeat(700)].concat();
     let output = compared(&input);
     let text = String::from_utf8(output).expect("ASCII");
     assert!(text.contains("\n15 newer\n16 3\n17 4\n18 5\n19 6\n20 3\n"));
@@ -154,7 +146,7 @@ fn cyrillic_letters() {
         .with(109, b"29.02.2024");
     for byte in 192..=255 {
         let document = [byte, b'/', byte];
-        let output = compared(&order(&texts.with(108, &document), 1));
+        let output = compared(&texts.with(108, &document).messages(1));
         let line = [b"\n106 \xD2\xC4\n107 10000000\n108 ", &document[..], b"\n"].concat();
         assert!(output.windows(line.len()).any(|bytes| bytes == line));
     }
@@ -234,7 +226,7 @@ fn generated_streams() {
 
 #[test]
 fn input_in_pieces() {
-    let input = [order(&Texts::s(), 1), message(101, 2, b"08")].concat();
+    let input = [Texts::s().messages(1), message(101, 2, b"08")].concat();
     let pause = Duration::from_millis(1);
     let bytes = vec![1; input.len()];
     same(&run_in_pieces(&input, bytes, pause), &input);

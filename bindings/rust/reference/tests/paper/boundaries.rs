@@ -1,9 +1,10 @@
 //! Sizes, lengths, pads, versions, revisions and the order of refusals.
 
+use cases::{message, Text, FIELDS};
 use reference::{check, complete, copy, fresh, post, read, report, write};
 use reference::{Class, Message, Posted, Refusal};
 
-use crate::support::{broken, draft, message, sheet, Change, FIELDS};
+use crate::support::{broken, draft, sheet, Change};
 
 /// The sheet's bytes, cut or extended with zeros to a size.
 fn resized(mut bytes: Vec<u8>, size: usize) -> Vec<u8> {
@@ -344,10 +345,7 @@ fn posting_by_revision() {
         (answer, bytes[60..90].to_vec())
     };
     let stored = |revision: u32, text: &[u8]| {
-        let mut slot = revision.to_be_bytes().to_vec();
-        slot.push(u8::try_from(text.len()).expect("a short text"));
-        slot.extend(text);
-        resized(slot, 30)
+        [&revision.to_be_bytes()[..], &Text::new(text).slot()].concat()
     };
     assert_eq!(send(5, b"first"), (Ok(Posted::Newer), stored(5, b"first")));
     assert_eq!(send(5, b"first"), (Ok(Posted::Same), stored(5, b"first")));

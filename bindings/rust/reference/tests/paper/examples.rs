@@ -1,8 +1,9 @@
 //! Every example of the paper, starred or not.
 
+use cases::{message, Draft, Texts, BLANKS};
 use reference::{check, complete, copy, post, report, Class, Completed, Posted, Refusal};
 
-use crate::support::{broken, draft, lay_out, message, sheet, texts, Change, FIELDS, S};
+use crate::support::{broken, draft, sheet, texts, Change};
 
 #[test]
 fn sheet_s() {
@@ -76,21 +77,11 @@ fn leap_days() {
     assert_eq!(check(&sheet(&[(109, b"29.02.2024")])), Err(broken(109, 31)));
 }
 
-const BLANKS: [Change<'static>; 7] = [
-    (22, b""),
-    (101, b""),
-    (105, b""),
-    (106, b""),
-    (107, b""),
-    (108, b""),
-    (109, b""),
-];
-
 /// The set of the slots of `BLANKS`: 3, 6 and 10 to 14.
 const BLANK_SET: u16 = 0b0111_1100_0100_1000;
 
-fn with_blanks<'a>(more: &[Change<'a>]) -> Vec<Change<'a>> {
-    [&BLANKS, more].concat()
+fn with_blanks(changes: &[Change<'_>]) -> Draft {
+    texts(changes).without(&BLANKS).draft(|_| 1)
 }
 
 #[test]
@@ -101,20 +92,20 @@ fn completion_count_1() {
         set: BLANK_SET,
         ones: 7,
     };
-    assert_eq!(complete(&draft(&BLANKS), &mut output), Ok(completed));
+    assert_eq!(complete(&with_blanks(&[]), &mut output), Ok(completed));
     assert_eq!(output[..], sheet(&[]));
 }
 
 #[test]
 fn completion_count_97() {
-    let changes = with_blanks(&[(60, b"0"), (102, b"0")]);
+    let draft = with_blanks(&[(60, b"0"), (102, b"0")]);
     let mut output = [0xEE; 390];
     let completed = Completed {
         count: 97,
         set: BLANK_SET,
         ones: 7,
     };
-    assert_eq!(complete(&draft(&changes), &mut output), Ok(completed));
+    assert_eq!(complete(&draft, &mut output), Ok(completed));
     assert_eq!(output[..], sheet(&[(60, b"0"), (102, b"0"), (101, b"04")]));
 }
 
@@ -124,7 +115,7 @@ fn completion_without_filling() {
     for more in [&[account][..], &[account, (60, b"0"), (102, b"0")]] {
         let mut output = [0xEE; 390];
         assert_eq!(
-            complete(&draft(&with_blanks(more)), &mut output),
+            complete(&with_blanks(more), &mut output),
             Err(Refusal::NoFilling { count: 1056 })
         );
         assert_eq!(output, [0xEE; 390]);
@@ -165,14 +156,6 @@ fn the_program_example() {
     assert_eq!(report(&input), b"1 newer\nend 8 14 1\n");
 }
 
-fn messages(texts: &[&[u8]]) -> Vec<u8> {
-    FIELDS
-        .iter()
-        .zip(texts)
-        .flat_map(|(&field, text)| message(field, 1, text))
-        .collect()
-}
-
 fn answers(count: usize) -> String {
     (1..=count).map(|n| format!("{n} newer\n")).collect()
 }
@@ -183,13 +166,13 @@ fn the_program_prints_sheet_s() {
         + "end ok 1\n14 004525987\n15 40102810845370000004\n17 03100643000000014800\n22 0\n\
            60 7701569743\n61 6730054024\n101 01\n102 770301001\n103 772801001\n\
            104 18201061201010000510\n105 0\n106 0\n107 0\n108 0\n109 0\n";
-    assert_eq!(report(&messages(&S)), expected.as_bytes());
+    assert_eq!(report(&Texts::s().messages(1)), expected.as_bytes());
 }
 
 #[test]
 fn the_program_prints_a_hyphen_for_a_blank_15() {
     let changes: [Change; 3] = [(14, b"044525000"), (15, b""), (17, b"40503810000004000000")];
-    let output = report(&messages(&texts(&changes)));
+    let output = report(&texts(&changes).messages(1));
     let output = String::from_utf8(output).expect("ASCII");
     assert!(output.contains("\nend ok 1\n14 044525000\n15 -\n17 40503810000004000000\n"));
 }
@@ -197,7 +180,7 @@ fn the_program_prints_a_hyphen_for_a_blank_15() {
 #[test]
 fn the_program_prints_windows_1251() {
     let changes: [Change; 4] = [(101, b"06"), (107, b"10000000"), (106, b""), (108, b"1")];
-    let output = report(&messages(&texts(&changes)));
+    let output = report(&texts(&changes).messages(1));
     assert!(output.ends_with(b"\n106 0\n107 10000000\n108 1\n109 0\n"));
     let pair: [Change; 4] = [
         (101, b"06"),
@@ -205,16 +188,16 @@ fn the_program_prints_windows_1251() {
         (106, b"\xD2\xC4"),
         (108, b"1"),
     ];
-    let output = report(&messages(&texts(&pair)));
+    let output = report(&texts(&pair).messages(1));
     assert!(output.ends_with(b"\n106 \xD2\xC4\n107 10000000\n108 1\n109 0\n"));
 }
 
 #[test]
 fn the_program_prints_refusals_9_and_10() {
-    let ordinary = report(&messages(&texts(&[(15, b"")])));
+    let ordinary = report(&texts(&[(15, b"")]).messages(1));
     assert_eq!(ordinary, (answers(15) + "end 9\n").as_bytes());
-    let changes = with_blanks(&[(17, b"03212643000000014800")]);
-    let no_filling = report(&messages(&texts(&changes)));
+    let institution = texts(&[(17, b"03212643000000014800")]);
+    let no_filling = report(&institution.without(&BLANKS).messages(1));
     assert_eq!(no_filling, (answers(15) + "end 10 1056\n").as_bytes());
 }
 
@@ -222,5 +205,5 @@ fn the_program_prints_refusals_9_and_10() {
 fn copying_gives_the_drafts_sheet() {
     let mut output = vec![0xEE; 390];
     assert_eq!(copy(&draft(&[]), &mut output), Ok(()));
-    assert_eq!(output, lay_out(&S));
+    assert_eq!(output, sheet(&[]));
 }

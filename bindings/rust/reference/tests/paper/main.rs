@@ -1,7 +1,7 @@
 //! Tests of the crate against the paper.
 
 mod boundaries;
-mod cases;
 mod examples;
 mod properties;
 mod support;
+mod table;

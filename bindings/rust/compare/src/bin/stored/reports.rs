@@ -1,6 +1,6 @@
 //! Inputs of the program `budgetorder`.
 
-use cases::{message, Texts, BASES, FIELDS};
+use cases::{message, Texts, BASES, BLANKS, FIELDS};
 
 use crate::example::{Example, Kind};
 
@@ -59,9 +59,6 @@ fn short() -> Vec<Example> {
         report("numbers of one, two and three digits", &hundred),
     ]
 }
-
-/// The fields that document 01's completion examples leave blank.
-const BLANKS: [u8; 7] = [22, 101, 105, 106, 107, 108, 109];
 
 const INSTITUTION: &[u8] = b"03212643000000014800";
 

@@ -17,7 +17,7 @@ fn check(name: impl Into<String>, sheet: &[u8]) -> Example {
 fn table() -> Vec<Example> {
     sheets()
         .iter()
-        .map(|case| check(case.name, &case.sheet))
+        .map(|case| check(case.name, &case.texts.sheet()))
         .collect()
 }
 
