@@ -51,6 +51,6 @@ N ?= 20000000
 fuzz: lib
 	cd bindings/rust && CASES=$(N) cargo run --offline --release -p compare
 
-# Library and second implementation in one run; writes docs/BENCHMARKS.md and a chart.
+# Library and second implementation in one run; writes docs/BENCHMARKS.md and, with gnuplot, its chart.
 bench: lib
 	cd bindings/rust && cargo run --offline --release -p bench -- ../../docs/BENCHMARKS.md

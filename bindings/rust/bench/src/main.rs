@@ -1,12 +1,11 @@
 //! The library and the second implementation, measured in one run.
 //!
-//! `bench FILE.md` prints the table, writes it to the file, and draws a chart
-//! beside it. Without a file it only prints.
+//! `bench FILE.md` prints the table, writes it to the file, and lets gnuplot draw a
+//! chart beside it. Without a file it only prints.
 
 #![deny(unsafe_code)]
 
 mod book;
-mod chart;
 mod inputs;
 mod measure;
 mod report;
@@ -15,8 +14,9 @@ mod stack;
 
 use std::env;
 use std::fs;
+use std::io::{self, ErrorKind};
 use std::path::Path;
-use std::process::ExitCode;
+use std::process::{Command, ExitCode};
 
 use measure::{Row, NO_SLOWER};
 use report::Report;
@@ -130,9 +130,26 @@ fn complete(name: &'static str, goal: f64, drafts: Vec<cases::Draft>) -> Row {
     )
 }
 
-fn store(report: &Report, path: &Path) -> std::io::Result<()> {
+/// Writes the table, then the chart that is drawn from it.
+fn store(report: &Report, path: &Path) -> io::Result<()> {
+    fs::write(path, report.markdown(None))?;
     let chart = path.with_extension("svg");
+    if !draw(path, &chart)? {
+        println!("\nNo chart: gnuplot is missing.");
+        return Ok(());
+    }
     let name = chart.file_name().map(|name| name.to_string_lossy());
-    fs::write(path, report.markdown(name.as_deref()))?;
-    fs::write(chart, chart::draw(report))
+    fs::write(path, report.markdown(name.as_deref()))
+}
+
+/// Draws the chart of a table; false if there is no gnuplot on the machine.
+fn draw(table: &Path, chart: &Path) -> io::Result<bool> {
+    const SCRIPT: &str = concat!(env!("CARGO_MANIFEST_DIR"), "/chart.gp");
+    let mut gnuplot = Command::new("gnuplot");
+    match gnuplot.args(["-c", SCRIPT]).args([table, chart]).status() {
+        Ok(status) if status.success() => Ok(true),
+        Ok(status) => Err(io::Error::other(format!("gnuplot: {status}"))),
+        Err(error) if error.kind() == ErrorKind::NotFound => Ok(false),
+        Err(error) => Err(error),
+    }
 }

@@ -104,7 +104,7 @@ The depth to which a call touches the stack, in bytes.
 ";
 
 /// One decimal for small numbers, none for larger.
-pub fn number(value: f64) -> String {
+fn number(value: f64) -> String {
     if value < 100.0 {
         format!("{value:.1}")
     } else {
