@@ -35,14 +35,19 @@ foreign = sheet "004525987 40102810845370000004 03100643000000014800  0 67300540
 hopeless : List ℕ
 hopeless = sheet "004525987 40102810845370000004 03212643000000014800  0 6730054024  0 772801001 18201061201010000510     "
 
+-- what the search finds; to unfold it is to unfold all that it is computed by
+unfoldable picked : List ℕ → Look (List ℕ)
+unfolding blanked foreign hopeless sheet cell put putAt every any are among same between value valueOf number _isOneOf_ _beginsOneOf_ slotOf cellText cellOf textOf _⟨_⟩ person document leap monthDays gregorian date given rules testOf keeps keepsAll look filledAt passesAt places picks firstPick baseOf pickedOf
+picked s = mapLook (pickedOf (baseOf s)) (firstPick (baseOf s))
+
 -- "count 1": S itself
 first : firstFilling blanked ≡ found 1 (sheet "004525987 40102810845370000004 03100643000000014800 0 7701569743 6730054024 01 770301001 772801001 18201061201010000510 0 0 0 0 0")
-unfolding blanked foreign hopeless sheet cell put putAt every any are among same between value valueOf number _isOneOf_ _beginsOneOf_ slotOf cellText cellOf textOf _⟨_⟩ person document leap monthDays gregorian date given rules testOf keeps keepsAll look filledAt passesAt places picks firstPick baseOf pickedOf
+unfolding picked
 first = first-is blanked refl
 
 -- "status 04, count 97"
 pub later : firstFilling foreign ≡ found 97 (sheet "004525987 40102810845370000004 03100643000000014800 0 0 6730054024 04 0 772801001 18201061201010000510 0 0 0 0 0")
-unfolding blanked foreign hopeless sheet cell put putAt every any are among same between value valueOf number _isOneOf_ _beginsOneOf_ slotOf cellText cellOf textOf _⟨_⟩ person document leap monthDays gregorian date given rules testOf keeps keepsAll look filledAt passesAt places picks firstPick baseOf pickedOf
+unfolding picked
 later = first-is foreign refl
 
 -- "10, count 1,056": 22 is filled with "0", which breaks rule 22 whatever the other entries are
@@ -54,5 +59,5 @@ none-passes p h (x ∷ xs) n =
     rw (h x) (none-passes p h xs (n + 1) ∙ ap none e)
 
 never : firstFilling hopeless ≡ none 1056
-unfolding blanked foreign hopeless sheet cell put putAt every any are among same between value valueOf number _isOneOf_ _beginsOneOf_ slotOf cellText cellOf textOf _⟨_⟩ person document leap monthDays gregorian date given rules testOf keeps keepsAll look filledAt passesAt places picks firstPick baseOf pickedOf
+unfolding picked
 never = first-is hopeless refl ∙ ap (mapLook (pickedOf (baseOf hopeless))) (none-passes (passesAt (baseOf hopeless)) (broken-fixed (baseOf hopeless) 22 refl refl refl refl) (picks (baseOf hopeless)) 0)
