@@ -4,22 +4,22 @@ use mathlib.Core.List.{List, [], _∷_, _++_, map}
 use Prim.Native.Nat.{ℕ}
 use Prim.Native.String.{String}
 use lib.Dec.{eqb}
-use Rattle.texts.specs.Texts.{every, between, blank, _is_, _isOneOf_, _begins_, _beginsOneOf_, digits, digitsNotZero}
+use Rattle.texts.specs.Texts.{every, between, blank, _is_, _isOneOf_, _begins_, _beginsOneOf_}
 use Rattle.sheets.specs.Sheet.{Sheet, fieldIn, slotOf, given, _⟨_⟩}
-use Rattle.sheets.specs.Forms.{_⇒_, uin, foreignCode, inn10, inn12, inn, kpp, statuses, customsGroup, letterPair, person, document, date}
+use Rattle.sheets.specs.Forms.{_⇒_, bik, account, uin, code4, foreignCode, inn10, inn12, inn, digits5, digits10, digits12, kpp, kbk, oktmo, office, statuses, customsGroup, letterPair, person, document, date}
 use Rattle.rules.specs.declared.Class.{Class}
 use Rattle.rules.specs.declared.Class.the-variants.{A, B, O}
 
 -- ---- for every sheet
 
 abbrev pub rule1 : Sheet → Bool
-rule1 s = digits 9 (s ⟨ 14 ⟩)
+rule1 s = bik (s ⟨ 14 ⟩)
 
 abbrev pub rule2 : Sheet → Bool
-rule2 s = blank (s ⟨ 15 ⟩) || digits 20 (s ⟨ 15 ⟩)
+rule2 s = blank (s ⟨ 15 ⟩) || account (s ⟨ 15 ⟩)
 
 abbrev pub rule3 : Sheet → Bool
-rule3 s = digits 20 (s ⟨ 17 ⟩)
+rule3 s = account (s ⟨ 17 ⟩)
 
 -- "With 1 to 3 kept, a sheet has a class"
 abbrev pub classA : Sheet → Bool
@@ -55,7 +55,7 @@ abbrev pub rule6 : Sheet → Bool
 rule6 s = every (given s) needed
 
 abbrev pub rule7 : Sheet → Bool
-rule7 s = (s ⟨ 22 ⟩ is "0" || uin (s ⟨ 22 ⟩)) || (digitsNotZero 4 (s ⟨ 22 ⟩) && s ⟨ 17 ⟩ begins "03212")
+rule7 s = (s ⟨ 22 ⟩ is "0" || uin (s ⟨ 22 ⟩)) || (code4 (s ⟨ 22 ⟩) && s ⟨ 17 ⟩ begins "03212")
 
 abbrev pub rule8 : Sheet → Bool
 rule8 s = (s ⟨ 60 ⟩ is "0" || foreignCode (s ⟨ 60 ⟩)) || inn (s ⟨ 60 ⟩)
@@ -76,16 +76,16 @@ abbrev pub rule12 : Sheet → Bool
 rule12 s = kpp (s ⟨ 103 ⟩)
 
 abbrev pub rule13 : Sheet → Bool
-rule13 s = s ⟨ 104 ⟩ is "0" || digitsNotZero 20 (s ⟨ 104 ⟩)
+rule13 s = s ⟨ 104 ⟩ is "0" || kbk (s ⟨ 104 ⟩)
 
 abbrev pub rule14 : Sheet → Bool
-rule14 s = s ⟨ 105 ⟩ is "0" || digitsNotZero 8 (s ⟨ 105 ⟩)
+rule14 s = s ⟨ 105 ⟩ is "0" || oktmo (s ⟨ 105 ⟩)
 
 abbrev pub rule15 : Sheet → Bool
 rule15 s = (s ⟨ 106 ⟩ is "0" || s ⟨ 106 ⟩ is "00") || letterPair (s ⟨ 106 ⟩)
 
 abbrev pub rule16 : Sheet → Bool
-rule16 s = s ⟨ 107 ⟩ is "0" || digits 8 (s ⟨ 107 ⟩)
+rule16 s = s ⟨ 107 ⟩ is "0" || office (s ⟨ 107 ⟩)
 
 abbrev pub rule17 : Sheet → Bool
 rule17 s = document (s ⟨ 108 ⟩)
@@ -123,8 +123,8 @@ rule26 s = status s "31 33" ⇒ s ⟨ 108 ⟩ is "0"
 
 abbrev pub rule27 : Sheet → Bool
 rule27 s =
-    (digits 12 (s ⟨ 60 ⟩) ⇒ s ⟨ 102 ⟩ is "0")
-    && ((digits 5 (s ⟨ 60 ⟩) ⇒ not (s ⟨ 102 ⟩ is "0")) && (digits 10 (s ⟨ 60 ⟩) ⇒ not (s ⟨ 102 ⟩ is "0") || status s "01"))
+    (digits12 (s ⟨ 60 ⟩) ⇒ s ⟨ 102 ⟩ is "0")
+    && ((digits5 (s ⟨ 60 ⟩) ⇒ not (s ⟨ 102 ⟩ is "0")) && (digits10 (s ⟨ 60 ⟩) ⇒ not (s ⟨ 102 ⟩ is "0") || status s "01"))
 
 abbrev pub rule28 : Sheet → Bool
 rule28 s = s ⟨ 17 ⟩ begins "03100" ⇒ not (s ⟨ 104 ⟩ is "0")
@@ -136,7 +136,7 @@ abbrev pub rule29 : Sheet → Bool
 rule29 s = not (customs s) ⇒ s ⟨ 106 ⟩ is "0"
 
 abbrev pub rule30 : Sheet → Bool
-rule30 s = (customs s ⇒ digits 8 (s ⟨ 107 ⟩)) && (not (customs s) ⇒ s ⟨ 107 ⟩ is "0")
+rule30 s = (customs s ⇒ office (s ⟨ 107 ⟩)) && (not (customs s) ⇒ s ⟨ 107 ⟩ is "0")
 
 abbrev pub rule31 : Sheet → Bool
 rule31 s = not (customs s) ⇒ s ⟨ 109 ⟩ is "0"

@@ -15,8 +15,7 @@ use Rattle.texts.specs.Buffers.{put, putAt}
 use Rattle.texts.proofs.Bools.{both}
 use Rattle.texts.proofs.Puts.{put-fits, length-put, take-put, drop-put, mid-put}
 use Rattle.sheets.specs.Sheet.{Sheet, cell, cellText, cellOf, textOf, given}
-use Rattle.sheets.specs.Forms.{inn10, kpp}
-use Rattle.texts.specs.Texts.{digits, digitsNotZero}
+use Rattle.sheets.specs.Forms.{inn10, kpp, kbk, oktmo, office}
 use Rattle.sheets.specs.Facts.{generalOf, accountOf, codeOf, payerOf, formOf, fixed, headOf, sidesOf, restOf, standingOf, basisOf, documentOf, dayOf, factsOf, Read}
 use Rattle.sheets.specs.Entries.{statusTexts, basisTexts, zeroTexts, filledAt, statusAt, basisAt, documentAt, dayAt, withAll}
 use Rattle.sheets.specs.declared.facts.Standing.{Standing}
@@ -144,9 +143,9 @@ factsBy T =
           };
       rest =
           record {
-            kbk = formOf (T 9) (digitsNotZero 20 (T 9));
-            oktmo = formOf (T 10) (digitsNotZero 8 (T 10));
-            office = formOf (T 12) (digits 8 (T 12));
+            kbk = formOf (T 9) (kbk (T 9));
+            oktmo = formOf (T 10) (oktmo (T 10));
+            office = formOf (T 12) (office (T 12));
           };
       status = standingOf (T 6);
       basis = basisOf (T 11);

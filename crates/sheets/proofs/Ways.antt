@@ -10,10 +10,10 @@ use borrow.Author.Tests.{eq-eqb, ne-eqb}
 use lib.Dec.{eqb, leb}
 use lib.ListN.{length}
 use Rattle.texts.specs.Quoted.{Text}
-use Rattle.texts.specs.Texts.{any, are, among, between, same, digits, number, _is_}
+use Rattle.texts.specs.Texts.{any, are, among, between, same, number, _is_}
 use Rattle.texts.proofs.Arms.{AnyOf, arm, outside}
 use Rattle.sheets.specs.Sheet.{textOf}
-use Rattle.sheets.specs.Forms.{foreignCode, inn10, inn12, person, leap, monthDays, gregorian, date}
+use Rattle.sheets.specs.Forms.{foreignCode, inn10, inn12, digits5, digits10, digits12, person, leap, monthDays, gregorian, date}
 use Rattle.sheets.specs.Facts.{payerOf, isA, isB, accountOf, groupsBy, standingOf, wantedBy, basisOf, documentOf, dayOf, headOf, sidesOf, restOf, factsOf, Read}
 use Rattle.sheets.specs.declared.forms.Wanted.{Wanted}
 use Rattle.sheets.specs.declared.forms.Wanted.the-variants.{Any, Inn, Ten, Twelve, Zero}
@@ -127,7 +127,7 @@ facts-is s h d r a b c y t u v w eh ed er et ea eu eb ev ec ew ey l =
     record { size = l; facts = λ i. record { head = eh i; sides = ed i; rest = er i; status = fa i; basis = fb i; document = fc i; day = fy i } }
 
 -- payer_of
-pub payer-is : (t : Text) (a b c d e f g : Bool) → a ≡ (t is "0") → b ≡ foreignCode t → c ≡ inn10 t → d ≡ inn12 t → e ≡ digits 5 t → f ≡ digits 10 t → g ≡ digits 12 t
+pub payer-is : (t : Text) (a b c d e f g : Bool) → a ≡ (t is "0") → b ≡ foreignCode t → c ≡ inn10 t → d ≡ inn12 t → e ≡ digits5 t → f ≡ digits10 t → g ≡ digits12 t
     → record { zero = a; foreign = b; inn10 = c; inn12 = d; five = e; ten = f; twelve = g } ≡ payerOf t
 unfolding payerOf
 payer-is t a b c d e f g ha hb hc hd he hf hg =

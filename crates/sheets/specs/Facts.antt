@@ -7,9 +7,9 @@ use Prim.Native.Nat.{ℕ}
 use lib.Dec.{eqb}
 use lib.ListN.{length}
 use Rattle.texts.specs.Quoted.{Text}
-use Rattle.texts.specs.Texts.{every, among, between, blank, _is_, _isOneOf_, _begins_, _beginsOneOf_, digits, digitsNotZero, number}
+use Rattle.texts.specs.Texts.{every, among, between, blank, _is_, _isOneOf_, _begins_, _beginsOneOf_, number}
 use Rattle.sheets.specs.Sheet.{sheetSize, textOf, Sheet, given}
-use Rattle.sheets.specs.Forms.{uin, foreignCode, inn10, inn12, kpp, statuses, customsGroup, letterPair, person, document, date}
+use Rattle.sheets.specs.Forms.{bik, account, uin, code4, foreignCode, inn10, inn12, digits5, digits10, digits12, kpp, kbk, oktmo, office, statuses, customsGroup, letterPair, person, document, date}
 use Rattle.sheets.specs.declared.forms.Wanted.{Wanted}
 use Rattle.sheets.specs.declared.forms.Wanted.the-variants.{Any, Inn, Ten, Twelve, Zero}
 use Rattle.sheets.specs.declared.facts.General.{General}
@@ -31,8 +31,7 @@ use Rattle.sheets.specs.declared.facts.Facts.{Facts}
 
 -- 14, 15 and 17
 unfoldable pub generalOf : Text → Text → Text → General
-generalOf bik bank account =
-    record { bik = digits 9 bik; bank = blank bank || digits 20 bank; account = digits 20 account }
+generalOf t u v = record { bik = bik t; bank = blank u || account u; account = account v }
 
 -- class A and B, by the numbers that the accounts begin with
 unfoldable pub isA : ℕ → ℕ → Bool
@@ -59,7 +58,7 @@ accountOf bik bank account =
 
 -- 22, 60
 unfoldable pub codeOf : Text → Code
-codeOf t = record { zero = t is "0"; uin = uin t; four = digitsNotZero 4 t }
+codeOf t = record { zero = t is "0"; uin = uin t; four = code4 t }
 
 unfoldable pub payerOf : Text → Payer
 payerOf t =
@@ -68,9 +67,9 @@ payerOf t =
       foreign = foreignCode t;
       inn10 = inn10 t;
       inn12 = inn12 t;
-      five = digits 5 t;
-      ten = digits 10 t;
-      twelve = digits 12 t;
+      five = digits5 t;
+      ten = digits10 t;
+      twelve = digits12 t;
     }
 
 -- 102, 104, 105, 107: "0" or a full form
@@ -147,9 +146,9 @@ sidesOf s =
 unfoldable pub restOf : Sheet → Rest
 restOf s =
     record {
-      kbk = formOf (textOf s 9) (digitsNotZero 20 (textOf s 9));
-      oktmo = formOf (textOf s 10) (digitsNotZero 8 (textOf s 10));
-      office = formOf (textOf s 12) (digits 8 (textOf s 12));
+      kbk = formOf (textOf s 9) (kbk (textOf s 9));
+      oktmo = formOf (textOf s 10) (oktmo (textOf s 10));
+      office = formOf (textOf s 12) (office (textOf s 12));
     }
 
 unfoldable pub factsOf : Sheet → Facts

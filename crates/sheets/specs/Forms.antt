@@ -6,16 +6,26 @@ use Prim.Native.String.{String}
 use lib.Dec.{leb, eqb}
 use lib.ListN.{length}
 use Rattle.texts.specs.Quoted.{Text}
-use Rattle.texts.specs.Texts.{every, among, between, _is_, _isOneOf_, digitsNotZero, digitsNot00, number}
+use Rattle.texts.specs.Texts.{every, among, between, _is_, _isOneOf_, digits, digitsNotZero, digitsNot00, number}
 
 infixr 25 _⇒_
 -- if the first, then the second
 abbrev pub _⇒_ : Bool → Bool → Bool
 a ⇒ b = not a || b
 
--- 22: "20 or 25 digits not all zero (a UIN)"
+-- 14: "nine digits"; 15, 17: "20 digits"
+abbrev pub bik : Text → Bool
+bik t = digits 9 t
+
+abbrev pub account : Text → Bool
+account t = digits 20 t
+
+-- 22: "20 or 25 digits not all zero (a UIN)"; "four digits not all zero"
 abbrev pub uin : Text → Bool
 uin t = digitsNotZero 20 t || digitsNotZero 25 t
+
+abbrev pub code4 : Text → Bool
+code4 t = digitsNotZero 4 t
 
 -- 60: "5 digits not all zero (a foreign code); 10 or 12 digits not beginning 00 (an INN)"
 abbrev pub foreignCode : Text → Bool
@@ -30,9 +40,29 @@ inn12 t = digitsNot00 12 t
 abbrev pub inn : Text → Bool
 inn t = inn10 t || inn12 t
 
+-- rule 27: "60 of 12 digits; of 5; of 10"
+abbrev pub digits5 : Text → Bool
+digits5 t = digits 5 t
+
+abbrev pub digits10 : Text → Bool
+digits10 t = digits 10 t
+
+abbrev pub digits12 : Text → Bool
+digits12 t = digits 12 t
+
 -- 102, 103: "nine digits not beginning 00"
 abbrev pub kpp : Text → Bool
 kpp t = digitsNot00 9 t
+
+-- 104: "20 digits not all zero"; 105: "8 digits not all zero"; 107: "8 digits"
+abbrev pub kbk : Text → Bool
+kbk t = digitsNotZero 20 t
+
+abbrev pub oktmo : Text → Bool
+oktmo t = digitsNotZero 8 t
+
+abbrev pub office : Text → Bool
+office t = digits 8 t
 
 -- rule 10's list, in its order
 abbrev pub statuses : String

@@ -1,24 +1,33 @@
 // What the rules ask of a sheet, found once: each field's text is read into a few facts, and a rule is a test of facts.
 ghost use mathlib.Core.Path.{_≡_};
 ghost use lib.ListN.{length};
-ghost use Rattle.texts.specs.Texts.{every, digits, digitsNotZero};
-ghost use Rattle.sheets.specs.Forms.{kpp};
+ghost use Rattle.texts.specs.Texts.{every};
 ghost use Rattle.sheets.specs.Sheet.{given};
 ghost use Rattle.sheets.specs.Facts.{generalOf, isA, isB, accountOf, codeOf, payerOf, formOf, groupsBy, standingOf, basisOf, documentOf, dayOf, fixed, headOf, sidesOf, restOf, Read};
 use crate::forms::Status;
 use crate::forms::Wanted;
+use crate::forms::is_account;
+use crate::forms::is_bik;
+use crate::forms::is_code4;
 use crate::forms::is_date;
+use crate::forms::is_digits5;
+use crate::forms::is_digits10;
+use crate::forms::is_digits12;
 use crate::forms::is_document;
+use crate::forms::is_foreign_code;
+use crate::forms::is_inn10;
+use crate::forms::is_inn12;
+use crate::forms::is_kbk;
+use crate::forms::is_kpp;
 use crate::forms::is_letter_pair;
+use crate::forms::is_office;
+use crate::forms::is_oktmo;
 use crate::forms::is_person;
 use crate::forms::is_uin;
 use crate::forms::wanted_by;
 use crate::sheet::SHEET_SIZE;
 use crate::sheet::text;
 use texts::texts::equals;
-use texts::texts::has_digits;
-use texts::texts::has_digits_not_00;
-use texts::texts::has_digits_not_zero;
 use texts::texts::is_among;
 use texts::texts::is_listed;
 use texts::texts::number_2;
@@ -200,9 +209,9 @@ fn general_of<'a>(bik: &'a [u8], bank: &'a [u8], account: &'a [u8]) -> General
     ensures { λ r. ⌜ r ≡ generalOf (now (bik .entry)) (now (bank .entry)) (now (account .entry)) ⌝ }
 {
     General {
-        bik: has_digits(bik, 9),
-        bank: (bank.len() == 0) | has_digits(bank, 20),
-        account: has_digits(account, 20),
+        bik: is_bik(bik),
+        bank: (bank.len() == 0) | is_account(bank),
+        account: is_account(account),
     }
 }
 
@@ -240,7 +249,7 @@ fn code_of(t: &[u8]) -> Code
     Code {
         zero: equals(t, b"0"),
         uin: is_uin(t),
-        four: has_digits_not_zero(t, 4),
+        four: is_code4(t),
     }
 }
 
@@ -249,48 +258,21 @@ fn payer_of(t: &[u8]) -> Payer
 {
     Payer {
         zero: equals(t, b"0"),
-        foreign: has_digits_not_zero(t, 5),
-        inn10: has_digits_not_00(t, 10),
-        inn12: has_digits_not_00(t, 12),
-        five: has_digits(t, 5),
-        ten: has_digits(t, 10),
-        twelve: has_digits(t, 12),
+        foreign: is_foreign_code(t),
+        inn10: is_inn10(t),
+        inn12: is_inn12(t),
+        five: is_digits5(t),
+        ten: is_digits10(t),
+        twelve: is_digits12(t),
     }
 }
 
-fn kpp_of(t: &[u8]) -> Form
-    ensures { λ r. ⌜ r ≡ formOf (now (t .entry)) (kpp (now (t .entry))) ⌝ }
+fn form_of(t: &[u8], full: bool) -> Form
+    ensures { λ r. ⌜ r ≡ formOf (now (t .entry)) full ⌝ }
 {
     Form {
         zero: equals(t, b"0"),
-        full: has_digits_not_00(t, 9),
-    }
-}
-
-fn kbk_of(t: &[u8]) -> Form
-    ensures { λ r. ⌜ r ≡ formOf (now (t .entry)) (digitsNotZero 20 (now (t .entry))) ⌝ }
-{
-    Form {
-        zero: equals(t, b"0"),
-        full: has_digits_not_zero(t, 20),
-    }
-}
-
-fn oktmo_of(t: &[u8]) -> Form
-    ensures { λ r. ⌜ r ≡ formOf (now (t .entry)) (digitsNotZero 8 (now (t .entry))) ⌝ }
-{
-    Form {
-        zero: equals(t, b"0"),
-        full: has_digits_not_zero(t, 8),
-    }
-}
-
-fn office_of(t: &[u8]) -> Form
-    ensures { λ r. ⌜ r ≡ formOf (now (t .entry)) (digits 8 (now (t .entry))) ⌝ }
-{
-    Form {
-        zero: equals(t, b"0"),
-        full: has_digits(t, 8),
+        full: full,
     }
 }
 
@@ -396,9 +378,10 @@ fn sides_of(sheet: &[u8]) -> Sides
 {
     let code = code_of(text(sheet, 3));
     let payer = payer_of(text(sheet, 4));
-    let payee = has_digits_not_00(text(sheet, 5), 10);
-    let kpp = kpp_of(text(sheet, 7));
-    let payeekpp = has_digits_not_00(text(sheet, 8), 9);
+    let payee = is_inn10(text(sheet, 5));
+    let t = text(sheet, 7);
+    let kpp = form_of(t, is_kpp(t));
+    let payeekpp = is_kpp(text(sheet, 8));
     Sides {
         code: code,
         payer: payer,
@@ -411,13 +394,13 @@ fn sides_of(sheet: &[u8]) -> Sides
 fn rest_of(sheet: &[u8]) -> Rest
     ensures { λ r. ⌜ r ≡ restOf (now (sheet .entry)) ⌝ }
 {
-    let kbk = kbk_of(text(sheet, 9));
-    let oktmo = oktmo_of(text(sheet, 10));
-    let office = office_of(text(sheet, 12));
+    let kbk = text(sheet, 9);
+    let oktmo = text(sheet, 10);
+    let office = text(sheet, 12);
     Rest {
-        kbk: kbk,
-        oktmo: oktmo,
-        office: office,
+        kbk: form_of(kbk, is_kbk(kbk)),
+        oktmo: form_of(oktmo, is_oktmo(oktmo)),
+        office: form_of(office, is_office(office)),
     }
 }
 

@@ -1,9 +1,11 @@
 // The forms of texts that several rules ask for.
 ghost use mathlib.Core.Path.{_≡_};
 ghost use Rattle.texts.specs.Texts.{every};
-ghost use Rattle.sheets.specs.Forms.{uin, letterPair, person, allowed, document, leap, monthDays, gregorian, date};
+ghost use Rattle.sheets.specs.Forms.{bik, account, uin, code4, foreignCode, inn10, inn12, digits5, digits10, digits12, kpp, kbk, oktmo, office, letterPair, person, allowed, document, leap, monthDays, gregorian, date};
 ghost use Rattle.sheets.specs.Facts.{wantedBy};
 use texts::texts::equals;
+use texts::texts::has_digits;
+use texts::texts::has_digits_not_00;
 use texts::texts::has_digits_not_zero;
 use texts::texts::is_among;
 use texts::texts::number_2;
@@ -46,10 +48,88 @@ const PERSON_TYPES: [u8; 21] = [
     30,
 ];
 
+pub(crate) fn is_bik(t: &[u8]) -> bool
+    ensures { λ r. ⌜ r ≡ bik (now (t .entry)) ⌝ }
+{
+    has_digits(t, 9)
+}
+
+pub(crate) fn is_account(t: &[u8]) -> bool
+    ensures { λ r. ⌜ r ≡ account (now (t .entry)) ⌝ }
+{
+    has_digits(t, 20)
+}
+
 pub(crate) fn is_uin(t: &[u8]) -> bool
     ensures { λ r. ⌜ r ≡ uin (now (t .entry)) ⌝ }
 {
     has_digits_not_zero(t, 20) | has_digits_not_zero(t, 25)
+}
+
+pub(crate) fn is_code4(t: &[u8]) -> bool
+    ensures { λ r. ⌜ r ≡ code4 (now (t .entry)) ⌝ }
+{
+    has_digits_not_zero(t, 4)
+}
+
+pub(crate) fn is_foreign_code(t: &[u8]) -> bool
+    ensures { λ r. ⌜ r ≡ foreignCode (now (t .entry)) ⌝ }
+{
+    has_digits_not_zero(t, 5)
+}
+
+pub fn is_inn10(t: &[u8]) -> bool
+    ensures { λ r. ⌜ r ≡ inn10 (now (t .entry)) ⌝ }
+{
+    has_digits_not_00(t, 10)
+}
+
+pub fn is_inn12(t: &[u8]) -> bool
+    ensures { λ r. ⌜ r ≡ inn12 (now (t .entry)) ⌝ }
+{
+    has_digits_not_00(t, 12)
+}
+
+pub(crate) fn is_digits5(t: &[u8]) -> bool
+    ensures { λ r. ⌜ r ≡ digits5 (now (t .entry)) ⌝ }
+{
+    has_digits(t, 5)
+}
+
+pub(crate) fn is_digits10(t: &[u8]) -> bool
+    ensures { λ r. ⌜ r ≡ digits10 (now (t .entry)) ⌝ }
+{
+    has_digits(t, 10)
+}
+
+pub(crate) fn is_digits12(t: &[u8]) -> bool
+    ensures { λ r. ⌜ r ≡ digits12 (now (t .entry)) ⌝ }
+{
+    has_digits(t, 12)
+}
+
+pub fn is_kpp(t: &[u8]) -> bool
+    ensures { λ r. ⌜ r ≡ kpp (now (t .entry)) ⌝ }
+{
+    has_digits_not_00(t, 9)
+}
+
+pub(crate) fn is_kbk(t: &[u8]) -> bool
+    ensures { λ r. ⌜ r ≡ kbk (now (t .entry)) ⌝ }
+{
+    has_digits_not_zero(t, 20)
+}
+
+pub(crate) fn is_oktmo(t: &[u8]) -> bool
+    ensures { λ r. ⌜ r ≡ oktmo (now (t .entry)) ⌝ }
+{
+    has_digits_not_zero(t, 8)
+}
+
+pub(crate) fn is_office(t: &[u8]) -> bool
+    ensures { λ r. ⌜ r ≡ office (now (t .entry)) ⌝ }
+{
+    has_digits(t, 8)
 }
 
 // УВ, ИЛ, ПБ, ТГ, ТБ, ТД, ПВ, ИН, ПК, КЭ.
