@@ -28,7 +28,7 @@ use Rattle.drafts.specs.Promises.{Reads, Left, Freshens, Stands, newer a
 use Rattle.drafts.specs.declared.revision.Revision.{Revision}
 use Rattle.drafts.specs.declared.revision.Standing.{Standing}
 use Rattle.drafts.specs.declared.revision.Standing.the-variants.{Newer, Same, Older, Clash}
-use Rattle.drafts.specs.declared.message.Refusal.{Refusal}
+use Rattle.texts.specs.declared.answers.Refusal.{Refusal}
 use Rattle.drafts.specs.declared.message.Reading.{Reading}
 use Rattle.drafts.specs.declared.message.Reading.the-variants.{Message, Refused}
 use Rattle.drafts.specs.declared.draft.Begun.the-variants as begun

@@ -6,6 +6,7 @@ ghost use Rattle.drafts.specs.Promises.{Reads, Writes};
 use crate::revision::Revision;
 use sheets::sheet::Field;
 use sheets::sheet::slot_of;
+use texts::answers::Refusal;
 use texts::buffers::put;
 use texts::numbers::bytes_of_4;
 use texts::numbers::number_of_2;
@@ -15,9 +16,6 @@ use texts::texts::part;
 
 // The bytes before a message's text.
 pub const HEAD_SIZE: usize = 8;
-
-// The number of a refusal, in the table "Answers other than success".
-pub struct Refusal(pub u8);
 
 pub enum Reading {
     Message(Field, Revision),

@@ -21,7 +21,7 @@ use Rattle.drafts.specs.Draft.{draftFormed, sheetOf, copyTests, copyingOf, copi
 use Rattle.drafts.specs.Promises.{Copies}
 use Rattle.drafts.specs.declared.draft.Copied.{Copied}
 use Rattle.drafts.specs.declared.draft.Copied.the-variants as copied
-use Rattle.drafts.specs.declared.message.Refusal.{Refusal}
+use Rattle.texts.specs.declared.answers.Refusal.{Refusal}
 use Rattle.orders.specs.Fillings.{Look, found, none, firstFilling}
 use Rattle.orders.specs.Search.{Payment, firstPick}
 use Rattle.orders.specs.Found.{pickOf, foundOf}

@@ -7,7 +7,6 @@ use crate::search::Found;
 use crate::search::search;
 use drafts::draft::Copied;
 use drafts::draft::copy;
-use drafts::message::Refusal;
 use rules::Rule;
 use rules::broken_basic;
 use rules::field_of;
@@ -15,6 +14,7 @@ use rules::is_budget;
 use sheets::facts::facts_of;
 use sheets::sheet::Field;
 use sheets::sheet::SHEET_SIZE;
+use texts::answers::Refusal;
 use texts::buffers::put;
 
 // The first filling with its count, the set of filled slots and how many bits are set; 10 with the count of all; 8; 1, 7 or 9.

@@ -18,7 +18,7 @@ use Rattle.sheets.specs.declared.sheet.Field.{Field}
 use Rattle.drafts.specs.Draft.{freshDraft, postingOf, postedTo}
 use Rattle.drafts.specs.History.{postedAll}
 use Rattle.drafts.specs.Promises.{Freshens}
-use Rattle.drafts.specs.declared.message.Refusal.{Refusal}
+use Rattle.texts.specs.declared.answers.Refusal.{Refusal}
 use Rattle.drafts.specs.declared.draft.Begun.{Begun}
 use Rattle.orders.specs.Complete.{completing, completed, completeAnswer}
 use Rattle.orders.specs.Whole.{Completes}

@@ -13,7 +13,7 @@ use Rattle.texts.specs.Buffers.{put, putAt}
 use Rattle.texts.proofs.Puts.{put-fits, put-put, length-put}
 use Rattle.sheets.specs.Sheet.{fieldIn, cellText, cellOf, textOf}
 use Rattle.drafts.specs.Draft.{postAnswer}
-use Rattle.drafts.specs.declared.message.Refusal.{Refusal}
+use Rattle.texts.specs.declared.answers.Refusal.{Refusal}
 use Rattle.drafts.specs.declared.draft.Posted.{Posted}
 use Rattle.drafts.specs.declared.draft.Posted.the-variants as posted
 use Rattle.report.specs.Lines.{decimal, item, space, newline, line, Wrote}

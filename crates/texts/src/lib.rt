@@ -1,4 +1,5 @@
 // Byte texts and lent buffers: what every layer above asks of them. Each function takes any arguments.
+pub mod answers;
 pub mod buffers;
 pub mod numbers;
 pub mod texts;
