@@ -22,7 +22,7 @@ use Rattle.sheets.specs.Sheet.{cell, slotOf}
 use Rattle.sheets.specs.declared.sheet.Field.{Field}
 use Rattle.texts.specs.Answers.{Answer, success, refusal, numberOf, _refuses_, passes, answerBy}
 use Rattle.drafts.specs.Message.{Bytes, IsMessage, fieldOf, revisionOf, messageText, readTests, readable, readingOf, readAnswer}
-use Rattle.drafts.specs.Draft.{slotSize, draftSize, standing, slotIn, slotRevision, slotCell, slotText, slotBytes, draftFormed, freshDraft, beginTests, beginningOf, begunFrom, slotStanding, standingOf, clashes, word, kept, postTests, postingOf, stored, postedTo, postAnswer, cells, sheetOf, copyTests, copyingOf, copiedTo, copyAnswer}
+use Rattle.drafts.specs.Draft.{slotSize, draftSize, standing, slotIn, slotRevision, slotCell, slotText, slotBytes, slotWith, draftFormed, freshDraft, beginTests, beginningOf, begunFrom, slotStanding, standingOf, clashes, word, kept, postTests, postingOf, stored, postedTo, postAnswer, cells, sheetOf, copyTests, copyingOf, copiedTo, copyAnswer}
 use Rattle.drafts.specs.History.{postedFrom, postedAll}
 use Rattle.drafts.specs.Promises.{Reads, Left, Freshens, Stands, newer as is-newer, same as is-same, older as is-older, clash as is-clash, Posts, Copies}
 use Rattle.drafts.specs.declared.revision.Revision.{Revision}
@@ -229,7 +229,7 @@ module _ (d m : List ℕ) (h : (k : ℕ) → Fits w8 (getD m k 0)) (b : Bool) (e
         stood = est ∙ rw (es, slot-is, found .2, et)
 
         pub post-newer : (e : List ℕ) → st ≡ Newer → e ≡ putAt d (k * slotSize) (slotBytes (v .number) t) → Posts d m posted.Newer e
-        unfolding stored
+        unfolding stored slotWith
         post-newer e q w =
             let p = post-read d m Newer formed (found .0) (sym q ∙ stood) in
             let R = readable-means m (found .0) in

@@ -1,5 +1,5 @@
--- What each slot holds after a list of postings: the highest revision given to it, with the text of the first message that has
--- this revision. Assumes nothing.
+-- What each slot holds after a list of postings: the first message of the highest rank among those that name its field.
+-- Assumes nothing.
 use mathlib.Core.Path.{_≡_, refl, sym, ap, _∙_, subst}
 use mathlib.Core.Logic.{_⊎_, inl, inr, ⊎-elim}
 use mathlib.Core.Bool.{Bool, true, false, cond, not, _&&_, true≢false}
@@ -10,24 +10,24 @@ use borrow.Author.Tests.{lt-ltb, le-ltb, ltb-true, ltb-false, eq-eqb, ne-eqb, eq
 use lib.Dec.{eqb, ltb, eqb·suc-zero}
 use lib.ListN.{length, take, drop, replicate, length-replicate, replicate-append-replicate}
 use lib.Seq.{take-at}
-use Rattle.texts.specs.Texts.{between, every, are, same}
+use Rattle.texts.specs.Texts.{between, every, are}
 use Rattle.texts.proofs.Bools.{both}
 use Rattle.sheets.specs.Sheet.{slotOf, cellText, cellOk}
 use Rattle.texts.specs.Answers.{_refuses_, answerBy, bufferBy}
-use Rattle.drafts.specs.Message.{Bytes, fieldOf, revisionOf, messageText, readTests, readable}
-use Rattle.drafts.specs.Draft.{slotSize, draftSize, slotIn, slotRevision, slotCell, slotText, slotBytes, slotFormed, draftFormed, freshDraft, standing, slotStanding, standingOf, clashes, word, kept, postTests, postingOf, stored, postedTo}
-use Rattle.drafts.specs.History.{postedFrom, postedAll, names, given, highest, firstText, emptySlot, endSlot, Ends, none, won, AllBytes}
+use Rattle.drafts.specs.Message.{Bytes, fieldOf, readTests, readable}
+use Rattle.drafts.specs.Draft.{slotSize, draftSize, slotIn, slotCell, slotText, slotFormed, rankOf, slotRank, slotWith, draftFormed, freshDraft, standingOf, clashes, word, kept, postTests, postingOf, stored, postedTo}
+use Rattle.drafts.specs.History.{postedFrom, postedAll, names, rankIn, highest, firstOf, emptySlot, endSlot, Ends, none, won, AllBytes}
 use Rattle.drafts.specs.declared.revision.Standing.{Standing}
-use Rattle.drafts.specs.declared.revision.Standing.the-variants.{Newer, Same, Older, Clash}
 use Rattle.texts.proofs.Refusals.{fails, more}
-use Rattle.drafts.proofs.Messages.{readable-means, text-short}
-use Rattle.drafts.proofs.Slots.{drop-zeros, length-slot, slot-revision, slot-formed, slot-part, length-put-slot, slot-same, slot-other, Formed, formed-by, slot-le}
+use Rattle.drafts.proofs.Messages.{readable-means}
+use Rattle.drafts.proofs.Ranks.{rank-above, length-with, rank-with, with-formed, empty-rank, rank-kept}
+use Rattle.drafts.proofs.Slots.{drop-zeros, slot-part, length-put-slot, slot-same, slot-other, Formed, formed-by, slot-le}
 
 pub tested : (b : Bool) → (b ≡ true) ⊎ (b ≡ false)
 tested true = inl refl
 tested false = inr refl
 
--- ---- the revision that a message gives a slot
+-- ---- the rank of a message in a slot
 
 module _ (i : ℕ) (m : List ℕ) where
   pub names-read : names i m ≡ true → readable m ≡ true
@@ -42,39 +42,25 @@ module _ (i : ℕ) (m : List ℕ) where
   unfolding names
   names-not t z e = true≢false (sym (rw (z, eq-eqb (slotOf (fieldOf m)) i (sym e))) ∙ t)
 
-  pub given-named : names i m ≡ true → given i m ≡ revisionOf m
-  unfolding given
-  given-named t = rw t
+  pub rank-named : names i m ≡ true → rankIn i m ≡ rankOf m
+  unfolding rankIn
+  rank-named t = rw t
 
-  given-other : names i m ≡ false → given i m ≡ 0
-  unfolding given
-  given-other t = rw t
+  rank-other : names i m ≡ false → rankIn i m ≡ 0
+  unfolding rankIn
+  rank-other t = rw t
 
-  pub gives : 0 < given i m → names i m ≡ true
-  gives h = ⊎-elim (λ (t : names i m ≡ true). t) (λ (t : names i m ≡ false). absurd (omega (arith, given-other t))) (tested (names i m))
+  pub ranked : 0 < rankIn i m → names i m ≡ true
+  ranked h = ⊎-elim (λ (t : names i m ≡ true). t) (λ (t : names i m ≡ false). absurd (omega (arith, rank-other t))) (tested (names i m))
 
-  named-gives : names i m ≡ true → 0 < given i m
-  named-gives t = let R = readable-means m (names-read t) in let z = R .revised in omega (arith, given-named t)
-
-  given-fits : Bytes m → given i m < 2 ^ 32
-  given-fits b =
-      ⊎-elim (λ (t : names i m ≡ true). omega (arith, given-named t, b 4, b 5, b 6, b 7)) (λ (t : names i m ≡ false). omega (arith, given-other t)) (tested (names i m))
+  named-ranks : names i m ≡ true → 0 < rankIn i m
+  named-ranks t = omega (arith, rank-above m (names-read t), rank-named t)
 
 -- ---- one posting
 
 cond-map : {A B : Type 0} (f : A → B) (b : Bool) (x y : A) → f (cond b x y) ≡ cond b (f x) (f y)
 cond-map f true x y = refl
 cond-map f false x y = refl
-
--- only a newer message changes the draft
-stand-kept : (r h : ℕ) (b : Bool) (new old : List ℕ) → bufferBy ((clashes (standing r h b) refuses 6) ∷ []) (kept (standing r h b) new old) old ≡ cond (ltb h r) new old
-stand-kept r h b new old = by (ltb h r) (ltb r h) b
-  where
-    by : (x y b : Bool) → let st = cond x Newer (cond y Older (cond b Same Clash)) in bufferBy ((clashes st refuses 6) ∷ []) (kept st new old) old ≡ cond x new old
-    by true y b = refl
-    by false true b = refl
-    by false false true = refl
-    by false false false = refl
 
 -- a readable message against a well-formed draft: what is left to test is the clash
 pub post-read : (d m : List ℕ) (st : Standing) → draftFormed d ≡ true → readable m ≡ true → st ≡ standingOf d m
@@ -94,34 +80,29 @@ module _ (d m : List ℕ) where
       unchanged false = refl
 
   posted-read : Formed d → readable m ≡ true
-      → postedTo d m ≡ cond (ltb (slotRevision (slotIn d (slotOf (fieldOf m)))) (revisionOf m)) (stored d m) d
-  unfolding standingOf slotStanding
-  posted-read f z = sym (post-read d m (standingOf d m) (formed-by d f) z refl .1)
-      ∙ stand-kept (revisionOf m) (slotRevision (slotIn d (slotOf (fieldOf m)))) (same (slotText (slotIn d (slotOf (fieldOf m)))) (messageText m)) (stored d m) d
+      → postedTo d m ≡ cond (ltb (slotRank (slotIn d (slotOf (fieldOf m)))) (rankOf m)) (stored d m) d
+  posted-read f z = sym (post-read d m (standingOf d m) (formed-by d f) z refl .1) ∙ rank-kept d m (stored d m)
 
   module _ (f : Formed d) (z : readable m ≡ true) where
     slot-below : slotOf (fieldOf m) < 15
     slot-below = let n = readable-means m z .listed in omega (arith, slot-le (fieldOf m))
 
-    long : length (slotBytes (revisionOf m) (messageText m)) ≡ slotSize
-    long = length-slot (revisionOf m) (messageText m) (text-short m z)
-
-    stored-own : slotIn (stored d m) (slotOf (fieldOf m)) ≡ slotBytes (revisionOf m) (messageText m)
+    stored-own : slotIn (stored d m) (slotOf (fieldOf m)) ≡ slotWith m
     unfolding stored
-    stored-own = slot-same d (f .sized) _ long (slotOf (fieldOf m)) slot-below
+    stored-own = slot-same d (f .sized) _ (length-with m z) (slotOf (fieldOf m)) slot-below
 
     stored-other : (i : ℕ) → (i ≡ slotOf (fieldOf m) → ⊥) → slotIn (stored d m) i ≡ slotIn d i
     unfolding stored
-    stored-other i n = slot-other d (f .sized) _ long (slotOf (fieldOf m)) slot-below i n
+    stored-other i n = slot-other d (f .sized) _ (length-with m z) (slotOf (fieldOf m)) slot-below i n
 
     length-stored : length (stored d m) ≡ draftSize
     unfolding stored
-    length-stored = length-put-slot d (f .sized) _ long (slotOf (fieldOf m)) slot-below
+    length-stored = length-put-slot d (f .sized) _ (length-with m z) (slotOf (fieldOf m)) slot-below
 
   posted-sized : Formed d → length (postedTo d m) ≡ draftSize
   posted-sized f =
       ⊎-elim
-      (λ (z : readable m ≡ true). rw (posted-read f z, cond-map length, length-stored f z, f .sized) (alike (ltb (slotRevision (slotIn d (slotOf (fieldOf m)))) (revisionOf m))))
+      (λ (z : readable m ≡ true). rw (posted-read f z, cond-map length, length-stored f z, f .sized) (alike (ltb (slotRank (slotIn d (slotOf (fieldOf m)))) (rankOf m))))
       (λ (z : readable m ≡ false). rw (posted-unread z) (f .sized))
       (tested (readable m))
     where
@@ -132,22 +113,22 @@ module _ (d m : List ℕ) where
   -- what one posting does to slot i
   module _ (f : Formed d) (i : ℕ) where
     pub Step : Type 0
-    Step = slotIn (postedTo d m) i ≡ cond (ltb (slotRevision (slotIn d i)) (given i m)) (slotBytes (given i m) (messageText m)) (slotIn d i)
+    Step = slotIn (postedTo d m) i ≡ cond (ltb (slotRank (slotIn d i)) (rankIn i m)) (slotWith m) (slotIn d i)
 
     step-named : names i m ≡ true → Step
     unfolding Step
     step-named t =
         let z = names-read i m t in
         let e = names-slot i m t in
-        rw (posted-read f z, given-named i m t, cond-map (λ (x : List ℕ). slotIn x i), ← e, stored-own f z)
+        rw (posted-read f z, rank-named i m t, cond-map (λ (x : List ℕ). slotIn x i), ← e, stored-own f z)
 
     step-other : names i m ≡ false → Step
     unfolding Step
     step-other t =
-        rw (given-other i m t, le-ltb (slotRevision (slotIn d i)) 0 (omega arith))
+        rw (rank-other i m t, le-ltb (slotRank (slotIn d i)) 0 (omega arith))
         (⊎-elim
         (λ (z : readable m ≡ true).
-        rw (posted-read f z, cond-map (λ (x : List ℕ). slotIn x i), stored-other f z i (names-not i m t z)) (alike (ltb (slotRevision (slotIn d (slotOf (fieldOf m)))) (revisionOf m))))
+        rw (posted-read f z, cond-map (λ (x : List ℕ). slotIn x i), stored-other f z i (names-not i m t z)) (alike (ltb (slotRank (slotIn d (slotOf (fieldOf m)))) (rankOf m))))
         (λ (z : readable m ≡ false). rw (posted-unread z))
         (tested (readable m)))
       where
@@ -155,7 +136,7 @@ module _ (d m : List ℕ) where
         alike true = refl
         alike false = refl
 
-    step : slotIn (postedTo d m) i ≡ cond (ltb (slotRevision (slotIn d i)) (given i m)) (slotBytes (given i m) (messageText m)) (slotIn d i)
+    step : slotIn (postedTo d m) i ≡ cond (ltb (slotRank (slotIn d i)) (rankIn i m)) (slotWith m) (slotIn d i)
     unfolding Step
     step = ⊎-elim step-named step-other (tested (names i m))
 
@@ -166,18 +147,18 @@ module _ (d m : List ℕ) where
         λ i l.
         rw (step f i)
         (⊎-elim
-        (λ (t : ltb (slotRevision (slotIn d i)) (given i m) ≡ true).
-        let p : 0 < given i m = omega (arith, ltb-true (slotRevision (slotIn d i)) (given i m) t) in
-        rw t (slot-formed (given i m) (messageText m) (given-fits i m b) (λ e. omega arith) (text-short m (names-read i m (gives i m p)))))
-        (λ (t : ltb (slotRevision (slotIn d i)) (given i m) ≡ false). rw t (f .slot i l))
-        (tested (ltb (slotRevision (slotIn d i)) (given i m))));
+        (λ (t : ltb (slotRank (slotIn d i)) (rankIn i m) ≡ true).
+        let p : 0 < rankIn i m = omega (arith, ltb-true (slotRank (slotIn d i)) (rankIn i m) t) in
+        rw t (with-formed m (names-read i m (ranked i m p)) b))
+        (λ (t : ltb (slotRank (slotIn d i)) (rankIn i m) ≡ false). rw t (f .slot i l))
+        (tested (ltb (slotRank (slotIn d i)) (rankIn i m))));
   }
 
 -- ---- the list
 
--- by whether the slot's revision r is below what the first message gives, b, and below the highest of the others, t
+-- by whether the slot's rank r is below that of the first message v, b, and below the highest of the others, t
 module _ (r b t : ℕ) (v s : List ℕ) (F : ℕ → List ℕ) where
-  raised : r < b → cond (ltb b t) (slotBytes t (F t)) (slotBytes b v) ≡ cond (ltb r (max b t)) (slotBytes (max b t) (cond (eqb b (max b t)) v (F (max b t)))) s
+  raised : r < b → cond (ltb b t) (slotWith (F t)) (slotWith v) ≡ cond (ltb r (max b t)) (slotWith (cond (eqb b (max b t)) v (F (max b t)))) s
   raised h =
       ⊎-elim
       (λ (k : ltb b t ≡ true).
@@ -190,7 +171,7 @@ module _ (r b t : ℕ) (v s : List ℕ) (F : ℕ → List ℕ) where
       rw (e, k, lt-ltb r b h, eq-eqb b b refl))
       (tested (ltb b t))
 
-  unraised : b ≤ r → cond (ltb r t) (slotBytes t (F t)) s ≡ cond (ltb r (max b t)) (slotBytes (max b t) (cond (eqb b (max b t)) v (F (max b t)))) s
+  unraised : b ≤ r → cond (ltb r t) (slotWith (F t)) s ≡ cond (ltb r (max b t)) (slotWith (cond (eqb b (max b t)) v (F (max b t)))) s
   unraised h =
       ⊎-elim
       (λ (k : ltb r t ≡ true).
@@ -212,21 +193,22 @@ from-formed d (m ∷ ms) f b = from-formed (postedTo d m) ms (posted-formed d m 
 -- slot i after a list of postings, from any draft
 module _ (i : ℕ) where
   ended : (d : List ℕ) (ms : List (List ℕ)) → Formed d → AllBytes ms
-      → slotIn (postedFrom d ms) i ≡ cond (ltb (slotRevision (slotIn d i)) (highest i ms)) (slotBytes (highest i ms) (firstText i (highest i ms) ms)) (slotIn d i)
-  ended d [] f b = rw (le-ltb (slotRevision (slotIn d i)) 0 (omega arith))
+      → slotIn (postedFrom d ms) i ≡ cond (ltb (slotRank (slotIn d i)) (highest i ms)) (slotWith (firstOf i (highest i ms) ms)) (slotIn d i)
+  ended d [] f b = rw (le-ltb (slotRank (slotIn d i)) 0 (omega arith))
   ended d (m ∷ ms) f b =
       let bm = b m (List·Memᴰ·head refl) in
       let s = step d m f i in
-      let F : ℕ → List ℕ = λ (r : ℕ). firstText i r ms in
+      let F : ℕ → List ℕ = λ (r : ℕ). firstOf i r ms in
       ended (postedTo d m) ms (posted-formed d m f bm) (bytes-tail m ms b)
       ∙ ⊎-elim
-      (λ (h : ltb (slotRevision (slotIn d i)) (given i m) ≡ true).
-      rw (s, h, slot-revision (given i m) (messageText m) (given-fits i m bm))
-      (raised (slotRevision (slotIn d i)) (given i m) (highest i ms) (messageText m) (slotIn d i) F (ltb-true _ _ h)))
-      (λ (h : ltb (slotRevision (slotIn d i)) (given i m) ≡ false).
+      (λ (h : ltb (slotRank (slotIn d i)) (rankIn i m) ≡ true).
+      let l = ltb-true (slotRank (slotIn d i)) (rankIn i m) h in
+      let n = ranked i m (omega arith) in
+      rw (s, h, rank-with m (names-read i m n) bm, ← rank-named i m n) (raised (slotRank (slotIn d i)) (rankIn i m) (highest i ms) m (slotIn d i) F l))
+      (λ (h : ltb (slotRank (slotIn d i)) (rankIn i m) ≡ false).
       rw (s, h)
-      (unraised (slotRevision (slotIn d i)) (given i m) (highest i ms) (messageText m) (slotIn d i) F (ltb-false _ _ h)))
-      (tested (ltb (slotRevision (slotIn d i)) (given i m)))
+      (unraised (slotRank (slotIn d i)) (rankIn i m) (highest i ms) m (slotIn d i) F (ltb-false _ _ h)))
+      (tested (ltb (slotRank (slotIn d i)) (rankIn i m)))
 
 -- ---- from a fresh draft
 
@@ -246,10 +228,6 @@ empty-formed : slotFormed emptySlot ≡ true
 unfolding emptySlot slotFormed slotText slotCell cellOk cellText between every are
 empty-formed = refl
 
-empty-revision : slotRevision emptySlot ≡ 0
-unfolding emptySlot
-empty-revision = refl
-
 fresh-sized : length freshDraft ≡ draftSize
 unfolding freshDraft
 fresh-sized = refl
@@ -257,7 +235,7 @@ fresh-sized = refl
 fresh-formed : Formed freshDraft
 fresh-formed = record { sized = fresh-sized; slot = λ i l. rw (fresh-slot i l) empty-formed }
 
-last : (H : ℕ) (t s : List ℕ) → cond (ltb 0 H) (slotBytes H t) s ≡ cond (eqb H 0) s (slotBytes H t)
+last : (H : ℕ) (t s : List ℕ) → cond (ltb 0 H) t s ≡ cond (eqb H 0) s t
 last zero t s = refl
 last (suc n) t s = rw (lt-ltb 0 (suc n) (omega arith), eqb·suc-zero n)
 
@@ -269,7 +247,7 @@ module _ (ms : List (List ℕ)) (b : AllBytes ms) where
 
   pub all-slot : (i : ℕ) → i < 15 → slotIn (postedAll ms) i ≡ endSlot i ms
   unfolding postedAll endSlot
-  all-slot i l = ended i freshDraft ms fresh-formed b ∙ rw (fresh-slot i l, empty-revision) (last (highest i ms) (firstText i (highest i ms) ms) emptySlot)
+  all-slot i l = ended i freshDraft ms fresh-formed b ∙ rw (fresh-slot i l, empty-rank) (last (highest i ms) (slotWith (firstOf i (highest i ms) ms)) emptySlot)
 
 -- ---- the message that wins
 
@@ -278,19 +256,19 @@ pub record Top (i : ℕ) (ms : List (List ℕ)) : Type 0 where
   pub after : List (List ℕ)
   pub m : List ℕ
   pub split : ms ≡ before ++ m ∷ after
-  pub top : given i m ≡ highest i ms
-  pub lower : (a : List ℕ) → List·Memᴰ a before → given i a < highest i ms
-  pub first : firstText i (highest i ms) ms ≡ messageText m
+  pub top : rankIn i m ≡ highest i ms
+  pub lower : (a : List ℕ) → List·Memᴰ a before → rankIn i a < highest i ms
+  pub first : firstOf i (highest i ms) ms ≡ m
 
-bound : (i : ℕ) (ms : List (List ℕ)) (a : List ℕ) → List·Memᴰ a ms → given i a ≤ highest i ms
+bound : (i : ℕ) (ms : List (List ℕ)) (a : List ℕ) → List·Memᴰ a ms → rankIn i a ≤ highest i ms
 bound i [] a h = absurd (List·Memᴰ·not-nil h)
 bound i (m ∷ ms) a h =
     let ih = bound i ms a in
-    ⊎-elim (λ (e : a ≡ m). omega (arith, ap (given i) e)) (λ (k : List·Memᴰ a ms). omega (arith, ih k)) (List·Memᴰ·cases-cons h)
+    ⊎-elim (λ (e : a ≡ m). omega (arith, ap (rankIn i) e)) (λ (k : List·Memᴰ a ms). omega (arith, ih k)) (List·Memᴰ·cases-cons h)
 
-top-tail : (i : ℕ) (m : List ℕ) (ms : List (List ℕ)) → given i m < highest i ms → Top i ms → Top i (m ∷ ms)
+top-tail : (i : ℕ) (m : List ℕ) (ms : List (List ℕ)) → rankIn i m < highest i ms → Top i ms → Top i (m ∷ ms)
 top-tail i m ms g w =
-    let e : max (given i m) (highest i ms) ≡ highest i ms = omega arith in
+    let e : max (rankIn i m) (highest i ms) ≡ highest i ms = omega arith in
     record {
       before = m ∷ w .before;
       after = w .after;
@@ -300,15 +278,15 @@ top-tail i m ms g w =
       lower =
           λ a q.
           ⊎-elim
-          (λ (p : a ≡ m). omega (arith, ap (given i) p))
+          (λ (p : a ≡ m). omega (arith, ap (rankIn i) p))
           (λ (p : List·Memᴰ a (w .before)). omega (arith, w .lower a p))
           (List·Memᴰ·cases-cons q);
-      first = rw (e, ne-eqb (given i m) (highest i ms) (λ q. omega arith)) (w .first);
+      first = rw (e, ne-eqb (rankIn i m) (highest i ms) (λ q. omega arith)) (w .first);
     }
 
-top-head : (i : ℕ) (m : List ℕ) (ms : List (List ℕ)) → highest i ms ≤ given i m → Top i (m ∷ ms)
+top-head : (i : ℕ) (m : List ℕ) (ms : List (List ℕ)) → highest i ms ≤ rankIn i m → Top i (m ∷ ms)
 top-head i m ms g =
-    let e : max (given i m) (highest i ms) ≡ given i m = omega arith in
+    let e : max (rankIn i m) (highest i ms) ≡ rankIn i m = omega arith in
     record {
       before = [];
       after = ms;
@@ -316,7 +294,7 @@ top-head i m ms g =
       split = refl;
       top = sym e;
       lower = λ a q. absurd (List·Memᴰ·not-nil q);
-      first = rw (e, eq-eqb (given i m) (given i m) refl);
+      first = rw (e, eq-eqb (rankIn i m) (rankIn i m) refl);
     }
 
 pub top-at : (i : ℕ) (ms : List (List ℕ)) → 0 < highest i ms → Top i ms
@@ -324,22 +302,22 @@ top-at i [] h = absurd (omega arith)
 top-at i (m ∷ ms) h =
     let ih = top-at i ms in
     ⊎-elim
-    (λ (k : ltb (given i m) (highest i ms) ≡ true). let g = ltb-true _ _ k in top-tail i m ms g (ih (omega arith)))
-    (λ (k : ltb (given i m) (highest i ms) ≡ false). top-head i m ms (ltb-false _ _ k))
-    (tested (ltb (given i m) (highest i ms)))
+    (λ (k : ltb (rankIn i m) (highest i ms) ≡ true). let g = ltb-true _ _ k in top-tail i m ms g (ih (omega arith)))
+    (λ (k : ltb (rankIn i m) (highest i ms) ≡ false). top-head i m ms (ltb-false _ _ k))
+    (tested (ltb (rankIn i m) (highest i ms)))
 
 none-named : (i : ℕ) (ms : List (List ℕ)) → highest i ms ≡ 0 → (a : List ℕ) → List·Memᴰ a ms → names i a ≡ false
 none-named i ms z a h =
-    ⊎-elim (λ (t : names i a ≡ true). absurd (omega (arith, named-gives i a t, bound i ms a h))) (λ (t : names i a ≡ false). t) (tested (names i a))
+    ⊎-elim (λ (t : names i a ≡ true). absurd (omega (arith, named-ranks i a t, bound i ms a h))) (λ (t : names i a ≡ false). t) (tested (names i a))
 
-won-by : (i : ℕ) (ms : List (List ℕ)) → 0 < highest i ms → Top i ms → Ends i ms (slotBytes (highest i ms) (firstText i (highest i ms) ms))
+won-by : (i : ℕ) (ms : List (List ℕ)) → 0 < highest i ms → Top i ms → Ends i ms (slotWith (firstOf i (highest i ms) ms))
 won-by i ms p w =
-    let n : names i (w .m) ≡ true = gives i (w .m) (omega (arith, w .top)) in
-    let r : highest i ms ≡ revisionOf (w .m) = sym (w .top) ∙ given-named i (w .m) n in
+    let n : names i (w .m) ≡ true = ranked i (w .m) (omega (arith, w .top)) in
+    let r : highest i ms ≡ rankOf (w .m) = sym (w .top) ∙ rank-named i (w .m) n in
     won (w .before) (w .after) (w .m) (w .split) n
-    (λ a q t. omega (arith, w .lower a q, r, given-named i a t))
-    (λ a q t. omega (arith, bound i ms a (subst (List·Memᴰ a) (sym (w .split)) (Memᴰ·append-right (w .before) (List·Memᴰ·tail q))), r, given-named i a t))
-    (rw (w .first, r))
+    (λ a q t. omega (arith, w .lower a q, r, rank-named i a t))
+    (λ a q t. omega (arith, bound i ms a (subst (List·Memᴰ a) (sym (w .split)) (Memᴰ·append-right (w .before) (List·Memᴰ·tail q))), r, rank-named i a t))
+    (rw (w .first))
 
 pub ends-right : (i : ℕ) (ms : List (List ℕ)) → Ends i ms (endSlot i ms)
 unfolding endSlot

@@ -10,8 +10,8 @@ use Rattle.texts.specs.Answers.{Answer, success, refusal, numberOf}
 use Rattle.texts.specs.Buffers.{put}
 use Rattle.sheets.specs.Sheet.{slotOf, cell, cellText, cellOk}
 use Rattle.drafts.specs.Message.{messageText, readTests, readable, readingOf, headOf, messageOf, writeTests, writingOf, writtenOf}
-use Rattle.drafts.specs.Draft.{slotIn, slotCell, slotText, slotBytes, slotFormed, slotsFormed, draftFormed, freshDraft, slotStanding, standingOf, postTests, postingOf, stored, postedTo}
-use Rattle.drafts.specs.History.{names, given, emptySlot, endSlot}
+use Rattle.drafts.specs.Draft.{slotIn, slotCell, slotText, slotBytes, rankOf, slotWith, slotFormed, slotsFormed, draftFormed, freshDraft, slotStanding, standingOf, postTests, postingOf, stored, postedTo}
+use Rattle.drafts.specs.History.{names, rankIn, emptySlot, endSlot}
 
 -- 00 0A 01 0E 00 00 00 01 30 30 34 35
 bik : List ℕ
@@ -28,7 +28,7 @@ posts = refl
 -- a later message of the same revision and another text changes nothing; one of revision 2 and no text blanks the field
 ends : map (endSlot 0) ((bik ∷ messageOf 14 1 (bytes "1") ∷ []) ∷ (messageOf 14 2 [] ∷ bik ∷ []) ∷ (messageOf 15 1 [] ∷ []) ∷ [])
     ≡ slotBytes 1 (bytes "0045") ∷ slotBytes 2 [] ∷ emptySlot ∷ []
-unfolding bik endSlot given names readable readTests slotOf messageOf headOf messageText
+unfolding bik endSlot rankIn names rankOf slotWith readable readTests slotOf messageOf headOf messageText
 ends = refl
 
 text : ℕ → List ℕ
@@ -98,7 +98,7 @@ fields-slots = refl
 
 -- posted to a fresh draft, a message of field 17 stands in the third slot, byte for byte
 field-posted : postedTo freshDraft (seven 17) ≡ replicate 60 0 ++ (0 ∷ 0 ∷ 1 ∷ 2 ∷ 1 ∷ 55 ∷ []) ++ replicate 384 0
-unfolding seven postedTo postTests readTests slotOf freshDraft draftFormed slotsFormed slotFormed slotIn slotCell slotText cellOk cellText between every are standingOf slotStanding same messageText stored slotBytes cell put
+unfolding seven postedTo postTests readTests slotOf freshDraft draftFormed slotsFormed slotFormed slotIn slotCell slotText cellOk cellText between every are standingOf slotStanding same messageText stored slotWith slotBytes cell put
 field-posted = refl
 
 -- ---- drafts, well formed and malformed

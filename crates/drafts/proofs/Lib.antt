@@ -1,5 +1,6 @@
 pub mod Messages
 pub mod Slots
+pub mod Ranks
 pub mod Ending
 pub mod Perms
 pub mod Sheets

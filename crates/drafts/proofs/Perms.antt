@@ -1,4 +1,4 @@
--- The order of posting does not count where no two readable messages of one field and revision differ in text.
+-- The order of posting does not count where no two readable messages of one field and rank differ in text.
 -- Assumes nothing.
 use mathlib.Core.Path.{_≡_, refl, sym, ap, ap₂, _∙_, subst}
 use mathlib.Core.Logic.{⊎-elim}
@@ -11,13 +11,14 @@ use lib.Dec.{eqb}
 use lib.ListN.{length, getD}
 use lib.Seq.{ext-getD, getD-take, getD-drop}
 use Rattle.sheets.specs.Sheet.{fields, placeOf, slotOf}
-use Rattle.drafts.specs.Message.{fieldOf, revisionOf, readable}
-use Rattle.drafts.specs.Draft.{slotSize, draftSize, slotIn}
-use Rattle.drafts.specs.History.{postedAll, names, given, highest, firstText, endSlot, AllBytes, NoClash}
+use Rattle.drafts.specs.Message.{fieldOf, readable}
+use Rattle.drafts.specs.Draft.{slotSize, draftSize, slotIn, rankOf, slotWith}
+use Rattle.drafts.specs.History.{postedAll, names, rankIn, highest, firstOf, endSlot, AllBytes, NoClash}
 use Rattle.drafts.specs.Promises.{Left, Held}
 use Rattle.drafts.proofs.Messages.{readable-means}
 use Rattle.drafts.proofs.Slots.{slot-part, slot-le, formed-by}
-use Rattle.drafts.proofs.Ending.{tested, names-read, names-slot, given-named, gives, Top, top-at, all-formed, all-slot, ends-right}
+use Rattle.drafts.proofs.Ranks.{with-same}
+use Rattle.drafts.proofs.Ending.{tested, names-read, names-slot, rank-named, ranked, Top, top-at, all-formed, all-slot, ends-right}
 
 -- ---- a draft is its slots
 
@@ -66,25 +67,25 @@ perm-mem (List·Permᴰ·trans p q) h = perm-mem q (perm-mem p h)
 
 highest-perm : (i : ℕ) {ms ns : List (List ℕ)} → List·Permᴰ ms ns → highest i ms ≡ highest i ns
 highest-perm i List·Permᴰ·nil = refl
-highest-perm i (List·Permᴰ·cons e p) = ap₂ max (ap (given i) e) (highest-perm i p)
-highest-perm i (List·Permᴰ·swap e₁ e₂) = omega (arith, ap (given i) e₁, ap (given i) e₂)
+highest-perm i (List·Permᴰ·cons e p) = ap₂ max (ap (rankIn i) e) (highest-perm i p)
+highest-perm i (List·Permᴰ·swap e₁ e₂) = omega (arith, ap (rankIn i) e₁, ap (rankIn i) e₂)
 highest-perm i (List·Permᴰ·trans p q) = highest-perm i p ∙ highest-perm i q
 
 module _ (ms ns : List (List ℕ)) (agree : NoClash ms) (p : List·Permᴰ ms ns) (i : ℕ) where
   member : {l : List (List ℕ)} (w : Top i l) → List·Memᴰ (w .m) l
   member w = subst (List·Memᴰ (w .m)) (sym (w .split)) (Memᴰ·append-right (w .before) (List·Memᴰ·head refl))
 
-  text-perm : 0 < highest i ms → Top i ms → Top i ns → firstText i (highest i ms) ms ≡ firstText i (highest i ns) ns
-  text-perm h v w =
+  first-perm : 0 < highest i ms → Top i ms → Top i ns → slotWith (firstOf i (highest i ms) ms) ≡ slotWith (firstOf i (highest i ns) ns)
+  first-perm h v w =
       let e : highest i ms ≡ highest i ns = highest-perm i p in
-      let a : names i (v .m) ≡ true = gives i (v .m) (omega (arith, v .top)) in
-      let b : names i (w .m) ≡ true = gives i (w .m) (omega (arith, w .top)) in
+      let a : names i (v .m) ≡ true = ranked i (v .m) (omega (arith, v .top)) in
+      let b : names i (w .m) ≡ true = ranked i (w .m) (omega (arith, w .top)) in
       let ra = names-read i (v .m) a in
       let rb = names-read i (w .m) b in
       let f : fieldOf (v .m) ≡ fieldOf (w .m) =
       sym (field-at (v .m) ra) ∙ ap (λ (k : ℕ). getD fields k 0) (names-slot i (v .m) a ∙ sym (names-slot i (w .m) b)) ∙ field-at (w .m) rb in
-      let r : revisionOf (v .m) ≡ revisionOf (w .m) = omega (arith, v .top, w .top, given-named i (v .m) a, given-named i (w .m) b) in
-      v .first ∙ agree (v .m) (w .m) (member v) (perm-mem (Permᴰ·symm p) (member w)) ra rb f r ∙ sym (w .first)
+      let r : rankOf (v .m) ≡ rankOf (w .m) = omega (arith, v .top, w .top, rank-named i (v .m) a, rank-named i (w .m) b) in
+      rw (v .first, w .first) (with-same (v .m) (w .m) r (agree (v .m) (w .m) (member v) (perm-mem (Permᴰ·symm p) (member w)) ra rb f r))
 
   end-perm : endSlot i ms ≡ endSlot i ns
   unfolding endSlot
@@ -94,7 +95,7 @@ module _ (ms ns : List (List ℕ)) (agree : NoClash ms) (p : List·Permᴰ ms ns
       (λ (t : eqb (highest i ms) 0 ≡ true). rw (t, rw e at t))
       (λ (t : eqb (highest i ms) 0 ≡ false).
       let z : highest i ms ≡ 0 → ⊥ = eqb-false (highest i ms) 0 t in
-      rw (t, rw e at t, text-perm (omega arith) (top-at i ms (omega arith)) (top-at i ns (omega arith)), e))
+      rw (t, rw e at t, first-perm (omega arith) (top-at i ms (omega arith)) (top-at i ns (omega arith))))
       (tested (eqb (highest i ms) 0))
 
 all-perm : (ms ns : List (List ℕ)) → AllBytes ms → NoClash ms → List·Permᴰ ms ns → postedAll ns ≡ postedAll ms

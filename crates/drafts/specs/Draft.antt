@@ -43,6 +43,17 @@ slotText s = cellText (slotCell s)
 unfoldable pub slotBytes : ℕ → Text → List ℕ
 slotBytes r t = bytes4 r ++ cell t
 
+-- what wins is the higher rank: a message's is its revision, and 0, that of a slot never given, is none's
+unfoldable pub rankOf : List ℕ → ℕ
+rankOf m = revisionOf m
+
+unfoldable pub slotRank : List ℕ → ℕ
+slotRank s = slotRevision s
+
+-- the slot that holds the message m
+unfoldable pub slotWith : List ℕ → List ℕ
+slotWith m = slotBytes (revisionOf m) (messageText m)
+
 -- "Malformed: another size, a length above 25, a nonzero pad byte; in a draft also revision 0 with a text"
 unfoldable pub slotFormed : List ℕ → Bool
 slotFormed s = cellOk (slotCell s) && not (eqb (slotRevision s) 0 && not (blank (slotText s)))
@@ -111,7 +122,7 @@ postingOf d m = answerBy (postTests d m) (word (standingOf d m))
 
 -- the draft with the message in its field's slot
 unfoldable pub stored : List ℕ → List ℕ → List ℕ
-stored d m = put d (slotOf (fieldOf m) * slotSize) (slotBytes (revisionOf m) (messageText m))
+stored d m = put d (slotOf (fieldOf m) * slotSize) (slotWith m)
 
 unfoldable pub postedTo : List ℕ → List ℕ → List ℕ
 postedTo d m = bufferBy (postTests d m) (kept (standingOf d m) (stored d m) d) d

@@ -6,10 +6,9 @@ use mathlib.Core.List.{List, [], _∷_, _++_, List·Memᴰ}
 use Prim.Native.Nat.{ℕ, _<_, _≤_, max}
 use lib.Dec.{eqb}
 use lib.ListN.{replicate}
-use Rattle.texts.specs.Quoted.{Text}
 use Rattle.sheets.specs.Sheet.{slotOf}
-use Rattle.drafts.specs.Message.{Bytes, fieldOf, revisionOf, messageText, readable}
-use Rattle.drafts.specs.Draft.{slotSize, slotBytes, freshDraft, postedTo}
+use Rattle.drafts.specs.Message.{Bytes, fieldOf, messageText, readable}
+use Rattle.drafts.specs.Draft.{slotSize, rankOf, slotWith, freshDraft, postedTo}
 
 -- "The first posting gets a fresh draft, each later one the draft as the posting before left it"
 abbrev pub postedFrom : List ℕ → List (List ℕ) → List ℕ
@@ -23,29 +22,29 @@ postedAll ms = postedFrom freshDraft ms
 unfoldable pub names : ℕ → List ℕ → Bool
 names i m = readable m && eqb (slotOf (fieldOf m)) i
 
--- the revision that m gives slot i; 0, which no readable message has, where it does not name its field
-unfoldable pub given : ℕ → List ℕ → ℕ
-given i m = cond (names i m) (revisionOf m) 0
+-- the rank of m in slot i; 0, which no readable message has, where m does not name its field
+unfoldable pub rankIn : ℕ → List ℕ → ℕ
+rankIn i m = cond (names i m) (rankOf m) 0
 
 -- "the highest revision among the readable messages that name its field"
 abbrev pub highest : ℕ → List (List ℕ) → ℕ
 highest i [] = 0
-highest i (m ∷ ms) = max (given i m) (highest i ms)
+highest i (m ∷ ms) = max (rankIn i m) (highest i ms)
 
--- "with the text of the first in the list that has this revision"
-abbrev pub firstText : ℕ → ℕ → List (List ℕ) → Text
-firstText i r [] = []
-firstText i r (m ∷ ms) = cond (eqb (given i m) r) (messageText m) (firstText i r ms)
+-- "the first in the list that has this revision"
+abbrev pub firstOf : ℕ → ℕ → List (List ℕ) → List ℕ
+firstOf i r [] = []
+firstOf i r (m ∷ ms) = cond (eqb (rankIn i m) r) m (firstOf i r ms)
 
 -- "it is all zero if none names the field"
 unfoldable pub emptySlot : List ℕ
 emptySlot = replicate slotSize 0
 
 unfoldable pub endSlot : ℕ → List (List ℕ) → List ℕ
-endSlot i ms = cond (eqb (highest i ms) 0) emptySlot (slotBytes (highest i ms) (firstText i (highest i ms) ms))
+endSlot i ms = cond (eqb (highest i ms) 0) emptySlot (slotWith (firstOf i (highest i ms) ms))
 
 -- the same with no function: none names the field of slot i and the slot is all zero; or m stands in the list and names it,
--- every earlier one that names it has a lower revision, and no later one a higher, and the slot holds m's revision and text
+-- every earlier one that names it has a lower rank (revision), and no later one a higher, and the slot holds m's revision and text
 pub data Ends (i : ℕ) (ms : List (List ℕ)) (slot : List ℕ) : Type 0 where
   none : ((a : List ℕ) → List·Memᴰ a ms → names i a ≡ false) → slot ≡ emptySlot → Ends i ms slot
   won :
@@ -53,16 +52,16 @@ pub data Ends (i : ℕ) (ms : List (List ℕ)) (slot : List ℕ) : Type 0 where
       (m : List ℕ)
       → ms ≡ before ++ m ∷ after
       → names i m ≡ true
-      → ((a : List ℕ) → List·Memᴰ a before → names i a ≡ true → revisionOf a < revisionOf m)
-      → ((a : List ℕ) → List·Memᴰ a after → names i a ≡ true → revisionOf a ≤ revisionOf m)
-      → slot ≡ slotBytes (revisionOf m) (messageText m)
+      → ((a : List ℕ) → List·Memᴰ a before → names i a ≡ true → rankOf a < rankOf m)
+      → ((a : List ℕ) → List·Memᴰ a after → names i a ≡ true → rankOf a ≤ rankOf m)
+      → slot ≡ slotWith m
       → Ends i ms slot
 
 -- every message of a list is a byte string
 abbrev pub AllBytes : List (List ℕ) → Type 0
 AllBytes ms = (m : List ℕ) → List·Memᴰ m ms → Bytes m
 
--- no two readable messages of one field and revision differ in text
+-- no two readable messages of one field and rank (revision) differ in text
 abbrev pub NoClash : List (List ℕ) → Type 0
 NoClash ms =
     (a b : List ℕ)
@@ -71,5 +70,5 @@ NoClash ms =
     → readable a ≡ true
     → readable b ≡ true
     → fieldOf a ≡ fieldOf b
-    → revisionOf a ≡ revisionOf b
+    → rankOf a ≡ rankOf b
     → messageText a ≡ messageText b

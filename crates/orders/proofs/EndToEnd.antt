@@ -15,7 +15,7 @@ use Rattle.sheets.specs.Forms.{person, document, leap, monthDays, gregorian, da
 use Rattle.rules.specs.Rules.{classOf, firstBlank, rules, testOf, fieldOf, keeps, firstNot}
 use Rattle.rules.specs.Verdicts.{checkTests, checked}
 use Rattle.drafts.specs.Message.{messageText, readTests, headOf, messageOf}
-use Rattle.drafts.specs.Draft.{slotIn, slotCell, slotText, slotBytes, slotFormed, slotsFormed, draftFormed, freshDraft, slotStanding, standingOf, postTests, stored, postedTo, cells, sheetOf}
+use Rattle.drafts.specs.Draft.{slotIn, slotCell, slotText, slotBytes, slotWith, slotFormed, slotsFormed, draftFormed, freshDraft, slotStanding, standingOf, postTests, stored, postedTo, cells, sheetOf}
 use Rattle.drafts.specs.History.{postedAll}
 use Rattle.orders.specs.Fillings.{listOf, toFill, firstFilling}
 use Rattle.orders.specs.Complete.{setOf, budgetPayment, completing, completed}
@@ -116,7 +116,7 @@ computed :
     × (setOf foreign ≡ 31816)
     × (tally (toFill foreign) slots ≡ 7)
     × (checked filling ≡ success (bytes "A"))
-unfolding order zeros draft blanks filling foreign sheet postedAll messageOf headOf messageText readTests every any are among same between value valueOf number _isOneOf_ _beginsOneOf_ put slotOf cell cellText cellOk cellOf textOf slotOk _⟨_⟩ given person document leap monthDays gregorian date slotIn slotCell slotText slotBytes slotFormed slotsFormed draftFormed freshDraft slotStanding standingOf postTests stored postedTo cells sheetOf classOf firstBlank rules testOf fieldOf keeps firstNot checkTests checked listOf toFill setOf budgetPayment
+unfolding order zeros draft blanks filling foreign sheet postedAll messageOf headOf messageText readTests every any are among same between value valueOf number _isOneOf_ _beginsOneOf_ put slotOf cell cellText cellOk cellOf textOf slotOk _⟨_⟩ given person document leap monthDays gregorian date slotIn slotCell slotText slotBytes slotWith slotFormed slotsFormed draftFormed freshDraft slotStanding standingOf postTests stored postedTo cells sheetOf classOf firstBlank rules testOf fieldOf keeps firstNot checkTests checked listOf toFill setOf budgetPayment
 computed = (refl, refl, refl, refl, refl, refl, refl, refl)
 
 -- the draft that the messages leave is a budget payment, and completing it fills 22, 101 and 105 to 109

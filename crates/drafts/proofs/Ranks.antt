@@ -1,0 +1,62 @@
+-- The rank of a message and of a slot, which decides what a slot holds: all that the account of a list of postings asks of it.
+-- Assumes nothing.
+use mathlib.Core.Path.{_≡_, refl}
+use mathlib.Core.Bool.{Bool, true, false, cond}
+use mathlib.Core.List.{List, [], _∷_}
+use Prim.Native.Nat.{ℕ, _^_, _<_}
+use native.Mathlib.Omega.{arith}
+use lib.Dec.{ltb}
+use lib.ListN.{length}
+use Rattle.texts.specs.Texts.{same}
+use Rattle.texts.specs.Answers.{_refuses_, bufferBy}
+use Rattle.sheets.specs.Sheet.{slotOf}
+use Rattle.drafts.specs.Message.{Bytes, fieldOf, revisionOf, messageText, readable}
+use Rattle.drafts.specs.Draft.{slotSize, slotIn, slotRevision, slotText, slotFormed, rankOf, slotRank, slotWith, slotStanding, standingOf, clashes, kept}
+use Rattle.drafts.specs.History.{emptySlot}
+use Rattle.drafts.specs.declared.revision.Standing.the-variants.{Newer, Same, Older, Clash}
+use Rattle.drafts.proofs.Messages.{readable-means, text-short}
+use Rattle.drafts.proofs.Slots.{length-slot, slot-revision, slot-formed}
+
+-- ---- a readable message m, and the slot that holds it
+
+module _ (m : List ℕ) (z : readable m ≡ true) where
+  pub rank-above : 0 < rankOf m
+  unfolding rankOf
+  rank-above = let n = readable-means m z .revised in omega arith
+
+  pub length-with : length (slotWith m) ≡ slotSize
+  unfolding slotWith
+  length-with = length-slot (revisionOf m) (messageText m) (text-short m z)
+
+  module _ (b : Bytes m) where
+    fits : revisionOf m < 2 ^ 32
+    fits = omega (arith, b 4, b 5, b 6, b 7)
+
+    pub rank-with : slotRank (slotWith m) ≡ rankOf m
+    unfolding rankOf slotRank slotWith
+    rank-with = slot-revision (revisionOf m) (messageText m) fits
+
+    pub with-formed : slotFormed (slotWith m) ≡ true
+    unfolding slotWith
+    with-formed = slot-formed (revisionOf m) (messageText m) fits (readable-means m z .revised) (text-short m z)
+
+-- messages of one rank and one text make one slot
+pub with-same : (a b : List ℕ) → rankOf a ≡ rankOf b → messageText a ≡ messageText b → slotWith a ≡ slotWith b
+unfolding rankOf slotWith
+with-same a b r t = rw (r, t)
+
+pub empty-rank : slotRank emptySlot ≡ 0
+unfolding slotRank emptySlot
+empty-rank = refl
+
+-- only a message of a higher rank changes the draft
+pub rank-kept : (d m new : List ℕ)
+    → bufferBy ((clashes (standingOf d m) refuses 6) ∷ []) (kept (standingOf d m) new d) d ≡ cond (ltb (slotRank (slotIn d (slotOf (fieldOf m)))) (rankOf m)) new d
+unfolding rankOf slotRank standingOf slotStanding
+rank-kept d m new = let s = slotIn d (slotOf (fieldOf m)) in by (ltb (slotRevision s) (revisionOf m)) (ltb (revisionOf m) (slotRevision s)) (same (slotText s) (messageText m))
+  where
+    by : (x y b : Bool) → let st = cond x Newer (cond y Older (cond b Same Clash)) in bufferBy ((clashes st refuses 6) ∷ []) (kept st new d) d ≡ cond x new d
+    by true y b = refl
+    by false true b = refl
+    by false false true = refl
+    by false false false = refl
