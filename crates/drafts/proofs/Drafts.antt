@@ -18,11 +18,11 @@ use Rattle.texts.proofs.Codes.{same-true, same-self}
 use Rattle.texts.specs.Numbers.{bytes4}
 use Rattle.texts.specs.Buffers.{put, putAt, zeroed}
 use Rattle.texts.proofs.Puts.{put-fits, length-put, put-put, put-none, put-next, put-whole}
-use Rattle.sheets.specs.Sheet.{cell, slotOf}
+use Rattle.sheets.specs.Sheet.{cellSize, sheetSize, cell, slotOf}
 use Rattle.sheets.specs.declared.sheet.Field.{Field}
 use Rattle.texts.specs.Answers.{Answer, success, refusal, numberOf, _refuses_, passes, answerBy}
-use Rattle.drafts.specs.Message.{Bytes, IsMessage, fieldOf, revisionOf, messageText, readTests, readable, readingOf, readAnswer}
-use Rattle.drafts.specs.Draft.{slotSize, draftSize, standing, slotIn, slotRevision, slotCell, slotText, slotBytes, slotWith, draftFormed, freshDraft, beginTests, beginningOf, begunFrom, slotStanding, standingOf, clashes, word, kept, postTests, postingOf, stored, postedTo, postAnswer, cells, sheetOf, copyTests, copyingOf, copiedTo, copyAnswer}
+use Rattle.drafts.specs.Message.{textMax, Bytes, IsMessage, fieldOf, revisionOf, messageText, readTests, readable, readingOf, readAnswer}
+use Rattle.drafts.specs.Draft.{cellPlace, slotSize, draftSize, standing, slotIn, slotRevision, slotCell, slotText, slotBytes, slotWith, draftFormed, freshDraft, beginTests, beginningOf, begunFrom, slotStanding, standingOf, clashes, word, kept, postTests, postingOf, stored, postedTo, postAnswer, cells, sheetOf, copyTests, copyingOf, copiedTo, copyAnswer}
 use Rattle.drafts.specs.History.{postedFrom, postedAll}
 use Rattle.drafts.specs.Promises.{Reads, Left, Freshens, Stands, newer as is-newer, same as is-same, older as is-older, clash as is-clash, Posts, Copies}
 use Rattle.drafts.specs.declared.revision.Revision.{Revision}
@@ -64,18 +64,22 @@ put-zeros : (s : List ℕ) (n k : ℕ) → length s ≡ n → put (replicate (n 
 unfolding put
 put-zeros s n k e = rw (zero-add, e, drop-zeros n k)
 
-pub slot-made : (r : ℕ) (t d x y : List ℕ) → length t ≤ 25 → d ≡ bytes4 r
-    → x ≡ putAt (replicate slotSize 0) 0 (getD d 0 0 ∷ getD d 1 0 ∷ getD d 2 0 ∷ getD d 3 0 ∷ length t ∷ []) → y ≡ putAt x 5 t → y ≡ slotBytes r t
+-- where the text begins, behind the cell's length
+abbrev textPlace : ℕ
+textPlace = cellPlace + 1
+
+pub slot-made : (r : ℕ) (t d x y : List ℕ) → length t ≤ textMax → d ≡ bytes4 r
+    → x ≡ putAt (replicate slotSize 0) 0 (getD d 0 0 ∷ getD d 1 0 ∷ getD d 2 0 ∷ getD d 3 0 ∷ length t ∷ []) → y ≡ putAt x textPlace t → y ≡ slotBytes r t
 unfolding slotBytes cell
 slot-made r t d x y l ed ex ey =
     let z : List ℕ = replicate slotSize 0 in
     let s : List ℕ = getD d 0 0 ∷ getD d 1 0 ∷ getD d 2 0 ∷ getD d 3 0 ∷ length t ∷ [] in
     let fx : x ≡ put z 0 s = ex ∙ put-fits z 0 s (omega arith) in
     let lx : length x ≡ slotSize = ap length fx ∙ length-put z 0 s (omega arith) in
-    let fy : y ≡ put z 0 (s ++ t) = ey ∙ put-fits x 5 t (omega arith) ∙ ap (λ (w : List ℕ). put w 5 t) fx ∙ put-put z 0 s t 5 refl (omega arith) in
-    let n : slotSize ≡ 5 + length t + (25 - length t) = omega arith in
-    let m : length (s ++ t) ≡ 5 + length t = omega arith in
-    fy ∙ ap (λ (k : ℕ). put (replicate k 0) 0 (s ++ t)) n ∙ put-zeros (s ++ t) (5 + length t) (25 - length t) m ∙ rw ed
+    let fy : y ≡ put z 0 (s ++ t) = ey ∙ put-fits x textPlace t (omega arith) ∙ ap (λ (w : List ℕ). put w textPlace t) fx ∙ put-put z 0 s t textPlace refl (omega arith) in
+    let n : slotSize ≡ textPlace + length t + (textMax - length t) = omega arith in
+    let m : length (s ++ t) ≡ textPlace + length t = omega arith in
+    fy ∙ ap (λ (k : ℕ). put (replicate k 0) 0 (s ++ t)) n ∙ put-zeros (s ++ t) (textPlace + length t) (textMax - length t) m ∙ rw ed
 
 -- ---- fresh
 
@@ -217,7 +221,7 @@ module _ (d m : List ℕ) (h : (k : ℕ) → Fits w8 (getD m k 0)) (b : Bool) (e
       found : (readable m ≡ true) × (f .0 ≡ fieldOf m) × (v .number ≡ revisionOf m)
       found = read-found m f v (ap readAnswer (sym er) ∙ R .answer)
 
-      pub post-short : length t ≤ 25
+      pub post-short : length t ≤ textMax
       post-short = rw et (text-short m (found .0))
 
       module _ (k : ℕ) (ek : k ≡ slotOf (f .0)) (s : List ℕ) (es : s ≡ slotIn d k) (st : Standing) (est : st ≡ slotStanding s (v .number) t) where
@@ -250,17 +254,17 @@ module _ (d m : List ℕ) (h : (k : ℕ) → Fits w8 (getD m k 0)) (b : Bool) (e
 
 -- ---- sheet_of: the cells of the first n slots stand in what was there before
 
-module _ (d s : List ℕ) (l : length d ≡ draftSize) (z : length s ≡ 390) where
+module _ (d s : List ℕ) (l : length d ≡ draftSize) (z : length s ≡ sheetSize) where
   pub cells-none : s ≡ put s 0 (cells d 0)
   unfolding cells
   cells-none = sym (put-none s)
 
   module _ (x : List ℕ) (n : ℕ) (ex : x ≡ put s 0 (cells d n)) where
-    pub cells-more : (u c y : List ℕ) (w : ℕ) → n < 15 → u ≡ slotIn d n → c ≡ slotCell u → w ≡ n → y ≡ putAt x (w * 26) c → y ≡ put s 0 (cells d (n + 1))
+    pub cells-more : (u c y : List ℕ) (w : ℕ) → n < 15 → u ≡ slotIn d n → c ≡ slotCell u → w ≡ n → y ≡ putAt x (w * cellSize) c → y ≡ put s 0 (cells d (n + 1))
     unfolding cells
     cells-more u c y w h eu ec ew ey =
-        let lc : length c ≡ 26 = rw (ec, eu) (length-cell d l n h) in
-        let p : putAt x (n * 26) c ≡ put s 0 (cells d n ++ c) = put-next s (cells d n) c x (n * 26) (length-cells d l n (omega arith)) (omega arith) ex in
+        let lc : length c ≡ cellSize = rw (ec, eu) (length-cell d l n h) in
+        let p : putAt x (n * cellSize) c ≡ put s 0 (cells d n ++ c) = put-next s (cells d n) c x (n * cellSize) (length-cells d l n (omega arith)) (omega arith) ex in
         ey ∙ rw (ew, p, add-one, ec, eu)
 
     pub cells-all : n ≤ 15 → 15 ≤ n → x ≡ sheetOf d
@@ -275,7 +279,7 @@ copied-made : (r : Copied) → copyAnswer r ≡ success [] → r ≡ copied.Made
 copied-made copied.Made e = refl
 copied-made (copied.Refused n) e = absurd (no-success (n .0) [] [] e)
 
-copy-means : (d s : List ℕ) → passes (copyTests d s) ≡ true → (draftFormed d ≡ true) × (length s ≡ 390)
+copy-means : (d s : List ℕ) → passes (copyTests d s) ≡ true → (draftFormed d ≡ true) × (length s ≡ sheetSize)
 unfolding copyTests
 copy-means d s z = let o = none-of (copyTests d s) z in (not-false _ (o .0), eqb-true _ _ (not-false _ (o .1 .0)))
 
@@ -309,14 +313,14 @@ module _ (d s : List ℕ) (b : Bool) (eb : b ≡ draftFormed d) where
     whole : draftFormed d ≡ true
     whole = sym eb ∙ not-false b nb
 
-    pub copy-size : (length s ≡ 390 → ⊥) → Copies d s (copied.Refused (record { 0 = 7 })) s
+    pub copy-size : (length s ≡ sheetSize → ⊥) → Copies d s (copied.Refused (record { 0 = 7 })) s
     unfolding copyingOf copiedTo copyTests
     copy-size n = copies-by d s _ s (simp (whole, ne-eqb _ _ n)) (simp (whole, ne-eqb _ _ n))
 
     pub copy-sized : length d ≡ draftSize
     copy-sized = formed-means d whole .sized
 
-    pub copy-made : (x e : List ℕ) → length s ≡ 390 → x ≡ sheetOf d → e ≡ putAt s 0 x → Copies d s copied.Made e
+    pub copy-made : (x e : List ℕ) → length s ≡ sheetSize → x ≡ sheetOf d → e ≡ putAt s 0 x → Copies d s copied.Made e
     unfolding copyingOf copiedTo copyTests sheetOf
     copy-made x e z ex ee =
         let l = length-cells d copy-sized 15 (omega arith) in

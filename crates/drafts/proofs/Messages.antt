@@ -18,7 +18,7 @@ use Rattle.texts.specs.Buffers.{put, putAt}
 use Rattle.texts.proofs.Puts.{put-fits, length-put, put-put, mid-put, drop-put}
 use Rattle.sheets.specs.Sheet.{fields, placeOf, slotOf}
 use Rattle.sheets.specs.declared.sheet.Field.{Field}
-use Rattle.drafts.specs.Message.{Bytes, IsMessage, Writable, lengthOf, versionOf, fieldOf, revisionOf, messageText, readTests, readable, readingOf, readAnswer, headOf, messageOf, writeTests, writingOf, writtenOf, writeAnswer}
+use Rattle.drafts.specs.Message.{textMax, headSize, leastL, mostL, Bytes, IsMessage, Writable, lengthOf, versionOf, fieldOf, revisionOf, messageText, readTests, readable, readingOf, readAnswer, headOf, messageOf, writeTests, writingOf, writtenOf, writeAnswer}
 use Rattle.drafts.specs.Promises.{Reads, Writes}
 use Rattle.drafts.specs.declared.revision.Revision.{Revision}
 use Rattle.drafts.specs.declared.message.Reading.{Reading}
@@ -69,8 +69,8 @@ listed-slot f m e = let h = mem-place m in omega arith
 
 pub record Readable (m : List ℕ) : Type 0 where
   pub all : lengthOf m + 2 ≡ length m
-  pub low : 6 ≤ lengthOf m
-  pub high : lengthOf m ≤ 31
+  pub low : leastL ≤ lengthOf m
+  pub high : lengthOf m ≤ mostL
   pub version : versionOf m ≡ 1
   pub listed : slotOf (fieldOf m) ≡ 15 → ⊥
   pub revised : revisionOf m ≡ 0 → ⊥
@@ -98,11 +98,11 @@ pub reading-is : (m : List ℕ) → Readable m → readingOf m ≡ success (fiel
 unfolding readingOf readable
 reading-is m R = succeeds _ [] (readTests m) (readable-by m R)
 
-pub text-length : (m : List ℕ) → readable m ≡ true → length (messageText m) + 8 ≡ length m
+pub text-length : (m : List ℕ) → readable m ≡ true → length (messageText m) + headSize ≡ length m
 unfolding messageText
-text-length m e = let R = readable-means m e in let l = length-drop 8 m in omega arith
+text-length m e = let R = readable-means m e in let l = length-drop headSize m in omega arith
 
-pub text-short : (m : List ℕ) → readable m ≡ true → length (messageText m) ≤ 25
+pub text-short : (m : List ℕ) → readable m ≡ true → length (messageText m) ≤ textMax
 unfolding messageText
 text-short m e = let R = readable-means m e in simp length-drop (omega arith)
 
@@ -114,8 +114,8 @@ read-found m f v e =
     (p .0, cc, cc)
 
 -- its first eight bytes, and its text
-split : (m : List ℕ) → 8 ≤ length m
-    → m ≡ getD m 0 0 ∷ getD m 1 0 ∷ getD m 2 0 ∷ getD m 3 0 ∷ getD m 4 0 ∷ getD m 5 0 ∷ getD m 6 0 ∷ getD m 7 0 ∷ drop 8 m
+split : (m : List ℕ) → headSize ≤ length m
+    → m ≡ getD m 0 0 ∷ getD m 1 0 ∷ getD m 2 0 ∷ getD m 3 0 ∷ getD m 4 0 ∷ getD m 5 0 ∷ getD m 6 0 ∷ getD m 7 0 ∷ drop headSize m
 split [] h = absurd (omega arith)
 split (a ∷ []) h = absurd (omega arith)
 split (a ∷ b ∷ []) h = absurd (omega arith)
@@ -131,7 +131,7 @@ is-message : (m : List ℕ) → readable m ≡ true → IsMessage m (fieldOf m) 
 unfolding messageText
 is-message m e =
     let R = readable-means m e in
-    let l = length-drop 8 m in
+    let l = length-drop headSize m in
     let v : getD m 2 0 ≡ 1 = R .version in
     record {
       l1 = getD m 0 0;
@@ -176,13 +176,13 @@ pub written-read : (m : List ℕ) → Bytes m → readable m ≡ true → messag
 unfolding messageOf headOf messageText
 written-read m h e =
     let R = readable-means m e in
-    let l = length-drop 8 m in
+    let l = length-drop headSize m in
     let h0 = h 0 in
     let h1 = h 1 in
     let z : getD m 0 0 ≡ 0 = omega arith in
-    let o : length (drop 8 m) + 6 ≡ getD m 1 0 = omega arith in
+    let o : length (drop headSize m) + leastL ≡ getD m 1 0 = omega arith in
     let v : getD m 2 0 ≡ 1 = R .version in
-    ap (λ (x : List ℕ). 0 ∷ (length (drop 8 m) + 6) ∷ 1 ∷ getD m 3 0 ∷ (x ++ drop 8 m)) (bytes4-be4 (getD m 4 0) (getD m 5 0) (getD m 6 0) (getD m 7 0) (h 4) (h 5) (h 6) (h 7))
+    ap (λ (x : List ℕ). 0 ∷ (length (drop headSize m) + leastL) ∷ 1 ∷ getD m 3 0 ∷ (x ++ drop headSize m)) (bytes4-be4 (getD m 4 0) (getD m 5 0) (getD m 6 0) (getD m 7 0) (h 4) (h 5) (h 6) (h 7))
     ∙ sym (split m (omega arith) ∙ rw (z, v, o))
 
 -- the writer makes it of its field, revision and text
@@ -193,7 +193,7 @@ written-again m b h e u =
     let R = readable-means m e in
     let l = text-length m e in
     let short = le-ltb _ _ (text-short m e) in
-    let room : length (messageText m) + 8 ≤ length b = omega arith in (
+    let room : length (messageText m) + headSize ≤ length b = omega arith in (
       simp (short, ne-eqb _ _ (R .listed), ne-eqb _ _ (R .revised), le-ltb _ _ room) (ap (λ (n : ℕ). success (n ∷ [])) l),
       simp (short, ne-eqb _ _ (R .listed), ne-eqb _ _ (R .revised), le-ltb _ _ room) (ap (put b 0) (written-read m h e)),
     )
@@ -236,24 +236,24 @@ module _ (m : List ℕ) (h : (k : ℕ) → Fits w8 (getD m k 0)) (a b l : ℕ) (
       all-is : lengthOf m + 2 ≡ length m
       all-is = omega arith
 
-      pub read-low : l < 6 → Reads m (Refused (record { 0 = 2 }))
+      pub read-low : l < leastL → Reads m (Refused (record { 0 = 2 }))
       unfolding readingOf readTests
       read-low u =
-          let x : lengthOf m < 6 = omega arith in
+          let x : lengthOf m < leastL = omega arith in
           out _ (simp (le-ltb _ _ two, eq-eqb _ _ all-is, lt-ltb _ _ x))
 
-      module _ (low : 6 ≤ l) where
-        low-is : 6 ≤ lengthOf m
+      module _ (low : leastL ≤ l) where
+        low-is : leastL ≤ lengthOf m
         low-is = omega arith
 
-        pub read-high : 31 < l → Reads m (Refused (record { 0 = 2 }))
+        pub read-high : mostL < l → Reads m (Refused (record { 0 = 2 }))
         unfolding readingOf readTests
         read-high u =
-            let x : 31 < lengthOf m = omega arith in
+            let x : mostL < lengthOf m = omega arith in
             out _ (simp (le-ltb _ _ two, eq-eqb _ _ all-is, le-ltb _ _ low-is, lt-ltb _ _ x))
 
-        module _ (high : l ≤ 31) (v : ℕ) (ev : v ≡ getD m 2 0) where
-          high-is : lengthOf m ≤ 31
+        module _ (high : l ≤ mostL) (v : ℕ) (ev : v ≡ getD m 2 0) where
+          high-is : lengthOf m ≤ mostL
           high-is = omega arith
 
           pub read-version : (v ≡ 1 → ⊥) → Reads m (Refused (record { 0 = 3 }))
@@ -293,9 +293,9 @@ module _ (m : List ℕ) (h : (k : ℕ) → Fits w8 (getD m k 0)) (a b l : ℕ) (
 
 pub ruleset reading = (needs, read-under, read-rest, read-low, read-high, read-version, read-unlisted, read-zero, read-whole)
 
-pub text-is : (m t : List ℕ) → t ≡ between m 8 (length m) → t ≡ messageText m
+pub text-is : (m t : List ℕ) → t ≡ between m headSize (length m) → t ≡ messageText m
 unfolding between messageText
-text-is m t e = let l = length-drop 8 m in e ∙ take-all (length m - 8) (drop 8 m) (omega arith)
+text-is m t e = let l = length-drop headSize m in e ∙ take-all (length m - headSize) (drop headSize m) (omega arith)
 
 -- ---- writing
 
@@ -318,7 +318,7 @@ written-made : (w : Written) (n : ℕ) → writeAnswer w ≡ success (n ∷ []) 
 written-made (written.Bytes k) n e = let p : k ≡ n = cc in ap written.Bytes p
 written-made (written.Refused k) n e = absurd (no-success (k .0) [] _ e)
 
-length-message : (f r : ℕ) (t : List ℕ) → length (messageOf f r t) ≡ length t + 8
+length-message : (f r : ℕ) (t : List ℕ) → length (messageOf f r t) ≡ length t + headSize
 unfolding messageOf headOf
 length-message f r t = omega arith
 
@@ -328,7 +328,7 @@ unfolding messageOf headOf
 message-of f r t b h W =
     record {
       l1 = 0;
-      l2 = length t + 6;
+      l2 = length t + leastL;
       r1 = r / 16777216;
       r2 = r / 65536 % 256;
       r3 = r / 256 % 256;
@@ -352,10 +352,10 @@ unfolding writingOf writtenOf
 writes-by f r t b w e h p q = record {
   answer = p;
   buffer = q;
-  refused = λ n. q ∙ unchanged _ _ _ (writeTests f r t b) (λ s. n (length t + 8) (written-made w (length t + 8) (p ∙ s)));
+  refused = λ n. q ∙ unchanged _ _ _ (writeTests f r t b) (λ s. n (length t + headSize) (written-made w (length t + headSize) (p ∙ s)));
   exactly = (
     λ s. writable f r t b (succeeded _ _ (writeTests f r t b) (ap writeAnswer (sym s) ∙ p) .0),
-    λ W. written-made w (length t + 8) (p ∙ succeeds _ [] (writeTests f r t b) (written-by f r t b W)),
+    λ W. written-made w (length t + headSize) (p ∙ succeeds _ [] (writeTests f r t b) (written-by f r t b W)),
   );
   made = λ n s. let o = out-of n s in (rw (o .1) (o .0), o .2);
   back = λ n s. let o = out-of n s in rw (o .1) (read-back _ f r t (o .0));
@@ -366,7 +366,7 @@ writes-by f r t b w e h p q = record {
     out-of n s =
         let z = succeeded _ (n ∷ []) (writeTests f r t b) (ap writeAnswer (sym s) ∙ p) in
         let k = z .1 in
-        let o : n ≡ length t + 8 = cc in
+        let o : n ≡ length t + headSize = cc in
         let W = writable f r t b (z .0) in
         let l = length-message f r t in
         let u : e ≡ put b 0 (messageOf f r t) = q ∙ rw (z .0) in (
@@ -375,7 +375,7 @@ writes-by f r t b w e h p q = record {
           ap (drop n) u ∙ drop-put b 0 (messageOf f r t) n (omega arith) (omega arith),
         )
 
-pub head-is : (f r n : ℕ) (d : List ℕ) → d ≡ bytes4 r → 0 ∷ (n + 6) ∷ 1 ∷ f ∷ getD d 0 0 ∷ getD d 1 0 ∷ getD d 2 0 ∷ getD d 3 0 ∷ [] ≡ headOf f r n
+pub head-is : (f r n : ℕ) (d : List ℕ) → d ≡ bytes4 r → 0 ∷ (n + leastL) ∷ 1 ∷ f ∷ getD d 0 0 ∷ getD d 1 0 ∷ getD d 2 0 ∷ getD d 3 0 ∷ [] ≡ headOf f r n
 unfolding headOf
 head-is f r n d e = rw e
 
@@ -384,11 +384,11 @@ module _ (f r k : ℕ) (t b : List ℕ) (h : Fits w32 r) where
   wrote : (w : Written) (e : List ℕ) → writeAnswer w ≡ writingOf f r t b → e ≡ writtenOf f r t b → Writes f r t b w e
   wrote w e p q = writes-by f r t b w e (h .fits) p q
 
-  pub write-over : 25 < length t → Writes f r t b (written.Refused (record { 0 = 2 })) b
+  pub write-over : textMax < length t → Writes f r t b (written.Refused (record { 0 = 2 })) b
   unfolding writingOf writtenOf writeTests
   write-over u = wrote _ b (simp (lt-ltb _ _ u)) (simp (lt-ltb _ _ u))
 
-  module _ (short : length t ≤ 25) (ek : k ≡ slotOf f) where
+  module _ (short : length t ≤ textMax) (ek : k ≡ slotOf f) where
     pub write-unlisted : k ≡ 15 → Writes f r t b (written.Refused (record { 0 = 4 })) b
     unfolding writingOf writtenOf writeTests
     write-unlisted e =
@@ -404,17 +404,17 @@ module _ (f r k : ℕ) (t b : List ℕ) (h : Fits w32 r) where
       write-zero e = wrote _ b (simp (le-ltb _ _ short, listed-eqb, eq-eqb _ _ e)) (simp (le-ltb _ _ short, listed-eqb, eq-eqb _ _ e))
 
       module _ (z : r ≡ 0 → ⊥) where
-        pub write-room : length b < length t + 8 → Writes f r t b (written.Refused (record { 0 = 7 })) b
+        pub write-room : length b < length t + headSize → Writes f r t b (written.Refused (record { 0 = 7 })) b
         unfolding writingOf writtenOf writeTests
         write-room u = wrote _ b (simp (le-ltb _ _ short, listed-eqb, ne-eqb _ _ z, lt-ltb _ _ u)) (simp (le-ltb _ _ short, listed-eqb, ne-eqb _ _ z, lt-ltb _ _ u))
 
-        pub write-whole : (d x e : List ℕ) → length t + 8 ≤ length b → d ≡ headOf f r (length t) → x ≡ putAt b 0 d → e ≡ putAt x 8 t → Writes f r t b (written.Bytes (length t + 8)) e
+        pub write-whole : (d x e : List ℕ) → length t + headSize ≤ length b → d ≡ headOf f r (length t) → x ≡ putAt b 0 d → e ≡ putAt x headSize t → Writes f r t b (written.Bytes (length t + headSize)) e
         unfolding writingOf writtenOf writeTests messageOf headOf
         write-whole d x e u ed ex ee =
-            let ld : length d ≡ 8 = ap length ed in
+            let ld : length d ≡ headSize = ap length ed in
             let fx : x ≡ put b 0 d = ex ∙ put-fits b 0 d (omega arith) in
             let lx : length x ≡ length b = ap length fx ∙ length-put b 0 d (omega arith) in
-            let fe : e ≡ put b 0 (d ++ t) = ee ∙ put-fits x 8 t (omega arith) ∙ ap (λ (y : List ℕ). put y 8 t) fx ∙ put-put b 0 d t 8 (omega arith) (omega arith) in
+            let fe : e ≡ put b 0 (d ++ t) = ee ∙ put-fits x headSize t (omega arith) ∙ ap (λ (y : List ℕ). put y headSize t) fx ∙ put-put b 0 d t headSize (omega arith) (omega arith) in
             wrote _ e (simp (le-ltb _ _ short, listed-eqb, ne-eqb _ _ z, le-ltb _ _ u)) (fe ∙ simp (ed, le-ltb _ _ short, listed-eqb, ne-eqb _ _ z, le-ltb _ _ u))
 
 pub ruleset writing = (needs, head-is, text-is, write-over, write-unlisted, write-zero, write-room, write-whole)

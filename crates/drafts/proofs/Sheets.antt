@@ -11,24 +11,24 @@ use lib.ListN.{length, take, drop, length-append, length-drop}
 use lib.Seq.{length-take-le, take-all, drop-at, take-append-le, drop-append-le}
 use Rattle.texts.specs.Texts.{between, every}
 use Rattle.texts.proofs.Bools.{both}
-use Rattle.sheets.specs.Sheet.{slots, cellOk, cellOf, textOf, slotOk, wellFormed}
-use Rattle.drafts.specs.Draft.{draftSize, slotIn, slotCell, slotText, slotFormed, draftFormed, cells, sheetOf}
+use Rattle.sheets.specs.Sheet.{slots, cellSize, sheetSize, cellOk, cellOf, textOf, slotOk, wellFormed}
+use Rattle.drafts.specs.Draft.{cellPlace, draftSize, slotIn, slotCell, slotText, slotFormed, draftFormed, cells, sheetOf}
 use Rattle.drafts.proofs.Slots.{length-slot-in, formed-means}
 
 module _ (d : List ℕ) (size : length d ≡ draftSize) where
-  pub length-cell : (n : ℕ) → n < 15 → length (slotCell (slotIn d n)) ≡ 26
+  pub length-cell : (n : ℕ) → n < 15 → length (slotCell (slotIn d n)) ≡ cellSize
   unfolding slotCell between
-  length-cell n h = length-take-le 26 (drop 4 (slotIn d n)) (omega (arith, length-drop 4 (slotIn d n), length-slot-in d size n h))
+  length-cell n h = length-take-le cellSize (drop cellPlace (slotIn d n)) (omega (arith, length-drop cellPlace (slotIn d n), length-slot-in d size n h))
 
-  pub length-cells : (n : ℕ) → n ≤ 15 → length (cells d n) ≡ n * 26
+  pub length-cells : (n : ℕ) → n ≤ 15 → length (cells d n) ≡ n * cellSize
   unfolding cells
   length-cells zero h = refl
   length-cells (suc n) h =
       length-append (cells d n) (slotCell (slotIn d n)) ∙ rw (length-cells n (omega arith), length-cell n (omega arith)) (omega arith)
 
-  cell-part : (s : List ℕ) (i : ℕ) → cellOf s i ≡ take 26 (drop (i * 26) s)
+  cell-part : (s : List ℕ) (i : ℕ) → cellOf s i ≡ take cellSize (drop (i * cellSize) s)
   unfolding cellOf between
-  cell-part s i = let e : i * 26 + 26 - i * 26 ≡ 26 = omega arith in rw e
+  cell-part s i = let e : i * cellSize + cellSize - i * cellSize ≡ cellSize = omega arith in rw e
 
   cell-at : (n i : ℕ) → i < n → n ≤ 15 → cellOf (cells d n) i ≡ slotCell (slotIn d i)
   unfolding cells
@@ -36,18 +36,18 @@ module _ (d : List ℕ) (size : length d ≡ draftSize) where
   cell-at (suc n) i h l =
       let x = cells d n in
       let c = slotCell (slotIn d n) in
-      let lx : length x ≡ n * 26 = length-cells n (omega arith) in
-      let ld = length-drop (i * 26) x in
+      let lx : length x ≡ n * cellSize = length-cells n (omega arith) in
+      let ld = length-drop (i * cellSize) x in
       elim (decLt i n) [
         | yes p ↦
             cell-part (x ++ c) i
-            ∙ ap (take 26) (drop-append-le (i * 26) x c (omega arith))
-            ∙ take-append-le 26 (drop (i * 26) x) c (omega arith)
+            ∙ ap (take cellSize) (drop-append-le (i * cellSize) x c (omega arith))
+            ∙ take-append-le cellSize (drop (i * cellSize) x) c (omega arith)
             ∙ sym (cell-part x i)
             ∙ cell-at n i p (omega arith)
         | no q ↦
             let e : i ≡ n = omega arith in
-            cell-part (x ++ c) i ∙ rw e (ap (take 26) (drop-at x c (n * 26) lx) ∙ take-all 26 c (omega (arith, length-cell n (omega arith))))
+            cell-part (x ++ c) i ∙ rw e (ap (take cellSize) (drop-at x c (n * cellSize) lx) ∙ take-all cellSize c (omega (arith, length-cell n (omega arith))))
       ]
 
   pub sheet-cell : (i : ℕ) → i < 15 → cellOf (sheetOf d) i ≡ slotCell (slotIn d i)
@@ -58,7 +58,7 @@ module _ (d : List ℕ) (size : length d ≡ draftSize) where
   unfolding textOf slotText
   sheet-text i h = rw (sheet-cell i h)
 
-  pub length-sheet : length (sheetOf d) ≡ 390
+  pub length-sheet : length (sheetOf d) ≡ sheetSize
   unfolding sheetOf
   length-sheet = length-cells 15 (omega arith)
 

@@ -16,7 +16,8 @@ use Rattle.texts.specs.Texts.{between, every, are}
 use Rattle.texts.specs.Buffers.{put}
 use Rattle.texts.proofs.Bools.{both}
 use Rattle.texts.proofs.Puts.{length-put, take-put, drop-put, mid-put}
-use Rattle.sheets.specs.Sheet.{cell, fields, placeOf, slotOf, cellOk}
+use Rattle.sheets.specs.Sheet.{cellSize, cell, fields, placeOf, slotOf, cellOk}
+use Rattle.drafts.specs.Message.{textMax}
 use Rattle.drafts.specs.Draft.{slotSize, draftSize, slotIn, slotRevision, slotCell, slotBytes, slotFormed, slotsFormed, draftFormed}
 use Rattle.drafts.proofs.Messages.{be4-bytes4}
 
@@ -25,7 +26,7 @@ use Rattle.drafts.proofs.Messages.{be4-bytes4}
 pub drop-zeros : (n k : ℕ) → drop {A = ℕ} n (replicate (n + k) 0) ≡ replicate k 0
 drop-zeros n k = rw (← replicate-append-replicate {A = ℕ} n k 0) (drop-at {A = ℕ} (replicate n 0) (replicate k 0) n (length-replicate {A = ℕ} n 0))
 
-pub length-slot : (r : ℕ) (t : List ℕ) → length t ≤ 25 → length (slotBytes r t) ≡ slotSize
+pub length-slot : (r : ℕ) (t : List ℕ) → length t ≤ textMax → length (slotBytes r t) ≡ slotSize
 unfolding slotBytes cell
 length-slot r t h = simp (length-append, length-replicate) (omega arith)
 
@@ -33,25 +34,25 @@ pub slot-revision : (r : ℕ) (t : List ℕ) → r < 2 ^ 32 → slotRevision (sl
 unfolding slotBytes cell
 slot-revision r t h = be4-bytes4 r h
 
-slot-cell : (r : ℕ) (t : List ℕ) → length t ≤ 25 → slotCell (slotBytes r t) ≡ length t ∷ (t ++ replicate (25 - length t) 0)
+slot-cell : (r : ℕ) (t : List ℕ) → length t ≤ textMax → slotCell (slotBytes r t) ≡ length t ∷ (t ++ replicate (textMax - length t) 0)
 unfolding slotCell slotBytes cell between
 slot-cell r t h =
-    let e : length (t ++ replicate (25 - length t) 0) ≡ 25 = length-append t (replicate (25 - length t) 0) ∙ simp length-replicate (omega arith) in
-    take-all 26 (length t ∷ (t ++ replicate (25 - length t) 0)) (omega arith)
+    let e : length (t ++ replicate (textMax - length t) 0) ≡ textMax = length-append t (replicate (textMax - length t) 0) ∙ simp length-replicate (omega arith) in
+    take-all cellSize (length t ∷ (t ++ replicate (textMax - length t) 0)) (omega arith)
 
 every-zeros : (n : ℕ) → every (are 0) (replicate n 0) ≡ true
 unfolding every are
 every-zeros zero = refl
 every-zeros (suc n) = every-zeros n
 
-cell-ok : (t : List ℕ) → length t ≤ 25 → cellOk (length t ∷ (t ++ replicate (25 - length t) 0)) ≡ true
+cell-ok : (t : List ℕ) → length t ≤ textMax → cellOk (length t ∷ (t ++ replicate (textMax - length t) 0)) ≡ true
 unfolding cellOk between
 cell-ok t h =
     let e : 1 + length t ≡ suc (length t) = omega arith in
-    let f : 26 - suc (length t) ≡ 25 - length t = omega arith in
-    rw (le-leb _ _ h, e, f, drop-append-seam t (replicate (25 - length t) 0), take-all {A = ℕ} (25 - length t) (replicate (25 - length t) 0) (omega (arith, length-replicate {A = ℕ} (25 - length t) 0))) (every-zeros (25 - length t))
+    let f : cellSize - suc (length t) ≡ textMax - length t = omega arith in
+    rw (le-leb _ _ h, e, f, drop-append-seam t (replicate (textMax - length t) 0), take-all {A = ℕ} (textMax - length t) (replicate (textMax - length t) 0) (omega (arith, length-replicate {A = ℕ} (textMax - length t) 0))) (every-zeros (textMax - length t))
 
-pub slot-formed : (r : ℕ) (t : List ℕ) → r < 2 ^ 32 → (r ≡ 0 → ⊥) → length t ≤ 25 → slotFormed (slotBytes r t) ≡ true
+pub slot-formed : (r : ℕ) (t : List ℕ) → r < 2 ^ 32 → (r ≡ 0 → ⊥) → length t ≤ textMax → slotFormed (slotBytes r t) ≡ true
 unfolding slotFormed
 slot-formed r t h z l = rw (slot-cell r t l, cell-ok t l, slot-revision r t h, ne-eqb r 0 z)
 

@@ -9,7 +9,7 @@ use Rattle.texts.specs.Texts.{between, same, blank}
 use Rattle.texts.specs.Numbers.{be4, bytes4}
 use Rattle.texts.specs.Buffers.{put}
 use Rattle.texts.specs.Answers.{Answer, success, refusal, Test, _refuses_, answerBy, bufferBy}
-use Rattle.sheets.specs.Sheet.{slotOf, sheetSize, cell, cellText, cellOk}
+use Rattle.sheets.specs.Sheet.{slotOf, cellSize, sheetSize, cell, cellText, cellOk}
 use Rattle.drafts.specs.Message.{fieldOf, revisionOf, messageText, readTests}
 use Rattle.drafts.specs.declared.revision.Standing.{Standing}
 use Rattle.drafts.specs.declared.revision.Standing.the-variants.{Newer, Same, Older, Clash}
@@ -21,21 +21,24 @@ use Rattle.drafts.specs.declared.draft.Copied.{Copied}
 use Rattle.drafts.specs.declared.draft.Copied.the-variants as copied
 
 -- "A draft has 450 bytes, slot i at 30 × i"
+-- a slot: "revision (4, big-endian, 0 = never given), text length (1), text padded with zero bytes to 25": a sheet's cell ends it
+abbrev pub cellPlace : ℕ
+cellPlace = 4
+
 abbrev pub slotSize : ℕ
-slotSize = 30
+slotSize = cellPlace + cellSize
 
 abbrev pub draftSize : ℕ
-draftSize = 450
+draftSize = 15 * slotSize
 
 unfoldable pub slotIn : List ℕ → ℕ → List ℕ
 slotIn d i = between d (i * slotSize) (i * slotSize + slotSize)
 
--- a slot: "revision (4, big-endian, 0 = never given), text length (1), text padded with zero bytes to 25"
 abbrev pub slotRevision : List ℕ → ℕ
 slotRevision s = be4 (getD s 0 0) (getD s 1 0) (getD s 2 0) (getD s 3 0)
 
 unfoldable pub slotCell : List ℕ → List ℕ
-slotCell s = between s 4 slotSize
+slotCell s = between s cellPlace slotSize
 
 unfoldable pub slotText : List ℕ → Text
 slotText s = cellText (slotCell s)

@@ -2,7 +2,7 @@
 use mathlib.Core.Path.{_≡_}
 use mathlib.Core.Bool.{Bool, not}
 use mathlib.Core.List.{List, [], _∷_, _++_, List·Memᴰ}
-use Prim.Native.Nat.{ℕ, _+_, _*_, _<_, _≤_}
+use Prim.Native.Nat.{ℕ, _+_, _-_, _*_, _<_, _≤_}
 use lib.Dec.{eqb, ltb}
 use lib.ListN.{length, getD, drop}
 use Rattle.texts.specs.Quoted.{Text}
@@ -18,6 +18,20 @@ use Rattle.drafts.specs.declared.message.Written.the-variants as written
 -- a byte string
 abbrev pub Bytes : List ℕ → Type 0
 Bytes m = (k : ℕ) → getD m k 0 < 256
+
+-- "A text has 0 to 25 bytes"
+abbrev pub textMax : ℕ
+textMax = 25
+
+-- the bytes before a message's text; L counts those behind its own two, and the text's
+abbrev pub headSize : ℕ
+headSize = 8
+
+abbrev pub leastL : ℕ
+leastL = headSize - 2
+
+abbrev pub mostL : ℕ
+mostL = leastL + textMax
 
 -- m is a message of the field f, the revision v and the text t: "two bytes L, big-endian, the length of what follows, 6 to 31; version
 -- byte 1; field number in one byte; revision in four bytes, big-endian, not 0; the text, L - 6 bytes"
@@ -48,9 +62,6 @@ fieldOf m = getD m 3 0
 abbrev pub revisionOf : List ℕ → ℕ
 revisionOf m = be4 (getD m 4 0) (getD m 5 0) (getD m 6 0) (getD m 7 0)
 
-abbrev pub headSize : ℕ
-headSize = 8
-
 unfoldable pub messageText : List ℕ → Text
 messageText m = drop headSize m
 
@@ -63,8 +74,8 @@ unfoldable pub readTests : List ℕ → List Test
 readTests m =
     (ltb (length m) 2 refuses 2)
     ∷ (not (eqb (lengthOf m + 2) (length m)) refuses 2)
-    ∷ (ltb (lengthOf m) 6 refuses 2)
-    ∷ (ltb 31 (lengthOf m) refuses 2)
+    ∷ (ltb (lengthOf m) leastL refuses 2)
+    ∷ (ltb mostL (lengthOf m) refuses 2)
     ∷ (not (eqb (versionOf m) 1) refuses 3)
     ∷ (unlisted (fieldOf m) refuses 4)
     ∷ (eqb (revisionOf m) 0 refuses 5)
@@ -82,24 +93,24 @@ abbrev pub readAnswer : Reading → Answer
 readAnswer (reading.Message f r) = success (f .0 ∷ r .number ∷ [])
 readAnswer (reading.Refused n) = refusal (n .0) []
 
--- the eight bytes before a text of n bytes; L is at most 31, so that its first byte is 0
+-- the bytes before a text of n bytes; L is at most 31, so that its first byte is 0
 unfoldable pub headOf : ℕ → ℕ → ℕ → List ℕ
-headOf f r n = 0 ∷ (n + 6) ∷ 1 ∷ f ∷ bytes4 r
+headOf f r n = 0 ∷ (n + leastL) ∷ 1 ∷ f ∷ bytes4 r
 
 unfoldable pub messageOf : ℕ → ℕ → Text → List ℕ
 messageOf f r t = headOf f r (length t) ++ t
 
 -- what writing asks for: a listed field, a revision, a text of at most 25 bytes, and room
 pub record Writable (f v : ℕ) (t b : List ℕ) : Type 0 where
-  pub short : length t ≤ 25
+  pub short : length t ≤ textMax
   pub listed : List·Memᴰ f fields
   pub given : v ≡ 0 → ⊥
-  pub room : length t + 8 ≤ length b
+  pub room : length t + headSize ≤ length b
 
 -- "writer: text over 25", "field not listed", "revision 0", "a message buffer too short"
 unfoldable pub writeTests : ℕ → ℕ → Text → List ℕ → List Test
 writeTests f r t b =
-    (ltb 25 (length t) refuses 2)
+    (ltb textMax (length t) refuses 2)
     ∷ (unlisted f refuses 4)
     ∷ (eqb r 0 refuses 5)
     ∷ (ltb (length b) (length t + headSize) refuses 7)

@@ -9,7 +9,7 @@ use Rattle.texts.specs.Answers.{success, refusal}
 use Rattle.texts.specs.Buffers.{put}
 use Rattle.sheets.specs.Sheet.{slotOf, textOf, sheetSize, wellFormed}
 use Rattle.sheets.specs.declared.sheet.Field.{Field}
-use Rattle.drafts.specs.Message.{IsMessage, Writable, messageText, readingOf, readAnswer, writingOf, writtenOf, writeAnswer}
+use Rattle.drafts.specs.Message.{headSize, IsMessage, Writable, messageText, readingOf, readAnswer, writingOf, writtenOf, writeAnswer}
 use Rattle.drafts.specs.Draft.{slotIn, slotRevision, slotText, draftSize, draftFormed, beginningOf, begunFrom, beginAnswer, postingOf, postedTo, postAnswer, copyingOf, copiedTo, copyAnswer}
 use Rattle.drafts.specs.History.{postedAll, endSlot, Ends, AllBytes, NoClash}
 use Rattle.drafts.specs.declared.revision.Revision.{Revision}
@@ -44,7 +44,7 @@ pub record Writes (f v : ℕ) (t b : List ℕ) (r : Written) (e : List ℕ) : Ty
   pub buffer : e ≡ writtenOf f v t b
   -- "A refused call changes none of them"
   pub refused : ((n : ℕ) → r ≡ written.Bytes n → ⊥) → e ≡ b
-  pub exactly : (r ≡ written.Bytes (length t + 8)) ↔ Writable f v t b
+  pub exactly : (r ≡ written.Bytes (length t + headSize)) ↔ Writable f v t b
   -- "writes L + 2 bytes at its start .. and leaves the rest"
   pub made : (n : ℕ) → r ≡ written.Bytes n → IsMessage (take n e) f v t × (drop n e ≡ drop n b)
   -- what was written reads back as its field, revision and text

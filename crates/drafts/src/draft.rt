@@ -3,6 +3,7 @@ ghost use mathlib.Core.Path.{_≡_};
 ghost use Prim.Native.Nat.{_*_, _≤_};
 ghost use lib.ListN.{length};
 ghost use Rattle.texts.specs.Buffers.{putAt};
+ghost use Rattle.drafts.specs.Message.{textMax};
 ghost use Rattle.drafts.specs.Draft.{slotSize, draftSize, slotIn, slotRevision, slotCell, slotFormed, draftFormed, slotStanding, slotBytes, sheetOf};
 ghost use Rattle.drafts.specs.Promises.{Freshens, Posts, Copies};
 use crate::message::Reading;
@@ -25,14 +26,15 @@ use texts::texts::equals;
 use texts::texts::part;
 use texts::texts::wide;
 
-const SLOT_SIZE: usize = 30;
-
-pub const DRAFT_SIZE: usize = 450;
-
 // Where a slot's cell begins, and the text in it.
 const CELL_PLACE: usize = 4;
 
-const TEXT_PLACE: usize = 5;
+const TEXT_PLACE: usize = CELL_PLACE + 1;
+
+// "A draft has 450 bytes, slot i at 30 × i".
+const SLOT_SIZE: usize = CELL_PLACE + CELL_SIZE;
+
+pub const DRAFT_SIZE: usize = 15 * SLOT_SIZE;
 
 const SLOTS: u8 = 15;
 
@@ -122,7 +124,7 @@ fn stands(slot: &[u8], revision: Revision, text: &[u8]) -> Standing
 
 // The bytes of a slot.
 fn slot_bytes(revision: Revision, text: &[u8]) -> [u8; SLOT_SIZE]
-    requires { ⌜ length (now text) ≤ 25 ⌝ }
+    requires { ⌜ length (now text) ≤ textMax ⌝ }
     ensures { λ r. ⌜ r ≡ slotBytes (revision .number) (now (text .entry)) ⌝ }
 {
     let d = bytes_of_4(revision.number);
@@ -134,7 +136,7 @@ fn slot_bytes(revision: Revision, text: &[u8]) -> [u8; SLOT_SIZE]
 }
 
 fn store(draft: &mut [u8], slot: u8, revision: Revision, text: &[u8])
-    requires { ⌜ length (now text) ≤ 25 ⌝ }
+    requires { ⌜ length (now text) ≤ textMax ⌝ }
     ensures { λ _. ⌜ now (draft .exit) ≡ putAt (now (draft .entry)) (slot * slotSize) (slotBytes (revision .number) (now (text .entry))) ⌝ }
 {
     let bytes = slot_bytes(revision, text);

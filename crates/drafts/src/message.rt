@@ -1,7 +1,7 @@
 // Messages: reading and writing.
 ghost use mathlib.Core.Path.{_≡_};
 ghost use Prim.Native.Nat.{_≤_};
-ghost use Rattle.drafts.specs.Message.{headOf, messageText};
+ghost use Rattle.drafts.specs.Message.{textMax, headOf, messageText};
 ghost use Rattle.drafts.specs.Promises.{Reads, Writes};
 use crate::revision::Revision;
 use sheets::sheet::Field;
@@ -14,8 +14,15 @@ use texts::numbers::number_of_4;
 use texts::texts::at;
 use texts::texts::part;
 
-// The bytes before a message's text.
+// "A text has 0 to 25 bytes".
+const TEXT_MAX: usize = 25;
+
+// The bytes before a message's text; L counts those behind its own two, and the text's.
 pub const HEAD_SIZE: usize = 8;
+
+const LEAST_L: usize = HEAD_SIZE - 2;
+
+const MOST_L: usize = LEAST_L + TEXT_MAX;
 
 pub enum Reading {
     Message(Field, Revision),
@@ -38,10 +45,10 @@ pub fn read(message: &[u8]) -> Reading
     if l + 2 != message.len() {
         return Reading::Refused(Refusal(2));
     }
-    if l < 6 {
+    if l < LEAST_L {
         return Reading::Refused(Refusal(2));
     }
-    if 31 < l {
+    if MOST_L < l {
         return Reading::Refused(Refusal(2));
     }
     if at(message, 2) != 1 {
@@ -63,20 +70,20 @@ pub fn read(message: &[u8]) -> Reading
     Reading::Message(field, Revision { number })
 }
 
-// The text of a message, as a part of it: the bytes from place 8 on, none where there are none.
+// The text of a message, as a part of it: the bytes behind its head, none where there are none.
 pub fn message_text(message: &[u8]) -> &[u8]
     ensures { λ r. ⌜ now r ≡ messageText (now (message .entry)) ⌝ }
 {
     part(message, HEAD_SIZE, message.len())
 }
 
-// The eight bytes before a text of n bytes.
+// The bytes before a text of n bytes.
 fn head(field: Field, revision: Revision, n: usize) -> [u8; HEAD_SIZE]
-    requires { ⌜ n ≤ 25 ⌝ }
+    requires { ⌜ n ≤ textMax ⌝ }
     ensures { λ r. ⌜ r ≡ headOf (field .0) (revision .number) n ⌝ }
 {
     let d = bytes_of_4(revision.number);
-    [0, (n + 6) as u8, 1, field.0, d[0], d[1], d[2], d[3]]
+    [0, (n + LEAST_L) as u8, 1, field.0, d[0], d[1], d[2], d[3]]
 }
 
 // Writes a message at the buffer's start, and leaves the rest.
@@ -84,7 +91,7 @@ pub fn write(field: Field, revision: Revision, text: &[u8], buffer: &mut [u8]) -
     ensures { λ r. ⌜ Writes (field .0) (revision .number) (now (text .entry)) (now (buffer .entry)) r (now (buffer .exit)) ⌝ }
 {
     let n = text.len();
-    if 25 < n {
+    if TEXT_MAX < n {
         return Written::Refused(Refusal(2));
     }
     if slot_of(field) == 15 {

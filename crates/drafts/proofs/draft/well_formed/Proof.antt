@@ -3,12 +3,12 @@ use native.Mathlib.Omega.{arith}
 use Prim.Native.Nat.{_≤_, _-_}
 use lib.ListN.{length}
 use mathlib.Core.Path.{_≡_}
-use Rattle.drafts.specs.Draft.{slotsFormed}
+use Rattle.drafts.specs.Draft.{draftSize, slotsFormed}
 use Rattle.drafts.proofs.draft.well_formed.Statement.{statement}
 use Rattle.drafts.proofs.draft.well_formed.Tie as tie
 
 abbrev Inv-loop : tie.InvT-loop
-Inv-loop draft good₀ slot₀ good slot = (slot ≤ 15) × (slotsFormed draft slot ≡ good) × (length draft ≡ 450)
+Inv-loop draft good₀ slot₀ good slot = (slot ≤ 15) × (slotsFormed draft slot ≡ good) × (length draft ≡ draftSize)
 
 abbrev μ-loop : tie.MeasureT-loop
 μ-loop draft good₀ slot₀ good slot = 15 - slot
