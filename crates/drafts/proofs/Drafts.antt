@@ -15,13 +15,13 @@ use lib.Dec.{eqb, ltb}
 use lib.ListN.{length, getD, replicate}
 use Rattle.texts.specs.Texts.{same}
 use Rattle.texts.proofs.Codes.{same-true, same-self}
-use Rattle.texts.specs.Numbers.{bytes4}
+use Rattle.texts.specs.Numbers.{bytesOf}
 use Rattle.texts.specs.Buffers.{put, putAt, zeroed}
 use Rattle.texts.proofs.Puts.{put-fits, length-put, put-put, put-none, put-next, put-whole}
 use Rattle.sheets.specs.Sheet.{cellSize, sheetSize, cell, slotOf}
 use Rattle.sheets.specs.declared.sheet.Field.{Field}
 use Rattle.texts.specs.Answers.{Answer, success, refusal, numberOf, _refuses_, passes, answerBy}
-use Rattle.drafts.specs.Message.{textMax, Bytes, IsMessage, fieldOf, revisionOf, messageText, readTests, readable, readingOf, readAnswer}
+use Rattle.drafts.specs.Message.{textMax, revisionSize, Bytes, IsMessage, fieldOf, revisionOf, messageText, readTests, readable, readingOf, readAnswer}
 use Rattle.drafts.specs.Draft.{cellPlace, slotSize, draftSize, standing, slotIn, slotRevision, slotCell, slotText, slotBytes, slotWith, draftFormed, freshDraft, beginTests, beginningOf, begunFrom, slotStanding, standingOf, clashes, word, kept, postTests, postingOf, stored, postedTo, postAnswer, cells, sheetOf, copyTests, copyingOf, copiedTo, copyAnswer}
 use Rattle.drafts.specs.History.{postedFrom, postedAll}
 use Rattle.drafts.specs.Promises.{Reads, Left, Freshens, Stands, newer as is-newer, same as is-same, older as is-older, clash as is-clash, Posts, Copies}
@@ -68,7 +68,7 @@ put-zeros s n k e = rw (zero-add, e, drop-zeros n k)
 abbrev textPlace : ℕ
 textPlace = cellPlace + 1
 
-pub slot-made : (r : ℕ) (t d x y : List ℕ) → length t ≤ textMax → d ≡ bytes4 r
+pub slot-made : (r : ℕ) (t d x y : List ℕ) → length t ≤ textMax → d ≡ bytesOf revisionSize r
     → x ≡ putAt (replicate slotSize 0) 0 (getD d 0 0 ∷ getD d 1 0 ∷ getD d 2 0 ∷ getD d 3 0 ∷ length t ∷ []) → y ≡ putAt x textPlace t → y ≡ slotBytes r t
 unfolding slotBytes cell
 slot-made r t d x y l ed ex ey =

@@ -2,7 +2,7 @@
 use mathlib.Core.Path.{_≡_, refl, sym, ap, _∙_, subst}
 use mathlib.Core.Bool.{Bool, true, false, cond}
 use mathlib.Core.List.{List, [], _∷_, _++_, List·Memᴰ, List·Memᴰ·head, List·Memᴰ·tail}
-use Prim.Native.Nat.{ℕ, suc, _+_, _-_, _/_, _%_, _^_, _<_, _≤_}
+use Prim.Native.Nat.{ℕ, suc, _+_, _-_, _^_, _<_, _≤_}
 use native.Mathlib.Omega.{arith}
 use borrow.Author.Tests.{lt-ltb, le-ltb, eq-eqb, ne-eqb, ltb-false, eqb-true, eqb-false, not-false}
 use borrow.Author.Needs.{needs}
@@ -13,12 +13,13 @@ use lib.ListN.{length, take, drop, getD, length-drop}
 use lib.Seq.{take-all}
 use Rattle.texts.specs.Answers.{success, passes, answerBy}
 use Rattle.texts.specs.Texts.{between}
-use Rattle.texts.specs.Numbers.{be2, be4, bytes4}
+use Rattle.texts.specs.Numbers.{big, bytesOf, bytesAt}
 use Rattle.texts.specs.Buffers.{put, putAt}
+use Rattle.texts.proofs.Big.{big-bytes, each-at, bytes-big}
 use Rattle.texts.proofs.Puts.{put-fits, length-put, put-put, mid-put, drop-put}
 use Rattle.sheets.specs.Sheet.{fields, placeOf, slotOf}
 use Rattle.sheets.specs.declared.sheet.Field.{Field}
-use Rattle.drafts.specs.Message.{textMax, headSize, leastL, mostL, Bytes, IsMessage, Writable, lengthOf, versionOf, fieldOf, revisionOf, messageText, readTests, readable, readingOf, readAnswer, headOf, messageOf, writeTests, writingOf, writtenOf, writeAnswer}
+use Rattle.drafts.specs.Message.{textMax, revisionPlace, revisionSize, headSize, leastL, mostL, Bytes, IsMessage, Writable, lengthOf, versionOf, fieldOf, revisionOf, messageText, readTests, readable, readingOf, readAnswer, headOf, messageOf, writeTests, writingOf, writtenOf, writeAnswer}
 use Rattle.drafts.specs.Promises.{Reads, Writes}
 use Rattle.drafts.specs.declared.revision.Revision.{Revision}
 use Rattle.drafts.specs.declared.message.Reading.{Reading}
@@ -26,18 +27,6 @@ use Rattle.drafts.specs.declared.message.Reading.the-variants.{Message, 
 use Rattle.drafts.specs.declared.message.Written.{Written}
 use Rattle.drafts.specs.declared.message.Written.the-variants as written
 use Rattle.texts.proofs.Refusals.{no-success, none-of, succeeds, succeeded, unchanged}
-
--- four bytes as a number and back, a number as four bytes and back
-pub be4-bytes4 : (r : ℕ) → r < 2 ^ 32 → be4 (r / 16777216) (r / 65536 % 256) (r / 256 % 256) (r % 256) ≡ r
-be4-bytes4 r h = omega arith
-
-bytes4-be4 : (a b c d : ℕ) → a < 256 → b < 256 → c < 256 → d < 256 → bytes4 (be4 a b c d) ≡ a ∷ b ∷ c ∷ d ∷ []
-bytes4-be4 a b c d ha hb hc hd =
-    let e1 : be4 a b c d / 16777216 ≡ a = omega arith in
-    let e2 : be4 a b c d / 65536 % 256 ≡ b = omega arith in
-    let e3 : be4 a b c d / 256 % 256 ≡ c = omega arith in
-    let e4 : be4 a b c d % 256 ≡ d = omega arith in
-    rw (e1, e2, e3, e4)
 
 -- ---- a listed field has a slot, and no other has one
 
@@ -182,7 +171,7 @@ written-read m h e =
     let z : getD m 0 0 ≡ 0 = omega arith in
     let o : length (drop headSize m) + leastL ≡ getD m 1 0 = omega arith in
     let v : getD m 2 0 ≡ 1 = R .version in
-    ap (λ (x : List ℕ). 0 ∷ (length (drop headSize m) + leastL) ∷ 1 ∷ getD m 3 0 ∷ (x ++ drop headSize m)) (bytes4-be4 (getD m 4 0) (getD m 5 0) (getD m 6 0) (getD m 7 0) (h 4) (h 5) (h 6) (h 7))
+    ap (λ (x : List ℕ). 0 ∷ (length (drop headSize m) + leastL) ∷ 1 ∷ getD m 3 0 ∷ (x ++ drop headSize m)) (bytes-big (bytesAt m revisionPlace revisionSize) (each-at m revisionPlace revisionSize h))
     ∙ sym (split m (omega arith) ∙ rw (z, v, o))
 
 -- the writer makes it of its field, revision and text
@@ -217,7 +206,7 @@ reads-by m r h e = record {
 }
 
 -- the ways out of `read`; l is the number of the first two bytes
-module _ (m : List ℕ) (h : (k : ℕ) → Fits w8 (getD m k 0)) (a b l : ℕ) (ea : a ≡ getD m 0 0) (eb : b ≡ getD m 1 0) (el : l ≡ be2 a b) where
+module _ (m : List ℕ) (h : (k : ℕ) → Fits w8 (getD m k 0)) (a b l : ℕ) (ea : a ≡ getD m 0 0) (eb : b ≡ getD m 1 0) (el : l ≡ big (a ∷ b ∷ [])) where
   out : (r : Reading) → readAnswer r ≡ readingOf m → Reads m r
   out r e = reads-by m r (λ k. h k .fits) e
 
@@ -274,7 +263,7 @@ module _ (m : List ℕ) (h : (k : ℕ) → Fits w8 (getD m k 0)) (a b l : ℕ) (
             read-unlisted e =
                 out _ (simp (le-ltb _ _ two, eq-eqb _ _ all-is, le-ltb _ _ low-is, le-ltb _ _ high-is, eq-eqb _ _ one-is, eq-eqb _ _ (sym slot-is ∙ e)))
 
-            module _ (listed : k ≡ 15 → ⊥) (p q r s n : ℕ) (ep : p ≡ getD m 4 0) (eq : q ≡ getD m 5 0) (er : r ≡ getD m 6 0) (es : s ≡ getD m 7 0) (en : n ≡ be4 p q r s) where
+            module _ (listed : k ≡ 15 → ⊥) (p q r s n : ℕ) (ep : p ≡ getD m 4 0) (eq : q ≡ getD m 5 0) (er : r ≡ getD m 6 0) (es : s ≡ getD m 7 0) (en : n ≡ big (p ∷ q ∷ r ∷ s ∷ [])) where
               number-is : n ≡ revisionOf m
               number-is = cc
 
@@ -329,15 +318,15 @@ message-of f r t b h W =
     record {
       l1 = 0;
       l2 = length t + leastL;
-      r1 = r / 16777216;
-      r2 = r / 65536 % 256;
-      r3 = r / 256 % 256;
-      r4 = r % 256;
+      r1 = getD (bytesOf revisionSize r) 0 0;
+      r2 = getD (bytesOf revisionSize r) 1 0;
+      r3 = getD (bytesOf revisionSize r) 2 0;
+      r4 = getD (bytesOf revisionSize r) 3 0;
       parts = refl;
       size = omega arith;
       most = omega (arith, W .short);
       listed = W .listed;
-      revision = be4-bytes4 r h;
+      revision = big-bytes revisionSize r h;
       given = W .given;
     }
 
@@ -375,7 +364,7 @@ writes-by f r t b w e h p q = record {
           ap (drop n) u ∙ drop-put b 0 (messageOf f r t) n (omega arith) (omega arith),
         )
 
-pub head-is : (f r n : ℕ) (d : List ℕ) → d ≡ bytes4 r → 0 ∷ (n + leastL) ∷ 1 ∷ f ∷ getD d 0 0 ∷ getD d 1 0 ∷ getD d 2 0 ∷ getD d 3 0 ∷ [] ≡ headOf f r n
+pub head-is : (f r n : ℕ) (d : List ℕ) → d ≡ bytesOf revisionSize r → 0 ∷ (n + leastL) ∷ 1 ∷ f ∷ getD d 0 0 ∷ getD d 1 0 ∷ getD d 2 0 ∷ getD d 3 0 ∷ [] ≡ headOf f r n
 unfolding headOf
 head-is f r n d e = rw e
 

@@ -14,12 +14,12 @@ use lib.ListN.{length, take, drop, replicate, length-append, length-drop, length
 use lib.Seq.{drop-at, take-all, take-nil, drop-append-seam, length-take-le}
 use Rattle.texts.specs.Texts.{between, every, are}
 use Rattle.texts.specs.Buffers.{put}
+use Rattle.texts.proofs.Big.{big-bytes}
 use Rattle.texts.proofs.Bools.{both}
 use Rattle.texts.proofs.Puts.{length-put, take-put, drop-put, mid-put}
 use Rattle.sheets.specs.Sheet.{cellSize, cell, fields, placeOf, slotOf, cellOk}
-use Rattle.drafts.specs.Message.{textMax}
+use Rattle.drafts.specs.Message.{textMax, revisionSize}
 use Rattle.drafts.specs.Draft.{slotSize, draftSize, slotIn, slotRevision, slotCell, slotBytes, slotFormed, slotsFormed, draftFormed}
-use Rattle.drafts.proofs.Messages.{be4-bytes4}
 
 -- ---- a slot of a revision and a text
 
@@ -32,7 +32,7 @@ length-slot r t h = simp (length-append, length-replicate) (omega arith)
 
 pub slot-revision : (r : ℕ) (t : List ℕ) → r < 2 ^ 32 → slotRevision (slotBytes r t) ≡ r
 unfolding slotBytes cell
-slot-revision r t h = be4-bytes4 r h
+slot-revision r t h = big-bytes revisionSize r h
 
 slot-cell : (r : ℕ) (t : List ℕ) → length t ≤ textMax → slotCell (slotBytes r t) ≡ length t ∷ (t ++ replicate (textMax - length t) 0)
 unfolding slotCell slotBytes cell between

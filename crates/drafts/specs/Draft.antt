@@ -6,11 +6,11 @@ use lib.Dec.{eqb, ltb}
 use lib.ListN.{length, getD, replicate}
 use Rattle.texts.specs.Quoted.{Text, bytes}
 use Rattle.texts.specs.Texts.{between, same, blank}
-use Rattle.texts.specs.Numbers.{be4, bytes4}
+use Rattle.texts.specs.Numbers.{big, bytesOf, bytesAt}
 use Rattle.texts.specs.Buffers.{put}
 use Rattle.texts.specs.Answers.{Answer, success, refusal, Test, _refuses_, answerBy, bufferBy}
 use Rattle.sheets.specs.Sheet.{slotOf, cellSize, sheetSize, cell, cellText, cellOk}
-use Rattle.drafts.specs.Message.{fieldOf, revisionOf, messageText, readTests}
+use Rattle.drafts.specs.Message.{revisionSize, fieldOf, revisionOf, messageText, readTests}
 use Rattle.drafts.specs.declared.revision.Standing.{Standing}
 use Rattle.drafts.specs.declared.revision.Standing.the-variants.{Newer, Same, Older, Clash}
 use Rattle.drafts.specs.declared.draft.Begun.{Begun}
@@ -23,7 +23,7 @@ use Rattle.drafts.specs.declared.draft.Copied.the-variants as copied
 -- "A draft has 450 bytes, slot i at 30 × i"
 -- a slot: "revision (4, big-endian, 0 = never given), text length (1), text padded with zero bytes to 25": a sheet's cell ends it
 abbrev pub cellPlace : ℕ
-cellPlace = 4
+cellPlace = revisionSize
 
 abbrev pub slotSize : ℕ
 slotSize = cellPlace + cellSize
@@ -35,7 +35,7 @@ unfoldable pub slotIn : List ℕ → ℕ → List ℕ
 slotIn d i = between d (i * slotSize) (i * slotSize + slotSize)
 
 abbrev pub slotRevision : List ℕ → ℕ
-slotRevision s = be4 (getD s 0 0) (getD s 1 0) (getD s 2 0) (getD s 3 0)
+slotRevision s = big (bytesAt s 0 revisionSize)
 
 unfoldable pub slotCell : List ℕ → List ℕ
 slotCell s = between s cellPlace slotSize
@@ -44,7 +44,7 @@ unfoldable pub slotText : List ℕ → Text
 slotText s = cellText (slotCell s)
 
 unfoldable pub slotBytes : ℕ → Text → List ℕ
-slotBytes r t = bytes4 r ++ cell t
+slotBytes r t = bytesOf revisionSize r ++ cell t
 
 -- what wins is the higher rank: a message's is its revision, and 0, that of a slot never given, is none's
 unfoldable pub rankOf : List ℕ → ℕ

@@ -6,7 +6,7 @@ use Prim.Native.Nat.{ℕ, _+_, _-_, _*_, _<_, _≤_}
 use lib.Dec.{eqb, ltb}
 use lib.ListN.{length, getD, drop}
 use Rattle.texts.specs.Quoted.{Text}
-use Rattle.texts.specs.Numbers.{be2, be4, bytes4}
+use Rattle.texts.specs.Numbers.{big, bytesOf, bytesAt}
 use Rattle.texts.specs.Buffers.{put}
 use Rattle.texts.specs.Answers.{Answer, success, refusal, Test, _refuses_, passes, answerBy, bufferBy}
 use Rattle.sheets.specs.Sheet.{fields, slotOf}
@@ -23,9 +23,15 @@ Bytes m = (k : ℕ) → getD m k 0 < 256
 abbrev pub textMax : ℕ
 textMax = 25
 
--- the bytes before a message's text; L counts those behind its own two, and the text's
+-- "revision in four bytes", the last before a message's text; L counts those behind its own two, and the text's
+abbrev pub revisionPlace : ℕ
+revisionPlace = 4
+
+abbrev pub revisionSize : ℕ
+revisionSize = 4
+
 abbrev pub headSize : ℕ
-headSize = 8
+headSize = revisionPlace + revisionSize
 
 abbrev pub leastL : ℕ
 leastL = headSize - 2
@@ -43,15 +49,15 @@ pub record IsMessage (m : List ℕ) (f v : ℕ) (t : Text) : Type 0 where
   pub r3 : ℕ
   pub r4 : ℕ
   pub parts : m ≡ l1 ∷ l2 ∷ 1 ∷ f ∷ r1 ∷ r2 ∷ r3 ∷ r4 ∷ t
-  pub size : l1 * 256 + l2 ≡ 6 + length t
+  pub size : big (l1 ∷ l2 ∷ []) ≡ 6 + length t
   pub most : 6 + length t ≤ 31
   pub listed : List·Memᴰ f fields
-  pub revision : ((r1 * 256 + r2) * 256 + r3) * 256 + r4 ≡ v
+  pub revision : big (r1 ∷ r2 ∷ r3 ∷ r4 ∷ []) ≡ v
   pub given : v ≡ 0 → ⊥
 
 -- the same parts, as reading takes them
 abbrev pub lengthOf : List ℕ → ℕ
-lengthOf m = be2 (getD m 0 0) (getD m 1 0)
+lengthOf m = big (bytesAt m 0 2)
 
 abbrev pub versionOf : List ℕ → ℕ
 versionOf m = getD m 2 0
@@ -60,7 +66,7 @@ abbrev pub fieldOf : List ℕ → ℕ
 fieldOf m = getD m 3 0
 
 abbrev pub revisionOf : List ℕ → ℕ
-revisionOf m = be4 (getD m 4 0) (getD m 5 0) (getD m 6 0) (getD m 7 0)
+revisionOf m = big (bytesAt m revisionPlace revisionSize)
 
 unfoldable pub messageText : List ℕ → Text
 messageText m = drop headSize m
@@ -95,7 +101,7 @@ readAnswer (reading.Refused n) = refusal (n .0) []
 
 -- the bytes before a text of n bytes; L is at most 31, so that its first byte is 0
 unfoldable pub headOf : ℕ → ℕ → ℕ → List ℕ
-headOf f r n = 0 ∷ (n + leastL) ∷ 1 ∷ f ∷ bytes4 r
+headOf f r n = 0 ∷ (n + leastL) ∷ 1 ∷ f ∷ bytesOf revisionSize r
 
 unfoldable pub messageOf : ℕ → ℕ → Text → List ℕ
 messageOf f r t = headOf f r (length t) ++ t

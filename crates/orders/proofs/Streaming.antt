@@ -10,7 +10,7 @@ use borrow.Author.Tests.{eq-eqb, ne-eqb}
 use lib.Dec.{eqb}
 use lib.ListN.{length, getD, drop, length-drop}
 use lib.Seq.{take-all, length-take-le, drop-drop}
-use Rattle.texts.specs.Numbers.{be2}
+use Rattle.texts.specs.Numbers.{big}
 use Rattle.texts.specs.Texts.{between}
 use Rattle.sheets.specs.declared.sheet.Field.{Field}
 use Rattle.drafts.specs.Message.{lengthOf}
@@ -28,7 +28,7 @@ use Rattle.orders.proofs.Whole.{left-formed}
 
 -- ---- a piece
 
-pub piece-is : (s p : List ℕ) (a b n : ℕ) → a ≡ getD s 0 0 → b ≡ getD s 1 0 → n ≡ be2 a b → p ≡ between s 0 (n + 2) → p ≡ pieceOf s
+pub piece-is : (s p : List ℕ) (a b n : ℕ) → a ≡ getD s 0 0 → b ≡ getD s 1 0 → n ≡ big (a ∷ b ∷ []) → p ≡ between s 0 (n + 2) → p ≡ pieceOf s
 unfolding pieceOf between
 piece-is s p a b n ea eb en ep =
     let z : n + 2 - 0 ≡ lengthOf s + 2 = omega arith in

@@ -4,6 +4,7 @@ pub mod Parts
 pub mod Numerals
 pub mod Codes
 pub mod Puts
+pub mod Big
 pub mod Arms
 pub mod Every
 pub mod Refusals

@@ -1,13 +1,26 @@
--- Big-endian numbers of two and of four bytes. Assumes nothing.
+-- Big-endian numbers of any width. Assumes nothing.
 use mathlib.Core.List.{List, [], _∷_}
-use Prim.Native.Nat.{ℕ, _+_, _*_, _/_, _%_}
+use Prim.Native.Nat.{ℕ, zero, suc, _+_, _*_, _/_, _%_}
+use lib.ListN.{getD}
 
-abbrev pub be2 : ℕ → ℕ → ℕ
-be2 a b = a * 256 + b
+-- the number that bytes make, the highest first; and after bytes that make n
+abbrev pub bigFrom : ℕ → List ℕ → ℕ
+bigFrom n [] = n
+bigFrom n (b ∷ bs) = bigFrom (n * 256 + b) bs
 
-abbrev pub be4 : ℕ → ℕ → ℕ → ℕ → ℕ
-be4 a b c d = ((a * 256 + b) * 256 + c) * 256 + d
+abbrev pub big : List ℕ → ℕ
+big [] = 0
+big (b ∷ bs) = bigFrom b bs
 
--- a number below 2 ^ 32 as four bytes
-abbrev pub bytes4 : ℕ → List ℕ
-bytes4 n = n / 16777216 ∷ n / 65536 % 256 ∷ n / 256 % 256 ∷ n % 256 ∷ []
+-- the k lowest bytes of n, the highest first; and bs behind them
+abbrev pub bytesBefore : ℕ → ℕ → List ℕ → List ℕ
+bytesBefore zero n bs = bs
+bytesBefore (suc k) n bs = bytesBefore k (n / 256) (n % 256 ∷ bs)
+
+abbrev pub bytesOf : ℕ → ℕ → List ℕ
+bytesOf k n = bytesBefore k n []
+
+-- the k bytes of t from place i on, 0 past its end
+abbrev pub bytesAt : List ℕ → ℕ → ℕ → List ℕ
+bytesAt t i zero = []
+bytesAt t i (suc k) = getD t i 0 ∷ bytesAt t (suc i) k
