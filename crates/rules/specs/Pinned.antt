@@ -3,7 +3,7 @@
 -- of each rule texts that keep it and texts that break it, every entry of its lists and both sides of its limits. All of it is shown true
 -- of the definitions by computation. Assumes nothing.
 use mathlib.Core.Path.{_≡_, refl}
-use mathlib.Core.Bool.{true, false, cond}
+use mathlib.Core.Bool.{Bool, true, false, cond}
 use mathlib.Core.List.{List, [], _∷_, _++_, map}
 use Prim.Native.Nat.{ℕ, _+_}
 use Prim.Native.String.{String}
@@ -49,21 +49,27 @@ breaks x (n ∷ ns) = cond (keeps x n) [] (n ∷ []) ++ breaks x ns
 varied : List Change → ℕ → String → List (List Change)
 varied cs f q = map (λ (t : Text). cs ++ ((f, t) ∷ [])) (words q)
 
--- What a line says of S with the differences cs. The `refl` at its end has it computed: a line that is not so is refused by the prover.
+-- each of some sheets has one value
+abbrev All : {A : Type 0} → List (List Change) → (List Change → A) → A → Type 0
+All ds g v = map (λ (d : List Change). v) ds ≡ map g ds
+
+abbrev kept : ℕ → List Change → Bool
+kept n cs = keeps (sheetWith cs) n
+
+-- What a line says of S with the differences cs. The `refl` at its end has this computed; the prover refuses a line that is not so.
 data Line : Type 0 where
-  -- the answer of a sheet by its bytes
-  raw : (x : Sheet) (a : Answer) → a ≡ checked x → Line
   -- the answer
   sheet : (cs : List Change) (a : Answer) → a ≡ answer cs → Line
-  -- the answer, and all the rules that it breaks
+  -- the answer, and all the rules that are broken
   turn : (cs : List Change) (a : Answer) (ns : List ℕ) → a ≡ answer cs → ns ≡ breaks (sheetWith cs) numbers → Line
-  -- with each text of q in field f, one answer
-  each : (cs : List Change) (f : ℕ) (q : String) (a : Answer) → map (λ (d : List Change). a) (varied cs f q) ≡ map answer (varied cs f q) → Line
-  -- with each text of q in field f, it keeps rule n; it breaks rule n
-  keep : (n : ℕ) (cs : List Change) (f : ℕ) (q : String) → map (λ (d : List Change). true) (varied cs f q) ≡ map (λ (d : List Change). keeps (sheetWith d) n) (varied cs f q) → Line
-  break : (n : ℕ) (cs : List Change) (f : ℕ) (q : String) → map (λ (d : List Change). false) (varied cs f q) ≡ map (λ (d : List Change). keeps (sheetWith d) n) (varied cs f q) → Line
+  -- with each text of q in field f: the answer; rule n is kept; rule n is broken
+  each : (cs : List Change) (f : ℕ) (q : String) (a : Answer) → All (varied cs f q) answer a → Line
+  keep : (n : ℕ) (cs : List Change) (f : ℕ) (q : String) → All (varied cs f q) (kept n) true → Line
+  break : (n : ℕ) (cs : List Change) (f : ℕ) (q : String) → All (varied cs f q) (kept n) false → Line
+  -- the answer of a sheet's bytes
+  raw : (x : Sheet) (a : Answer) → a ≡ checked x → Line
 
--- differences that many lines share: two accounts of class A, a UIN, class B, status 06 with its office, all four customs fields
+-- differences that many lines share: two accounts of class A, a UIN, class B, status 06 with its office, 106 to 109 of a customs payment
 to03212 : Change
 to03212 = 17 ≔ "03212643000000014800"
 
@@ -79,19 +85,18 @@ inB = (14 ≔ "044525000") ∷ (15 ≔ "") ∷ (17 ≔ "40204810000000000000") �
 customs : List Change
 customs = (101 ≔ "06") ∷ (107 ≔ "10000000") ∷ []
 
-dated : List Change
-dated = (106 ≔ "ТД") ∷ (107 ≔ "10000000") ∷ (108 ≔ "1") ∷ (109 ≔ "01.01.2024") ∷ []
+customsFields : List Change
+customsFields = (106 ≔ "ТД") ∷ (107 ≔ "10000000") ∷ (108 ≔ "1") ∷ (109 ≔ "01.01.2024") ∷ []
 
 -- ---- "Tested in number order; the first broken one is named with the field in brackets"
 
--- Each rule as the first broken one, with the next that a sheet can break beside it.
+-- Each rule as the first broken one, on a sheet that breaks the next one too, or the next that can be broken with it.
 turns : List Line
 unfolding answer breaks numbers to03212 to03222 uin customs
 turns =
     turn ((14 ≔ "1") ∷ (15 ≔ "1") ∷ (101 ≔ "") ∷ []) (broken 14 1) (1 ∷ 2 ∷ []) refl refl
     ∷ turn ((15 ≔ "1") ∷ (17 ≔ "1") ∷ (101 ≔ "") ∷ []) (broken 15 2) (2 ∷ 3 ∷ []) refl refl
     ∷ turn ((17 ≔ "1") ∷ []) (broken 17 3) (3 ∷ 4 ∷ []) refl refl
-    ∷ turn ((17 ≔ "03100") ∷ []) (broken 17 3) (3 ∷ 5 ∷ []) refl refl
     -- 4 is for class O, the later ones are for A and B
     ∷ turn ((15 ≔ "") ∷ (22 ≔ "") ∷ []) (broken 101 4) (4 ∷ []) refl refl
     ∷ turn ((17 ≔ "03100810000000014800") ∷ (105 ≔ "") ∷ []) (broken 17 5) (5 ∷ 6 ∷ 14 ∷ []) refl refl
@@ -108,17 +113,13 @@ turns =
     ∷ turn ((107 ≔ "1") ∷ (108 ≔ "-") ∷ []) (broken 107 16) (16 ∷ 17 ∷ 30 ∷ []) refl refl
     ∷ turn ((108 ≔ "-") ∷ (109 ≔ "1") ∷ []) (broken 108 17) (17 ∷ 18 ∷ 31 ∷ []) refl refl
     ∷ turn (to03222 ∷ (109 ≔ "1") ∷ []) (broken 109 18) (18 ∷ 19 ∷ 31 ∷ []) refl refl
-    ∷ turn (uin ∷ (101 ≔ "31") ∷ (109 ≔ "1") ∷ []) (broken 109 18) (18 ∷ 20 ∷ 31 ∷ []) refl refl
-    -- 19 has other statuses than 20 and 21
+    -- 19 and 20, 21 are for different statuses
     ∷ turn (to03212 ∷ []) (broken 17 19) (19 ∷ 22 ∷ []) refl refl
-    ∷ turn (to03222 ∷ (60 ≔ "0") ∷ []) (broken 17 19) (19 ∷ 23 ∷ []) refl refl
-    ∷ turn (to03222 ∷ (60 ≔ "0") ∷ (101 ≔ "13") ∷ []) (broken 17 19) (19 ∷ 24 ∷ []) refl refl
     ∷ turn ((101 ≔ "31") ∷ []) (broken 17 20) (20 ∷ 21 ∷ []) refl refl
     ∷ turn (to03212 ∷ (101 ≔ "31") ∷ []) (broken 22 21) (21 ∷ 22 ∷ []) refl refl
-    ∷ turn ((101 ≔ "33") ∷ (108 ≔ "1") ∷ []) (broken 22 21) (21 ∷ 26 ∷ []) refl refl
-    -- with 03212, the statuses of 23 and 24 break 19
+    -- on 03212 the statuses of 23 and 24 break 19
     ∷ turn (to03212 ∷ (101 ≔ "03") ∷ []) (broken 22 22) (22 ∷ 25 ∷ []) refl refl
-    -- 23, 24, 25 and 26 have different statuses
+    -- 23, 24, 25 and 26 are for different statuses
     ∷ turn (customs ++ ((60 ≔ "12345") ∷ (102 ≔ "0") ∷ [])) (broken 60 23) (23 ∷ 27 ∷ []) refl refl
     ∷ turn ((101 ≔ "13") ∷ (60 ≔ "12345") ∷ (102 ≔ "0") ∷ []) (broken 60 24) (24 ∷ 27 ∷ []) refl refl
     ∷ turn ((101 ≔ "03") ∷ (102 ≔ "0") ∷ []) (broken 108 25) (25 ∷ 27 ∷ []) refl refl
@@ -127,13 +128,24 @@ turns =
     ∷ turn ((104 ≔ "0") ∷ (106 ≔ "ТД") ∷ (108 ≔ "1") ∷ []) (broken 104 28) (28 ∷ 29 ∷ []) refl refl
     ∷ turn ((106 ≔ "ТД") ∷ (107 ≔ "10000000") ∷ (108 ≔ "1") ∷ []) (broken 106 29) (29 ∷ 30 ∷ []) refl refl
     ∷ turn ((107 ≔ "10000000") ∷ (109 ≔ "01.01.2024") ∷ []) (broken 107 30) (30 ∷ 31 ∷ []) refl refl
-    ∷ turn ((101 ≔ "06") ∷ (106 ≔ "ТД") ∷ []) (broken 107 30) (30 ∷ 32 ∷ []) refl refl
-    ∷ turn ((101 ≔ "06") ∷ (106 ≔ "00") ∷ (109 ≔ "00") ∷ []) (broken 107 30) (30 ∷ 33 ∷ []) refl refl
-    -- 31 is for statuses that have "0" in 106 by 29; 32 and 33 are for different texts in 106
+    -- where 31 is broken, 106 is "0" by 29, and 32 and 33 ask nothing; 32 and 33 are for different texts in 106
     ∷ turn ((109 ≔ "00") ∷ []) (broken 109 31) (31 ∷ 34 ∷ []) refl refl
     ∷ turn (customs ++ ((106 ≔ "ТД") ∷ (109 ≔ "00") ∷ [])) (broken 108 32) (32 ∷ 34 ∷ []) refl refl
     ∷ turn (customs ++ ((106 ≔ "00") ∷ [])) (broken 108 33) (33 ∷ 34 ∷ []) refl refl
     ∷ turn (customs ++ ((109 ≔ "00") ∷ [])) (broken 109 34) (34 ∷ []) refl refl
+    ∷ []
+
+-- Where a rule can't be broken with the one before it, the last that it can be broken with.
+turnsToo : List Line
+unfolding answer breaks numbers to03222 uin
+turnsToo =
+    turn ((17 ≔ "03100") ∷ []) (broken 17 3) (3 ∷ 5 ∷ []) refl refl
+    ∷ turn (uin ∷ (101 ≔ "31") ∷ (109 ≔ "1") ∷ []) (broken 109 18) (18 ∷ 20 ∷ 31 ∷ []) refl refl
+    ∷ turn (to03222 ∷ (60 ≔ "0") ∷ []) (broken 17 19) (19 ∷ 23 ∷ []) refl refl
+    ∷ turn (to03222 ∷ (60 ≔ "0") ∷ (101 ≔ "13") ∷ []) (broken 17 19) (19 ∷ 24 ∷ []) refl refl
+    ∷ turn ((101 ≔ "33") ∷ (108 ≔ "1") ∷ []) (broken 22 21) (21 ∷ 26 ∷ []) refl refl
+    ∷ turn ((101 ≔ "06") ∷ (106 ≔ "ТД") ∷ []) (broken 107 30) (30 ∷ 32 ∷ []) refl refl
+    ∷ turn ((101 ≔ "06") ∷ (106 ≔ "00") ∷ (109 ≔ "00") ∷ []) (broken 107 30) (30 ∷ 33 ∷ []) refl refl
     ∷ []
 
 -- Rule 6 names "the first blank one".
@@ -214,28 +226,29 @@ classes =
 
 -- ---- statuses
 
--- Each one accepted, on a sheet that breaks those of the rules 19 to 31 whose statuses it is not among.
-statuses : List Line
-unfolding answer varied to03212 to03222 uin dated
-statuses =
+-- Each one accepted, on a sheet that a rule of 19 to 31 whose list lacks it would refuse if its list had it.
+acceptedStatuses : List Line
+unfolding answer varied to03212 to03222 uin customsFields
+acceptedStatuses =
     each ((60 ≔ "770156974312") ∷ (102 ≔ "0") ∷ (108 ≔ "1") ∷ []) 101 "01" (accepted "A") refl
     ∷ each (to03222 ∷ (60 ≔ "12345") ∷ (104 ≔ "0") ∷ (108 ≔ "01;1") ∷ []) 101 "03 19 20 24" (accepted "A") refl
     ∷ each ((60 ≔ "12345") ∷ (108 ≔ "1") ∷ []) 101 "04" (accepted "A") refl
     ∷ each (to03222 ∷ (60 ≔ "12345") ∷ (104 ≔ "0") ∷ (108 ≔ "1") ∷ []) 101 "05 08 15 23 27 29" (accepted "A") refl
-    ∷ each dated 101 "06 07" (accepted "A") refl
+    ∷ each customsFields 101 "06 07" (accepted "A") refl
     ∷ each (uin ∷ (60 ≔ "12345") ∷ (108 ≔ "1") ∷ []) 101 "13" (accepted "A") refl
-    ∷ each ((60 ≔ "12345") ∷ dated) 101 "16 28" (accepted "A") refl
-    ∷ each ((60 ≔ "770156974312") ∷ (102 ≔ "0") ∷ dated) 101 "17 32" (accepted "A") refl
-    ∷ each ((60 ≔ "0") ∷ dated) 101 "30" (accepted "A") refl
+    ∷ each ((60 ≔ "12345") ∷ customsFields) 101 "16 28" (accepted "A") refl
+    ∷ each ((60 ≔ "770156974312") ∷ (102 ≔ "0") ∷ customsFields) 101 "17 32" (accepted "A") refl
+    ∷ each ((60 ≔ "0") ∷ customsFields) 101 "30" (accepted "A") refl
     ∷ each (to03212 ∷ uin ∷ (60 ≔ "12345") ∷ (104 ≔ "0") ∷ []) 101 "31" (accepted "A") refl
     ∷ each (to03222 ∷ uin ∷ (60 ≔ "12345") ∷ (104 ≔ "0") ∷ []) 101 "33" (accepted "A") refl
     ∷ []
 
--- ---- each rule by itself
+-- ---- each rule by itself, whatever the others say of the sheet
 
-forms : List Line
-unfolding answer varied inB to03212
-forms =
+-- Texts that keep it and texts that break it: every entry of its lists, and both sides of its limits.
+rules1to18 : List Line
+unfolding answer varied inB to03212 customs
+rules1to18 =
     -- "/" and ":" stand beside the digits
     keep 1 [] 14 "000000000 999999999" refl
     ∷ break 1 [] 14 "00452598 0045259870 /04525987 00452598: 00452598A" refl
@@ -275,6 +288,7 @@ forms =
     ∷ break 14 [] 105 "00 4538300 00000000 4538300A 453830000 45383000000" refl
     ∷ keep 15 [] 106 "0 00 УВ ИЛ ПБ ТГ ТБ ТД ПВ ИН ПК КЭ" refl
     ∷ break 15 [] 106 "1 000 У ВУ УЛ ТП тд TB УВУ" refl
+    ∷ each (customs ++ ((108 ≔ "1") ∷ [])) 106 "УВ ИЛ ПБ ТГ ТБ ТД ПВ ИН ПК КЭ" (accepted "A") refl
     ∷ keep 16 [] 107 "0 10000000 00000000" refl
     ∷ break 16 [] 107 "00 1000000 1000000A 100000000" refl
     -- the bytes, the length, a third byte ";"
@@ -290,6 +304,7 @@ forms =
     ∷ break 17 [] 108 "- 1-1 12345678901234- 1234567890123456 01;1234567890123 01; ;;; А1;1" refl
     ∷ keep 17 [] 108 "01;1 02;1 03;1 04;1 05;1 06;1 07;1 08;1 09;1 10;1 11;1 12;1 13;1 14;1 22;1 24;1 25;1 26;1 28;1 29;1 30;1" refl
     ∷ break 17 [] 108 "00;1 15;1 16;1 17;1 18;1 19;1 20;1 21;1 23;1 27;1 31;1 32;1 40;1 99;1" refl
+    ∷ sheet ((60 ≔ "0") ∷ (101 ≔ "24") ∷ (102 ≔ "0") ∷ (108 ≔ "15;11223344595") ∷ []) (broken 108 17) refl
     -- the last day of each month, leap years, the years, the form
     ∷ keep 18 [] 109 "0 00 31.01.2023 28.02.2023 31.03.2023 30.04.2023 31.05.2023 30.06.2023" refl
     ∷ keep 18 [] 109 "31.07.2023 31.08.2023 30.09.2023 31.10.2023 30.11.2023 31.12.2023" refl
@@ -298,11 +313,15 @@ forms =
     ∷ break 18 [] 109 "29.02.1900 29.02.2001 29.02.2022 30.02.2024 29.02.2100 31.12.1899 01.01.2100" refl
     ∷ break 18 [] 109 "000 00.01.2024 01.00.2024 01.13.2024 1.01.2024 01.1.2024 01.01.24 01.01.20240" refl
     ∷ break 18 [] 109 "01/01.2024 01.01/2024 2024.01.01 A1.01.2024 01.A1.2024 01.01.202A" refl
+    ∷ each customs 109 "29.02.2000 29.02.2024 01.01.1900 31.12.2099" (accepted "A") refl
+    ∷ each customs 109 "29.02.1900 29.02.2023 31.12.1899 01.01.2100" (broken 109 18) refl
+    ∷ sheet ((109 ≔ "29.02.2023") ∷ []) (broken 109 18) refl
+    ∷ sheet ((109 ≔ "29.02.2024") ∷ []) (broken 109 31) refl
     ∷ []
 
-byStatus : List Line
+rules19to34 : List Line
 unfolding answer varied inB to03212 to03222 uin customs
-byStatus =
+rules19to34 =
     -- 19, 20: class A alone
     break 19 (to03222 ∷ []) 101 "01 04 06 07 13 16 17 28 30 32" refl
     ∷ keep 19 (to03222 ∷ []) 101 "03 05 08 15 19 20 23 24 27 29 31 33" refl
@@ -342,7 +361,8 @@ byStatus =
     -- 25: a person identifier, or "0" with a 12-digit INN or a UIN
     ∷ break 25 [] 101 "03 19 20 24" refl
     ∷ keep 25 [] 101 "01 04 05 06 07 08 13 15 16 17 23 27 28 29 30 31 32 33" refl
-    ∷ keep 25 ((101 ≔ "24") ∷ []) 108 "01;1 02;1 03;1 04;1 05;1 06;1 07;1 08;1 09;1 10;1 11;1 12;1 13;1 14;1 22;1 24;1 25;1 26;1 28;1 29;1 30;1" refl
+    ∷ keep 25 ((101 ≔ "24") ∷ []) 108 "01;1 02;1 03;1 04;1 05;1 06;1 07;1 08;1 09;1 10;1 11;1 12;1 13;1 14;1" refl
+    ∷ keep 25 ((101 ≔ "24") ∷ []) 108 "22;1 24;1 25;1 26;1 28;1 29;1 30;1" refl
     ∷ break 25 ((101 ≔ "24") ∷ []) 108 "1 00 15;1 00;1 01; 123;4" refl
     ∷ break 25 ((101 ≔ "24") ∷ []) 60 "0 12345 7701569743" refl
     ∷ keep 25 ((101 ≔ "24") ∷ []) 60 "770156974312" refl
