@@ -15,11 +15,11 @@ use Rattle.rules.specs.declared.Class.{Class}
 use Rattle.rules.specs.declared.Class.the-variants.{A, B, O}
 use Rattle.rules.specs.declared.Verdict.{Verdict}
 use Rattle.rules.specs.declared.Verdict.the-variants.{Accepted}
-use Rattle.drafts.specs.Message.{fieldOf, revisionOf, messageText, readTests, readable, readingOf, readAnswer, writeTests, writingOf, writeAnswer}
-use Rattle.drafts.specs.Draft.{beginTests, beginningOf, beginAnswer, word, standingOf, postTests, postingOf, postAnswer, copyTests, copyingOf, copyAnswer}
+use Rattle.drafts.specs.Message.{messageField, revisionOf, messageText, readTests, readable, readingOf, readAnswer, writeTests, writingOf, writeAnswer}
+use Rattle.drafts.specs.Draft.{beginTests, beginningOf, beginAnswer, word, comparisonOf, postTests, postingOf, postAnswer, copyTests, copyingOf, copyAnswer}
 use Rattle.drafts.specs.Promises.{Reads, Writes, Freshens, Posts, Copies}
-use Rattle.drafts.specs.declared.revision.Standing.{Standing}
-use Rattle.drafts.specs.declared.revision.Standing.the-variants.{Newer, Same, Older, Clash}
+use Rattle.drafts.specs.declared.revision.Comparison.{Comparison}
+use Rattle.drafts.specs.declared.revision.Comparison.the-variants.{Newer, Same, Older, Clash}
 use Rattle.drafts.specs.declared.message.Reading.{Reading}
 use Rattle.drafts.specs.declared.message.Written.{Written}
 use Rattle.drafts.specs.declared.draft.Begun.{Begun}
@@ -72,7 +72,7 @@ copy-back : (d s : List ℕ) → Back numberOf numberAnswer (copyingOf d s)
 unfolding copyingOf copyTests numberAnswer numbered
 copy-back d s = tested (Back numberOf numberAnswer) (copyTests d s) _ refl (search depth 12)
 
-word-back : (s : Standing) → Back postNumbers postOf (success (word s))
+word-back : (s : Comparison) → Back postNumbers postOf (success (word s))
 unfolding postNumbers postOf wordOf numbered same
 word-back Newer = refl
 word-back Same = refl
@@ -81,7 +81,7 @@ word-back Clash = refl
 
 post-back : (d m : List ℕ) → Back postNumbers postOf (postingOf d m)
 unfolding postingOf postTests readTests postNumbers postOf numbered
-post-back d m = tested (Back postNumbers postOf) (postTests d m) _ (word-back (standingOf d m)) (search depth 12)
+post-back d m = tested (Back postNumbers postOf) (postTests d m) _ (word-back (comparisonOf d m)) (search depth 12)
 
 class-back : (c : Class) → Back checkNumbers checkOf (success (className c))
 unfolding checkNumbers checkOf numbered
@@ -112,7 +112,7 @@ module _ (m : List ℕ) (v : Reading) (p : Reads m v) (k : Reading) (e : v ≡ k
   numbers-are = cc
 
   module _ (h : readable m ≡ true) where
-    found-is : r ≡ readNumbers (messageText m) (success (fieldOf m ∷ revisionOf m ∷ []))
+    found-is : r ≡ readNumbers (messageText m) (success (messageField m ∷ revisionOf m ∷ []))
     found-is = numbers-are ∙ ap (readNumbers (messageText m)) (reading-is m (readable-means m h))
 
     text-is : (r .text ≡ 8) × (r .length ≡ length (messageText m))

@@ -9,8 +9,8 @@ use Rattle.texts.specs.Texts.{between, every, are, same}
 use Rattle.texts.specs.Answers.{Answer, success, refusal, numberOf}
 use Rattle.texts.specs.Buffers.{put}
 use Rattle.sheets.specs.Sheet.{slotOf, cell, cellText, cellOk}
-use Rattle.drafts.specs.Message.{messageText, readTests, readable, readingOf, headOf, messageOf, writeTests, writingOf, writtenOf}
-use Rattle.drafts.specs.Draft.{slotIn, slotCell, slotText, slotBytes, rankOf, slotWith, slotFormed, slotsFormed, draftFormed, freshDraft, slotStanding, standingOf, postTests, postingOf, stored, postedTo}
+use Rattle.drafts.specs.Message.{messageText, readTests, readable, readingOf, headBytes, messageOf, writeTests, writingOf, writtenOf}
+use Rattle.drafts.specs.Draft.{slotIn, slotCell, slotText, slotBytes, rankOf, slotWith, slotFormed, slotsFormed, draftFormed, freshDraft, slotComparison, comparisonOf, postTests, postingOf, stored, postedTo}
 use Rattle.drafts.specs.History.{names, rankIn, emptySlot, endSlot}
 
 -- 00 0A 01 0E 00 00 00 01 30 30 34 35
@@ -22,13 +22,13 @@ unfolding bik readingOf readTests slotOf
 reads = refl
 
 posts : postingOf freshDraft bik ≡ success (bytes "newer")
-unfolding bik postingOf postTests readTests slotOf freshDraft draftFormed slotsFormed slotFormed slotIn slotCell slotText cellOk cellText between every are standingOf slotStanding same messageText
+unfolding bik postingOf postTests readTests slotOf freshDraft draftFormed slotsFormed slotFormed slotIn slotCell slotText cellOk cellText between every are comparisonOf slotComparison same messageText
 posts = refl
 
 -- a later message of the same revision and another text changes nothing; one of revision 2 and no text blanks the field
 ends : map (endSlot 0) ((bik ∷ messageOf 14 1 (bytes "1") ∷ []) ∷ (messageOf 14 2 [] ∷ bik ∷ []) ∷ (messageOf 15 1 [] ∷ []) ∷ [])
     ≡ slotBytes 1 (bytes "0045") ∷ slotBytes 2 [] ∷ emptySlot ∷ []
-unfolding bik endSlot rankIn names rankOf slotWith readable readTests slotOf messageOf headOf messageText
+unfolding bik endSlot rankIn names rankOf slotWith readable readTests slotOf messageOf headBytes messageText
 ends = refl
 
 text : ℕ → List ℕ
@@ -54,12 +54,12 @@ refusals : map (λ (m : List ℕ). numberOf (readingOf m)) (
     ∷ []
     )
     ≡ 2 ∷ 2 ∷ 2 ∷ 2 ∷ 2 ∷ 2 ∷ 2 ∷ 3 ∷ 3 ∷ 4 ∷ 4 ∷ 4 ∷ 4 ∷ 4 ∷ 5 ∷ []
-unfolding text readingOf readTests slotOf messageOf headOf
+unfolding text readingOf readTests slotOf messageOf headBytes
 refusals = refl
 
 -- L of 6 and 31; the highest revision
 readings : map readingOf (messageOf 14 1 [] ∷ messageOf 109 4294967295 (text 25) ∷ []) ≡ success (14 ∷ 1 ∷ []) ∷ success (109 ∷ 4294967295 ∷ []) ∷ []
-unfolding text readingOf readTests slotOf messageOf headOf
+unfolding text readingOf readTests slotOf messageOf headBytes
 readings = refl
 
 -- ---- the fifteen fields: of all field numbers these are read and written, and they stand in slots 0 to 14
@@ -85,7 +85,7 @@ unfolding fifteen seven readingOf readTests slotOf
 fields-reading = refl
 
 fields-written : map (λ (f : ℕ). writtenOf f 258 (bytes "7") (replicate 11 9)) fifteen ≡ map (λ (f : ℕ). seven f ++ (9 ∷ 9 ∷ [])) fifteen
-unfolding fifteen seven writtenOf writeTests messageOf headOf put slotOf
+unfolding fifteen seven writtenOf writeTests messageOf headBytes put slotOf
 fields-written = refl
 
 fields-writing : map (λ (f : ℕ). writingOf f 258 (bytes "7") (replicate 9 0)) fifteen ≡ map (λ (f : ℕ). success (9 ∷ [])) fifteen
@@ -98,7 +98,7 @@ fields-slots = refl
 
 -- posted to a fresh draft, a message of field 17 stands in the third slot, byte for byte
 field-posted : postedTo freshDraft (seven 17) ≡ replicate 60 0 ++ (0 ∷ 0 ∷ 1 ∷ 2 ∷ 1 ∷ 55 ∷ []) ++ replicate 384 0
-unfolding seven postedTo postTests readTests slotOf freshDraft draftFormed slotsFormed slotFormed slotIn slotCell slotText cellOk cellText between every are standingOf slotStanding same messageText stored slotWith slotBytes cell put
+unfolding seven postedTo postTests readTests slotOf freshDraft draftFormed slotsFormed slotFormed slotIn slotCell slotText cellOk cellText between every are comparisonOf slotComparison same messageText stored slotWith slotBytes cell put
 field-posted = refl
 
 -- ---- drafts, well formed and malformed

@@ -1,8 +1,8 @@
 pub mod Messages
 pub mod Slots
 pub mod Ranks
-pub mod Ending
-pub mod Perms
-pub mod Sheets
-pub mod Drafts
+pub mod EndSlots
+pub mod Arrangements
+pub mod DraftSheets
+pub mod DraftPromises
 pub mod Examples

@@ -19,7 +19,7 @@ use Rattle.texts.proofs.Big.{big-bytes, each-at, bytes-big}
 use Rattle.texts.proofs.Puts.{put-fits, length-put, put-put, mid-put, drop-put}
 use Rattle.sheets.specs.Sheet.{fields, placeOf, slotOf}
 use Rattle.sheets.specs.declared.sheet.Field.{Field}
-use Rattle.drafts.specs.Message.{textMax, revisionPlace, revisionSize, headSize, leastL, mostL, Bytes, IsMessage, Writable, lengthOf, versionOf, fieldOf, revisionOf, messageText, readTests, readable, readingOf, readAnswer, headOf, messageOf, writeTests, writingOf, writtenOf, writeAnswer}
+use Rattle.drafts.specs.Message.{textMax, revisionPlace, revisionSize, headSize, leastL, mostL, Bytes, IsMessage, Writable, lengthOf, versionOf, messageField, revisionOf, messageText, readTests, readable, readingOf, readAnswer, headBytes, messageOf, writeTests, writingOf, writtenOf, writeAnswer}
 use Rattle.drafts.specs.Promises.{Reads, Writes}
 use Rattle.drafts.specs.declared.revision.Revision.{Revision}
 use Rattle.drafts.specs.declared.message.Reading.{Reading}
@@ -61,7 +61,7 @@ pub record Readable (m : List ℕ) : Type 0 where
   pub low : leastL ≤ lengthOf m
   pub high : lengthOf m ≤ mostL
   pub version : versionOf m ≡ 1
-  pub listed : slotOf (fieldOf m) ≡ 15 → ⊥
+  pub listed : slotOf (messageField m) ≡ 15 → ⊥
   pub revised : revisionOf m ≡ 0 → ⊥
 
 pub readable-means : (m : List ℕ) → readable m ≡ true → Readable m
@@ -83,7 +83,7 @@ readable-by m R =
     let two : 2 ≤ length m = omega arith in
     simp (le-ltb _ _ two, eq-eqb _ _ (R .all), le-ltb _ _ (R .low), le-ltb _ _ (R .high), eq-eqb _ _ (R .version), ne-eqb _ _ (R .listed), ne-eqb _ _ (R .revised))
 
-pub reading-is : (m : List ℕ) → Readable m → readingOf m ≡ success (fieldOf m ∷ revisionOf m ∷ [])
+pub reading-is : (m : List ℕ) → Readable m → readingOf m ≡ success (messageField m ∷ revisionOf m ∷ [])
 unfolding readingOf readable
 reading-is m R = succeeds _ [] (readTests m) (readable-by m R)
 
@@ -95,10 +95,10 @@ pub text-short : (m : List ℕ) → readable m ≡ true → length (messageText 
 unfolding messageText
 text-short m e = let R = readable-means m e in simp length-drop (omega arith)
 
-pub read-found : (m : List ℕ) (f : Field) (v : Revision) → readAnswer (Message f v) ≡ readingOf m → (readable m ≡ true) × (f .0 ≡ fieldOf m) × (v .number ≡ revisionOf m)
+pub read-found : (m : List ℕ) (f : Field) (v : Revision) → readAnswer (Message f v) ≡ readingOf m → (readable m ≡ true) × (f .0 ≡ messageField m) × (v .number ≡ revisionOf m)
 unfolding readingOf readable
 read-found m f v e =
-    let p = succeeded (fieldOf m ∷ revisionOf m ∷ []) (f .0 ∷ v .number ∷ []) (readTests m) e in
+    let p = succeeded (messageField m ∷ revisionOf m ∷ []) (f .0 ∷ v .number ∷ []) (readTests m) e in
     let q = p .1 in
     (p .0, cc, cc)
 
@@ -116,7 +116,7 @@ split (a ∷ b ∷ c ∷ d ∷ e ∷ f ∷ g ∷ []) h = absurd (omega arith)
 split (a ∷ b ∷ c ∷ d ∷ e ∷ f ∷ g ∷ i ∷ m) h = refl
 
 -- it is a message of its field, revision and text, and of nothing else
-is-message : (m : List ℕ) → readable m ≡ true → IsMessage m (fieldOf m) (revisionOf m) (messageText m)
+is-message : (m : List ℕ) → readable m ≡ true → IsMessage m (messageField m) (revisionOf m) (messageText m)
 unfolding messageText
 is-message m e =
     let R = readable-means m e in
@@ -132,15 +132,15 @@ is-message m e =
       parts = split m (omega arith) ∙ rw v;
       size = omega arith;
       most = omega arith;
-      listed = listed-by (fieldOf m) (R .listed);
+      listed = listed-by (messageField m) (R .listed);
       revision = refl;
       given = R .revised;
     }
 
-pub message-is : (m : List ℕ) (f v : ℕ) (t : List ℕ) → IsMessage m f v t → Readable m × (fieldOf m ≡ f) × (revisionOf m ≡ v) × (messageText m ≡ t)
+pub message-is : (m : List ℕ) (f v : ℕ) (t : List ℕ) → IsMessage m f v t → Readable m × (messageField m ≡ f) × (revisionOf m ≡ v) × (messageText m ≡ t)
 unfolding messageText
 message-is m f v t M =
-    subst (λ (x : List ℕ). Readable x × (fieldOf x ≡ f) × (revisionOf x ≡ v) × (messageText x ≡ t)) (sym (M .parts)) (
+    subst (λ (x : List ℕ). Readable x × (messageField x ≡ f) × (revisionOf x ≡ v) × (messageText x ≡ t)) (sym (M .parts)) (
       record {
         all = omega (arith, M .size);
         low = omega (arith, M .size);
@@ -161,8 +161,8 @@ reading-made (Message g w) f v e =
     λ i. Message (record { 0 = p i }) (record { number = q i })
 reading-made (Refused n) f v e = absurd (no-success (n .0) [] _ e)
 
-pub written-read : (m : List ℕ) → Bytes m → readable m ≡ true → messageOf (fieldOf m) (revisionOf m) (messageText m) ≡ m
-unfolding messageOf headOf messageText
+pub written-read : (m : List ℕ) → Bytes m → readable m ≡ true → messageOf (messageField m) (revisionOf m) (messageText m) ≡ m
+unfolding messageOf headBytes messageText
 written-read m h e =
     let R = readable-means m e in
     let l = length-drop headSize m in
@@ -176,7 +176,7 @@ written-read m h e =
 
 -- the writer makes it of its field, revision and text
 written-again : (m b : List ℕ) → Bytes m → readable m ≡ true → length m ≤ length b
-    → (writingOf (fieldOf m) (revisionOf m) (messageText m) b ≡ success (length m ∷ [])) × (writtenOf (fieldOf m) (revisionOf m) (messageText m) b ≡ put b 0 m)
+    → (writingOf (messageField m) (revisionOf m) (messageText m) b ≡ success (length m ∷ [])) × (writtenOf (messageField m) (revisionOf m) (messageText m) b ≡ put b 0 m)
 unfolding writingOf writtenOf writeTests
 written-again m b h e u =
     let R = readable-means m e in
@@ -255,7 +255,7 @@ module _ (m : List ℕ) (h : (k : ℕ) → Fits w8 (getD m k 0)) (a b l : ℕ) (
             one-is : versionOf m ≡ 1
             one-is = sym ev ∙ one
 
-            slot-is : k ≡ slotOf (fieldOf m)
+            slot-is : k ≡ slotOf (messageField m)
             slot-is = ek ∙ ap slotOf ef
 
             pub read-unlisted : k ≡ 15 → Reads m (Refused (record { 0 = 4 }))
@@ -267,7 +267,7 @@ module _ (m : List ℕ) (h : (k : ℕ) → Fits w8 (getD m k 0)) (a b l : ℕ) (
               number-is : n ≡ revisionOf m
               number-is = cc
 
-              listed-is : slotOf (fieldOf m) ≡ 15 → ⊥
+              listed-is : slotOf (messageField m) ≡ 15 → ⊥
               listed-is = λ e. listed (slot-is ∙ e)
 
               pub read-zero : n ≡ 0 → Reads m (Refused (record { 0 = 5 }))
@@ -308,12 +308,12 @@ written-made (written.Bytes k) n e = let p : k ≡ n = cc in ap written.Bytes p
 written-made (written.Refused k) n e = absurd (no-success (k .0) [] _ e)
 
 length-message : (f r : ℕ) (t : List ℕ) → length (messageOf f r t) ≡ length t + headSize
-unfolding messageOf headOf
+unfolding messageOf headBytes
 length-message f r t = omega arith
 
 -- a written message is one of its field, its revision and its text, and reads back as these
 message-of : (f r : ℕ) (t b : List ℕ) → r < 2 ^ 32 → Writable f r t b → IsMessage (messageOf f r t) f r t
-unfolding messageOf headOf
+unfolding messageOf headBytes
 message-of f r t b h W =
     record {
       l1 = 0;
@@ -364,8 +364,8 @@ writes-by f r t b w e h p q = record {
           ap (drop n) u ∙ drop-put b 0 (messageOf f r t) n (omega arith) (omega arith),
         )
 
-pub head-is : (f r n : ℕ) (d : List ℕ) → d ≡ bytesOf revisionSize r → 0 ∷ (n + leastL) ∷ 1 ∷ f ∷ getD d 0 0 ∷ getD d 1 0 ∷ getD d 2 0 ∷ getD d 3 0 ∷ [] ≡ headOf f r n
-unfolding headOf
+pub head-is : (f r n : ℕ) (d : List ℕ) → d ≡ bytesOf revisionSize r → 0 ∷ (n + leastL) ∷ 1 ∷ f ∷ getD d 0 0 ∷ getD d 1 0 ∷ getD d 2 0 ∷ getD d 3 0 ∷ [] ≡ headBytes f r n
+unfolding headBytes
 head-is f r n d e = rw e
 
 -- the ways out of `write`
@@ -397,8 +397,8 @@ module _ (f r k : ℕ) (t b : List ℕ) (h : Fits w32 r) where
         unfolding writingOf writtenOf writeTests
         write-room u = wrote _ b (simp (le-ltb _ _ short, listed-eqb, ne-eqb _ _ z, lt-ltb _ _ u)) (simp (le-ltb _ _ short, listed-eqb, ne-eqb _ _ z, lt-ltb _ _ u))
 
-        pub write-whole : (d x e : List ℕ) → length t + headSize ≤ length b → d ≡ headOf f r (length t) → x ≡ putAt b 0 d → e ≡ putAt x headSize t → Writes f r t b (written.Bytes (length t + headSize)) e
-        unfolding writingOf writtenOf writeTests messageOf headOf
+        pub write-whole : (d x e : List ℕ) → length t + headSize ≤ length b → d ≡ headBytes f r (length t) → x ≡ putAt b 0 d → e ≡ putAt x headSize t → Writes f r t b (written.Bytes (length t + headSize)) e
+        unfolding writingOf writtenOf writeTests messageOf headBytes
         write-whole d x e u ed ex ee =
             let ld : length d ≡ headSize = ap length ed in
             let fx : x ≡ put b 0 d = ex ∙ put-fits b 0 d (omega arith) in

@@ -10,10 +10,10 @@ use lib.ListN.{length}
 use Rattle.texts.specs.Texts.{same}
 use Rattle.texts.specs.Answers.{_refuses_, bufferBy}
 use Rattle.sheets.specs.Sheet.{slotOf}
-use Rattle.drafts.specs.Message.{Bytes, fieldOf, revisionOf, messageText, readable}
-use Rattle.drafts.specs.Draft.{slotSize, slotIn, slotRevision, slotText, slotFormed, rankOf, slotRank, slotWith, slotStanding, standingOf, clashes, kept}
+use Rattle.drafts.specs.Message.{Bytes, messageField, revisionOf, messageText, readable}
+use Rattle.drafts.specs.Draft.{slotSize, slotIn, slotRevision, slotText, slotFormed, rankOf, slotRank, slotWith, slotComparison, comparisonOf, clashes, kept}
 use Rattle.drafts.specs.History.{emptySlot}
-use Rattle.drafts.specs.declared.revision.Standing.the-variants.{Newer, Same, Older, Clash}
+use Rattle.drafts.specs.declared.revision.Comparison.the-variants.{Newer, Same, Older, Clash}
 use Rattle.drafts.proofs.Messages.{readable-means, text-short}
 use Rattle.drafts.proofs.Slots.{length-slot, slot-revision, slot-formed}
 
@@ -51,9 +51,9 @@ empty-rank = refl
 
 -- only a message of a higher rank changes the draft
 pub rank-kept : (d m new : List ℕ)
-    → bufferBy ((clashes (standingOf d m) refuses 6) ∷ []) (kept (standingOf d m) new d) d ≡ cond (ltb (slotRank (slotIn d (slotOf (fieldOf m)))) (rankOf m)) new d
-unfolding rankOf slotRank standingOf slotStanding
-rank-kept d m new = let s = slotIn d (slotOf (fieldOf m)) in by (ltb (slotRevision s) (revisionOf m)) (ltb (revisionOf m) (slotRevision s)) (same (slotText s) (messageText m))
+    → bufferBy ((clashes (comparisonOf d m) refuses 6) ∷ []) (kept (comparisonOf d m) new d) d ≡ cond (ltb (slotRank (slotIn d (slotOf (messageField m)))) (rankOf m)) new d
+unfolding rankOf slotRank comparisonOf slotComparison
+rank-kept d m new = let s = slotIn d (slotOf (messageField m)) in by (ltb (slotRevision s) (revisionOf m)) (ltb (revisionOf m) (slotRevision s)) (same (slotText s) (messageText m))
   where
     by : (x y b : Bool) → let st = cond x Newer (cond y Older (cond b Same Clash)) in bufferBy ((clashes st refuses 6) ∷ []) (kept st new d) d ≡ cond x new d
     by true y b = refl

@@ -10,9 +10,9 @@ use Rattle.texts.specs.Numbers.{big, bytesOf, bytesAt}
 use Rattle.texts.specs.Buffers.{put}
 use Rattle.texts.specs.Answers.{Answer, success, refusal, Test, _refuses_, answerBy, bufferBy}
 use Rattle.sheets.specs.Sheet.{slotOf, cellSize, sheetSize, cell, cellText, cellOk}
-use Rattle.drafts.specs.Message.{revisionSize, fieldOf, revisionOf, messageText, readTests}
-use Rattle.drafts.specs.declared.revision.Standing.{Standing}
-use Rattle.drafts.specs.declared.revision.Standing.the-variants.{Newer, Same, Older, Clash}
+use Rattle.drafts.specs.Message.{revisionSize, messageField, revisionOf, messageText, readTests}
+use Rattle.drafts.specs.declared.revision.Comparison.{Comparison}
+use Rattle.drafts.specs.declared.revision.Comparison.the-variants.{Newer, Same, Older, Clash}
 use Rattle.drafts.specs.declared.draft.Begun.{Begun}
 use Rattle.drafts.specs.declared.draft.Begun.the-variants as begun
 use Rattle.drafts.specs.declared.draft.Posted.{Posted}
@@ -20,11 +20,11 @@ use Rattle.drafts.specs.declared.draft.Posted.the-variants as posted
 use Rattle.drafts.specs.declared.draft.Copied.{Copied}
 use Rattle.drafts.specs.declared.draft.Copied.the-variants as copied
 
--- "A draft has 450 bytes, slot i at 30 × i"
 -- a slot: "revision (4, big-endian, 0 = never given), text length (1), text padded with zero bytes to 25": a sheet's cell ends it
 abbrev pub cellPlace : ℕ
 cellPlace = revisionSize
 
+-- "A draft has 450 bytes, slot i at 30 × i"
 abbrev pub slotSize : ℕ
 slotSize = cellPlace + cellSize
 
@@ -88,47 +88,47 @@ beginAnswer (begun.Refused n) = refusal (n .0) []
 
 -- "Posting a message, by its revision against the slot's: higher, stored, "newer"; equal with the same text, "same";
 -- lower, "older""; a clash is "equal revision, other text"
-abbrev pub standing : ℕ → ℕ → Bool → Standing
-standing r h alike = cond (ltb h r) Newer (cond (ltb r h) Older (cond alike Same Clash))
+abbrev pub comparison : ℕ → ℕ → Bool → Comparison
+comparison r h alike = cond (ltb h r) Newer (cond (ltb r h) Older (cond alike Same Clash))
 
-unfoldable pub slotStanding : List ℕ → ℕ → Text → Standing
-slotStanding s r t = standing r (slotRevision s) (same (slotText s) t)
+unfoldable pub slotComparison : List ℕ → ℕ → Text → Comparison
+slotComparison s r t = comparison r (slotRevision s) (same (slotText s) t)
 
 -- how a message stands to the slot of its field
-unfoldable pub standingOf : List ℕ → List ℕ → Standing
-standingOf d m = slotStanding (slotIn d (slotOf (fieldOf m))) (revisionOf m) (messageText m)
+unfoldable pub comparisonOf : List ℕ → List ℕ → Comparison
+comparisonOf d m = slotComparison (slotIn d (slotOf (messageField m))) (revisionOf m) (messageText m)
 
-abbrev pub clashes : Standing → Bool
+abbrev pub clashes : Comparison → Bool
 clashes Newer = false
 clashes Same = false
 clashes Older = false
 clashes Clash = true
 
-abbrev pub word : Standing → Text
+abbrev pub word : Comparison → Text
 word Newer = bytes "newer"
 word Same = bytes "same"
 word Older = bytes "older"
 word Clash = []
 
 -- "the last two change nothing"
-abbrev pub kept : Standing → List ℕ → List ℕ → List ℕ
+abbrev pub kept : Comparison → List ℕ → List ℕ → List ℕ
 kept Newer new old = new
 kept Same new old = old
 kept Older new old = old
 kept Clash new old = old
 
 unfoldable pub postTests : List ℕ → List ℕ → List Test
-postTests d m = (not (draftFormed d) refuses 1) ∷ (readTests m ++ ((clashes (standingOf d m) refuses 6) ∷ []))
+postTests d m = (not (draftFormed d) refuses 1) ∷ (readTests m ++ ((clashes (comparisonOf d m) refuses 6) ∷ []))
 
 unfoldable pub postingOf : List ℕ → List ℕ → Answer
-postingOf d m = answerBy (postTests d m) (word (standingOf d m))
+postingOf d m = answerBy (postTests d m) (word (comparisonOf d m))
 
 -- the draft with the message in its field's slot
 unfoldable pub stored : List ℕ → List ℕ → List ℕ
-stored d m = put d (slotOf (fieldOf m) * slotSize) (slotWith m)
+stored d m = put d (slotOf (messageField m) * slotSize) (slotWith m)
 
 unfoldable pub postedTo : List ℕ → List ℕ → List ℕ
-postedTo d m = bufferBy (postTests d m) (kept (standingOf d m) (stored d m) d) d
+postedTo d m = bufferBy (postTests d m) (kept (comparisonOf d m) (stored d m) d) d
 
 abbrev pub postAnswer : Posted → Answer
 postAnswer posted.Newer = success (bytes "newer")
@@ -141,8 +141,8 @@ unfoldable pub cells : List ℕ → ℕ → List ℕ
 cells d zero = []
 cells d (suc n) = cells d n ++ slotCell (slotIn d n)
 
-unfoldable pub sheetOf : List ℕ → List ℕ
-sheetOf d = cells d 15
+unfoldable pub draftSheet : List ℕ → List ℕ
+draftSheet d = cells d 15
 
 -- "draft or sheet malformed", "output: a sheet not of 390"
 unfoldable pub copyTests : List ℕ → List ℕ → List Test
@@ -152,7 +152,7 @@ unfoldable pub copyingOf : List ℕ → List ℕ → Answer
 copyingOf d s = answerBy (copyTests d s) []
 
 unfoldable pub copiedTo : List ℕ → List ℕ → List ℕ
-copiedTo d s = bufferBy (copyTests d s) (sheetOf d) s
+copiedTo d s = bufferBy (copyTests d s) (draftSheet d) s
 
 abbrev pub copyAnswer : Copied → Answer
 copyAnswer copied.Made = success []

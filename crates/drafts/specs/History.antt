@@ -7,7 +7,7 @@ use Prim.Native.Nat.{ℕ, _<_, _≤_, max}
 use lib.Dec.{eqb}
 use lib.ListN.{replicate}
 use Rattle.sheets.specs.Sheet.{slotOf}
-use Rattle.drafts.specs.Message.{Bytes, fieldOf, messageText, readable}
+use Rattle.drafts.specs.Message.{Bytes, messageField, messageText, readable}
 use Rattle.drafts.specs.Draft.{slotSize, rankOf, slotWith, freshDraft, postedTo}
 
 -- "The first posting gets a fresh draft, each later one the draft as the posting before left it"
@@ -20,7 +20,7 @@ postedAll ms = postedFrom freshDraft ms
 
 -- m is readable and names the field of slot i
 unfoldable pub names : ℕ → List ℕ → Bool
-names i m = readable m && eqb (slotOf (fieldOf m)) i
+names i m = readable m && eqb (slotOf (messageField m)) i
 
 -- the rank of m in slot i; 0, which no readable message has, where m does not name its field
 unfoldable pub rankIn : ℕ → List ℕ → ℕ
@@ -40,6 +40,7 @@ firstOf i r (m ∷ ms) = cond (eqb (rankIn i m) r) m (firstOf i r ms)
 unfoldable pub emptySlot : List ℕ
 emptySlot = replicate slotSize 0
 
+-- "a slot holds the highest revision .., with the text of the first in the list that has this revision"
 unfoldable pub endSlot : ℕ → List (List ℕ) → List ℕ
 endSlot i ms = cond (eqb (highest i ms) 0) emptySlot (slotWith (firstOf i (highest i ms) ms))
 
@@ -69,6 +70,6 @@ NoClash ms =
     → List·Memᴰ b ms
     → readable a ≡ true
     → readable b ≡ true
-    → fieldOf a ≡ fieldOf b
+    → messageField a ≡ messageField b
     → rankOf a ≡ rankOf b
     → messageText a ≡ messageText b

@@ -62,8 +62,8 @@ lengthOf m = big (bytesAt m 0 2)
 abbrev pub versionOf : List ℕ → ℕ
 versionOf m = getD m 2 0
 
-abbrev pub fieldOf : List ℕ → ℕ
-fieldOf m = getD m 3 0
+abbrev pub messageField : List ℕ → ℕ
+messageField m = getD m 3 0
 
 abbrev pub revisionOf : List ℕ → ℕ
 revisionOf m = big (bytesAt m revisionPlace revisionSize)
@@ -83,7 +83,7 @@ readTests m =
     ∷ (ltb (lengthOf m) leastL refuses 2)
     ∷ (ltb mostL (lengthOf m) refuses 2)
     ∷ (not (eqb (versionOf m) 1) refuses 3)
-    ∷ (unlisted (fieldOf m) refuses 4)
+    ∷ (unlisted (messageField m) refuses 4)
     ∷ (eqb (revisionOf m) 0 refuses 5)
     ∷ []
 
@@ -93,18 +93,18 @@ readable m = passes (readTests m)
 
 -- "Reading returns field, revision and the text": the text is what `message_text` returns
 unfoldable pub readingOf : List ℕ → Answer
-readingOf m = answerBy (readTests m) (fieldOf m ∷ revisionOf m ∷ [])
+readingOf m = answerBy (readTests m) (messageField m ∷ revisionOf m ∷ [])
 
 abbrev pub readAnswer : Reading → Answer
 readAnswer (reading.Message f r) = success (f .0 ∷ r .number ∷ [])
 readAnswer (reading.Refused n) = refusal (n .0) []
 
 -- the bytes before a text of n bytes; L is at most 31, so that its first byte is 0
-unfoldable pub headOf : ℕ → ℕ → ℕ → List ℕ
-headOf f r n = 0 ∷ (n + leastL) ∷ 1 ∷ f ∷ bytesOf revisionSize r
+unfoldable pub headBytes : ℕ → ℕ → ℕ → List ℕ
+headBytes f r n = 0 ∷ (n + leastL) ∷ 1 ∷ f ∷ bytesOf revisionSize r
 
 unfoldable pub messageOf : ℕ → ℕ → Text → List ℕ
-messageOf f r t = headOf f r (length t) ++ t
+messageOf f r t = headBytes f r (length t) ++ t
 
 -- what writing asks for: a listed field, a revision, a text of at most 25 bytes, and room
 pub record Writable (f v : ℕ) (t b : List ℕ) : Type 0 where

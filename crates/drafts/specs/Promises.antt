@@ -51,7 +51,7 @@ pub record Writes (f v : ℕ) (t b : List ℕ) (r : Written) (e : List ℕ) : Ty
   pub back : (n : ℕ) → r ≡ written.Bytes n → (readingOf (take n e) ≡ success (f ∷ v ∷ [])) × (messageText (take n e) ≡ t)
 
 -- d is what the postings of ms, all of them byte strings, left, one after another from a fresh draft
-pub record Left (ms : List (List ℕ)) (d : List ℕ) : Type 0 where
+pub record Postings (ms : List (List ℕ)) (d : List ℕ) : Type 0 where
   pub draft : d ≡ postedAll ms
   pub strings : AllBytes ms
 
@@ -70,7 +70,7 @@ pub record Freshens (d : List ℕ) (r : Begun) (e : List ℕ) : Type 0 where
   -- "A refused call changes none of them"
   pub refused : (r ≡ begun.Made → ⊥) → e ≡ d
   pub exactly : (r ≡ begun.Made) ↔ (length d ≡ draftSize)
-  pub start : length d ≡ draftSize → Left [] e
+  pub start : length d ≡ draftSize → Postings [] e
 
 -- what posting a message of the revision v and the text t answers, by the slot s of its field: "higher, stored, "newer"; equal with the
 -- same text, "same"; lower, "older""; "equal revision, other text"
@@ -89,8 +89,8 @@ pub record Posts (d m : List ℕ) (r : Posted) (e : List ℕ) : Type 0 where
   pub malformed : (r ≡ posted.Refused (record { 0 = 1 })) ↔ (draftFormed d ≡ false)
   pub unread : draftFormed d ≡ true → (n : ℕ) → readingOf m ≡ refusal n [] → r ≡ posted.Refused (record { 0 = n })
   pub stands : draftFormed d ≡ true → (f v : ℕ) (t : List ℕ) → IsMessage m f v t → Stands (slotIn d (slotOf f)) v t r
-  pub after : (ms : List (List ℕ)) → Left ms d → Left (ms ++ (m ∷ [])) e
-  pub held : (ms : List (List ℕ)) → Left ms d → Held (ms ++ (m ∷ [])) e
+  pub after : (ms : List (List ℕ)) → Postings ms d → Postings (ms ++ (m ∷ [])) e
+  pub held : (ms : List (List ℕ)) → Postings ms d → Held (ms ++ (m ∷ [])) e
 
 -- copying d to the buffer s returned r and left e
 pub record Copies (d s : List ℕ) (r : Copied) (e : List ℕ) : Type 0 where

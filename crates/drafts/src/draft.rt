@@ -4,13 +4,13 @@ ghost use Prim.Native.Nat.{_*_, _≤_};
 ghost use lib.ListN.{length};
 ghost use Rattle.texts.specs.Buffers.{putAt};
 ghost use Rattle.drafts.specs.Message.{textMax};
-ghost use Rattle.drafts.specs.Draft.{slotSize, draftSize, slotIn, slotRevision, slotCell, slotFormed, draftFormed, slotStanding, slotBytes, sheetOf};
+ghost use Rattle.drafts.specs.Draft.{slotSize, draftSize, slotIn, slotRevision, slotCell, slotFormed, draftFormed, slotComparison, slotBytes, draftSheet};
 ghost use Rattle.drafts.specs.Promises.{Freshens, Posts, Copies};
 use crate::message::Reading;
 use crate::message::message_text;
 use crate::message::read;
+use crate::revision::Comparison;
 use crate::revision::Revision;
-use crate::revision::Standing;
 use sheets::sheet::CELL_SIZE;
 use sheets::sheet::SHEET_SIZE;
 use sheets::sheet::cell_ok;
@@ -36,7 +36,7 @@ const SLOT_SIZE: usize = CELL_PLACE + CELL_SIZE;
 
 pub const DRAFT_SIZE: usize = 15 * SLOT_SIZE;
 
-const SLOTS: u8 = 15;
+pub const SLOT_COUNT: u8 = 15;
 
 pub enum Begun {
     Made,
@@ -96,7 +96,7 @@ pub fn well_formed(draft: &[u8]) -> bool
     }
     let mut good = true;
     let mut slot: u8 = 0;
-    while slot < SLOTS {
+    while slot < SLOT_COUNT {
         good = good & slot_formed(slot_in(draft, slot));
         slot += 1;
     }
@@ -115,8 +115,8 @@ pub fn fresh(draft: &mut [u8]) -> Begun
 }
 
 // How a message of a revision and a text stands to a slot.
-fn stands(slot: &[u8], revision: Revision, text: &[u8]) -> Standing
-    ensures { λ r. ⌜ r ≡ slotStanding (now (slot .entry)) (revision .number) (now (text .entry)) ⌝ }
+fn stands(slot: &[u8], revision: Revision, text: &[u8]) -> Comparison
+    ensures { λ r. ⌜ r ≡ slotComparison (now (slot .entry)) (revision .number) (now (text .entry)) ⌝ }
 {
     let same_text = equals(cell_text(slot_cell(slot)), text);
     revision.against(slot_revision(slot), same_text)
@@ -156,26 +156,26 @@ pub fn post(draft: &mut [u8], message: &[u8]) -> Posted
             let slot = slot_of(field);
             let text = message_text(message);
             match stands(slot_in(draft, slot), revision, text) {
-                Standing::Newer => {
+                Comparison::Newer => {
                     store(draft, slot, revision, text);
                     Posted::Newer
                 }
-                Standing::Same => Posted::Same,
-                Standing::Older => Posted::Older,
-                Standing::Clash => Posted::Refused(Refusal(6)),
+                Comparison::Same => Posted::Same,
+                Comparison::Older => Posted::Older,
+                Comparison::Clash => Posted::Refused(Refusal(6)),
             }
         }
     }
 }
 
 // A draft's sheet, made in an array: the compiler knows that it does not overlap the draft.
-fn sheet_of(draft: &[u8]) -> [u8; SHEET_SIZE]
+fn draft_sheet(draft: &[u8]) -> [u8; SHEET_SIZE]
     requires { ⌜ length (now draft) ≡ draftSize ⌝ }
-    ensures { λ r. ⌜ r ≡ sheetOf (now (draft .entry)) ⌝ }
+    ensures { λ r. ⌜ r ≡ draftSheet (now (draft .entry)) ⌝ }
 {
     let mut sheet = [0u8; SHEET_SIZE];
     let mut slot: u8 = 0;
-    while slot < SLOTS {
+    while slot < SLOT_COUNT {
         put(
             &mut sheet,
             wide(slot) * CELL_SIZE,
@@ -196,6 +196,6 @@ pub fn copy(draft: &[u8], sheet: &mut [u8]) -> Copied
     if sheet.len() != SHEET_SIZE {
         return Copied::Refused(Refusal(7));
     }
-    put(sheet, 0, &sheet_of(draft));
+    put(sheet, 0, &draft_sheet(draft));
     Copied::Made
 }

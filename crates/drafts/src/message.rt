@@ -1,7 +1,7 @@
 // Messages: reading and writing.
 ghost use mathlib.Core.Path.{_≡_};
 ghost use Prim.Native.Nat.{_≤_};
-ghost use Rattle.drafts.specs.Message.{textMax, headOf, messageText};
+ghost use Rattle.drafts.specs.Message.{textMax, headBytes, messageText};
 ghost use Rattle.drafts.specs.Promises.{Reads, Writes};
 use crate::revision::Revision;
 use sheets::sheet::Field;
@@ -80,7 +80,7 @@ pub fn message_text(message: &[u8]) -> &[u8]
 // The bytes before a text of n bytes.
 fn head(field: Field, revision: Revision, n: usize) -> [u8; HEAD_SIZE]
     requires { ⌜ n ≤ textMax ⌝ }
-    ensures { λ r. ⌜ r ≡ headOf (field .0) (revision .number) n ⌝ }
+    ensures { λ r. ⌜ r ≡ headBytes (field .0) (revision .number) n ⌝ }
 {
     let d = bytes_of_4(revision.number);
     [0, (n + LEAST_L) as u8, 1, field.0, d[0], d[1], d[2], d[3]]

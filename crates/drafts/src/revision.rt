@@ -1,6 +1,6 @@
 // Revisions of a field.
 ghost use mathlib.Core.Path.{_≡_};
-ghost use Rattle.drafts.specs.Draft.{standing};
+ghost use Rattle.drafts.specs.Draft.{comparison};
 
 // The revision that a message gives its field, or that a slot holds; 0 in a slot that none was given.
 pub struct Revision {
@@ -8,7 +8,7 @@ pub struct Revision {
 }
 
 // How a message stands to what its slot holds.
-pub enum Standing {
+pub enum Comparison {
     Newer,
     Same,
     Older,
@@ -17,19 +17,19 @@ pub enum Standing {
 
 impl Revision {
     // How a message of this revision stands to a slot of the revision `had`, by whether their texts are the same.
-    pub fn against(self, had: Revision, same_text: bool) -> Standing
-        ensures { λ r. ⌜ r ≡ standing (self .number) (had .number) «same_text» ⌝ }
+    pub fn against(self, had: Revision, same_text: bool) -> Comparison
+        ensures { λ r. ⌜ r ≡ comparison (self .number) (had .number) «same_text» ⌝ }
     {
         if had.number < self.number {
-            return Standing::Newer;
+            return Comparison::Newer;
         }
         if self.number < had.number {
-            return Standing::Older;
+            return Comparison::Older;
         }
         if same_text {
-            Standing::Same
+            Comparison::Same
         } else {
-            Standing::Clash
+            Comparison::Clash
         }
     }
 }

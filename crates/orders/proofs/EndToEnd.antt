@@ -14,8 +14,8 @@ use Rattle.sheets.specs.Sheet.{slots, slotOf, cell, cellText, cellOk, cellOf, t
 use Rattle.sheets.specs.Forms.{person, document, leap, monthDays, gregorian, date}
 use Rattle.rules.specs.Rules.{classOf, firstBlank, rules, testOf, fieldOf, keeps, firstNot}
 use Rattle.rules.specs.Verdicts.{checkTests, checked}
-use Rattle.drafts.specs.Message.{messageText, readTests, headOf, messageOf}
-use Rattle.drafts.specs.Draft.{slotIn, slotCell, slotText, slotBytes, slotWith, slotFormed, slotsFormed, draftFormed, freshDraft, slotStanding, standingOf, postTests, stored, postedTo, cells, sheetOf}
+use Rattle.drafts.specs.Message.{messageText, readTests, headBytes, messageOf}
+use Rattle.drafts.specs.Draft.{slotIn, slotCell, slotText, slotBytes, slotWith, slotFormed, slotsFormed, draftFormed, freshDraft, slotComparison, comparisonOf, postTests, stored, postedTo, cells, draftSheet}
 use Rattle.drafts.specs.History.{postedAll}
 use Rattle.orders.specs.Fillings.{listOf, toFill, firstFilling}
 use Rattle.orders.specs.Complete.{setOf, budgetPayment, completing, completed}
@@ -110,18 +110,18 @@ buffer = replicate 390 9
 computed :
     (postedAll order ≡ draft)
     × (draftFormed draft ≡ true)
-    × (sheetOf draft ≡ blanks)
+    × (draftSheet draft ≡ blanks)
     × (blanks ≡ foreign)
     × (budgetPayment foreign ≡ true)
     × (setOf foreign ≡ 31816)
     × (tally (toFill foreign) slots ≡ 7)
     × (checked filling ≡ success (bytes "A"))
-unfolding order zeros draft blanks filling foreign sheet postedAll messageOf headOf messageText readTests every any are among same between value valueOf number _isOneOf_ _beginsOneOf_ put slotOf cell cellText cellOk cellOf textOf slotOk _⟨_⟩ given person document leap monthDays gregorian date slotIn slotCell slotText slotBytes slotWith slotFormed slotsFormed draftFormed freshDraft slotStanding standingOf postTests stored postedTo cells sheetOf classOf firstBlank rules testOf fieldOf keeps firstNot checkTests checked listOf toFill setOf budgetPayment
+unfolding order zeros draft blanks filling foreign sheet postedAll messageOf headBytes messageText readTests every any are among same between value valueOf number _isOneOf_ _beginsOneOf_ put slotOf cell cellText cellOk cellOf textOf slotOk _⟨_⟩ given person document leap monthDays gregorian date slotIn slotCell slotText slotBytes slotWith slotFormed slotsFormed draftFormed freshDraft slotComparison comparisonOf postTests stored postedTo cells draftSheet classOf firstBlank rules testOf fieldOf keeps firstNot checkTests checked listOf toFill setOf budgetPayment
 computed = (refl, refl, refl, refl, refl, refl, refl, refl)
 
 -- the draft that the messages leave is a budget payment, and completing it fills 22, 101 and 105 to 109
-left : sheetOf (postedAll order) ≡ foreign
-left = ap sheetOf (computed .0) ∙ computed .2 ∙ computed .3
+left : draftSheet (postedAll order) ≡ foreign
+left = ap draftSheet (computed .0) ∙ computed .2 ∙ computed .3
 
 set-ones : ones (setOf foreign) ≡ 7
 set-ones = filled-set foreign .ones ∙ computed .6

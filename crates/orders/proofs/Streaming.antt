@@ -14,7 +14,7 @@ use Rattle.texts.specs.Numbers.{big}
 use Rattle.texts.specs.Texts.{between}
 use Rattle.sheets.specs.declared.sheet.Field.{Field}
 use Rattle.drafts.specs.Message.{lengthOf}
-use Rattle.drafts.specs.Promises.{Reads, Left, Posts}
+use Rattle.drafts.specs.Promises.{Reads, Postings, Posts}
 use Rattle.drafts.specs.declared.revision.Revision.{Revision}
 use Rattle.texts.specs.declared.answers.Refusal.{Refusal}
 use Rattle.drafts.specs.declared.message.Reading.{Reading}
@@ -97,17 +97,17 @@ messages-next s h =
 -- the messages before place k are posted, those from there on are left
 pub record Streamed (i : List ℕ) (k : ℕ) (d : List ℕ) : Type 0 where
   pub posted : List (List ℕ)
-  pub left : Left posted d
+  pub left : Postings posted d
   pub rest : posted ++ messagesOf (drop k i) ≡ messagesOf i
 
-pub stream-none : (i d : List ℕ) → Left [] d → Streamed i 0 d
+pub stream-none : (i d : List ℕ) → Postings [] d → Streamed i 0 d
 stream-none i d L = record { posted = []; left = L; rest = refl }
 
-pub stream-done : (i : List ℕ) (k : ℕ) (d : List ℕ) → Streamed i k d → length i ≤ k → Left (messagesOf i) d
+pub stream-done : (i : List ℕ) (k : ℕ) (d : List ℕ) → Streamed i k d → length i ≤ k → Postings (messagesOf i) d
 stream-done i k d S h =
     let z : length (drop k i) ≡ 0 = omega (arith, length-drop k i) in
     let e : S .posted ≡ messagesOf i = sym (append-nil (S .posted)) ∙ ap (λ (l : List (List ℕ)). S .posted ++ l) (sym (messages-none (drop k i) z)) ∙ S .rest in
-    subst (λ (l : List (List ℕ)). Left l d) e (S .left)
+    subst (λ (l : List (List ℕ)). Postings l d) e (S .left)
 
 -- one message m, from place k on
 module _ (i : List ℕ) (k : ℕ) (h : k < length i) (s m : List ℕ) (es : s ≡ between i k (length i)) (em : m ≡ pieceOf s) where
@@ -134,16 +134,16 @@ module _ (i : List ℕ) (k : ℕ) (h : k < length i) (s m : List ℕ) (es : s �
       omega (arith, length-drop k i)
 
   module _ (d e : List ℕ) (r : Posted) (S : Streamed i k d) (P : Posts d m r e) (b : Bool) (eb : b ≡ endsStream m) where
-    more : Left (S .posted ++ (m ∷ [])) e
+    more : Postings (S .posted ++ (m ∷ [])) e
     more = P .after (S .posted) (S .left)
 
     next : messagesOf (drop k i) ≡ m ∷ cond b [] (messagesOf (drop (length m) (drop k i)))
     next = rw (eb, first-is) (messages-next (drop k i) some)
 
-    pub stream-last : b ≡ true → Left (messagesOf i) e
+    pub stream-last : b ≡ true → Postings (messagesOf i) e
     stream-last t =
         let q : S .posted ++ (m ∷ []) ≡ messagesOf i = ap (λ (l : List (List ℕ)). S .posted ++ l) (sym (next ∙ rw t)) ∙ S .rest in
-        subst (λ (l : List (List ℕ)). Left l e) q more
+        subst (λ (l : List (List ℕ)). Postings l e) q more
 
     pub stream-next : b ≡ false → Streamed i (k + length m) e
     stream-next t = record {
@@ -158,7 +158,7 @@ module _ (i : List ℕ) (k : ℕ) (h : k < length i) (s m : List ℕ) (es : s �
 
 -- ---- the whole
 
-pub streamed : (i b d : List ℕ) (r : Completed) (t : List ℕ) → Left (messagesOf i) d → Completes d b r t → Streams i b r t
+pub streamed : (i b d : List ℕ) (r : Completed) (t : List ℕ) → Postings (messagesOf i) d → Completes d b r t → Streams i b r t
 streamed i b d r t L C = record {
   answer = C .answer ∙ ap (λ (x : List ℕ). completing x b) (L .draft);
   sheet = C .sheet ∙ ap (λ (x : List ℕ). completed x b) (L .draft);

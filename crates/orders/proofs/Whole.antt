@@ -16,12 +16,12 @@ use Rattle.texts.proofs.Refusals.{no-success, never, unchanged}
 use Rattle.rules.specs.Rules.{budget, rules, fieldOf, keeps, firstBroken, keepsAll}
 use Rattle.rules.proofs.First.{numbered, kept-none, none-kept, split}
 use Rattle.rules.proofs.Judging.{ordinary-class}
-use Rattle.drafts.specs.Draft.{draftFormed, sheetOf}
-use Rattle.drafts.specs.Promises.{Left}
+use Rattle.drafts.specs.Draft.{draftFormed, draftSheet}
+use Rattle.drafts.specs.Promises.{Postings}
 use Rattle.drafts.proofs.Slots.{Formed, formed-means, formed-by}
-use Rattle.drafts.proofs.Ending.{all-formed}
-use Rattle.drafts.proofs.Perms.{held-by}
-use Rattle.drafts.proofs.Sheets.{length-sheet}
+use Rattle.drafts.proofs.EndSlots.{all-formed}
+use Rattle.drafts.proofs.Arrangements.{held-by}
+use Rattle.drafts.proofs.DraftSheets.{length-sheet}
 use Rattle.orders.specs.Fillings.{Filling, Place, Look, found, none, fillings, firstFilling}
 use Rattle.orders.specs.Complete.{setOf, basic, budgetPayment, completeAnswer, nothing, counted, sheetIn, sheetTests, completeTests, completing, completed}
 use Rattle.orders.specs.Whole.{countOf, FirstFilling, All, FilledSet, Unpaid, broken, ordinary, Whole, Completes}
@@ -32,11 +32,11 @@ use Rattle.orders.proofs.Looking.{First, look-found, look-none}
 use Rattle.orders.proofs.Order.{earlier-before, place-of, once-all}
 use Rattle.orders.proofs.Counting.{fillings-most, fillings-one, filled-set}
 
-pub length-sheetOf : (d : List ℕ) → draftFormed d ≡ true → length (sheetOf d) ≡ 390
-length-sheetOf d f = length-sheet d (formed-means d f .sized)
+pub length-draftSheet : (d : List ℕ) → draftFormed d ≡ true → length (draftSheet d) ≡ 390
+length-draftSheet d f = length-sheet d (formed-means d f .sized)
 
 -- postings leave a well-formed draft
-pub left-formed : (ms : List (List ℕ)) (d : List ℕ) → Left ms d → draftFormed d ≡ true
+pub left-formed : (ms : List (List ℕ)) (d : List ℕ) → Postings ms d → draftFormed d ≡ true
 left-formed ms d L = formed-by d (subst Formed (sym (L .draft)) (all-formed ms (L .strings)))
 
 -- what is answered and left where only the look is left to test
@@ -47,18 +47,18 @@ abbrev pub lookSheet : List ℕ → Look (List ℕ) → List ℕ
 lookSheet b o = bufferBy ((nothing o refuses 10 with (counted o ∷ [])) ∷ []) (sheetIn b o) b
 
 -- completing a well-formed budget payment is what looking through its fillings finds
-module _ (d b : List ℕ) (f : draftFormed d ≡ true) (z : length b ≡ 390) (p : budgetPayment (sheetOf d) ≡ true) where
-  kept : (every (keeps (sheetOf d)) basic ≡ true) × (budget (sheetOf d) ≡ true)
+module _ (d b : List ℕ) (f : draftFormed d ≡ true) (z : length b ≡ 390) (p : budgetPayment (draftSheet d) ≡ true) where
+  kept : (every (keeps (draftSheet d)) basic ≡ true) × (budget (draftSheet d) ≡ true)
   unfolding budgetPayment
-  kept = both (every (keeps (sheetOf d)) basic) (budget (sheetOf d)) p
+  kept = both (every (keeps (draftSheet d)) basic) (budget (draftSheet d)) p
 
-  pub answer-is : completing d b ≡ lookAnswer (sheetOf d) (firstFilling (sheetOf d))
+  pub answer-is : completing d b ≡ lookAnswer (draftSheet d) (firstFilling (draftSheet d))
   unfolding completing completeTests sheetTests
-  answer-is = rw (f, z, kept-none (keeps (sheetOf d)) basic (kept .0), kept .1)
+  answer-is = rw (f, z, kept-none (keeps (draftSheet d)) basic (kept .0), kept .1)
 
-  pub sheet-is : completed d b ≡ lookSheet b (firstFilling (sheetOf d))
+  pub sheet-is : completed d b ≡ lookSheet b (firstFilling (draftSheet d))
   unfolding completed completeTests sheetTests
-  sheet-is = rw (f, z, kept-none (keeps (sheetOf d)) basic (kept .0), kept .1)
+  sheet-is = rw (f, z, kept-none (keeps (draftSheet d)) basic (kept .0), kept .1)
 
 -- the promise, by what the look found
 module _ (s b : List ℕ) (z : length s ≡ 390) where
@@ -117,28 +117,28 @@ basic-numbered = refl
 
 -- a draft that is no budget payment
 module _ (d b : List ℕ) (f : draftFormed d ≡ true) (z : length b ≡ 390) where
-  unpaid-broken : (every (keeps (sheetOf d)) basic ≡ true → ⊥) → Unpaid (sheetOf d) (completing d b)
+  unpaid-broken : (every (keeps (draftSheet d)) basic ≡ true → ⊥) → Unpaid (draftSheet d) (completing d b)
   unfolding completing completeTests sheetTests
   unpaid-broken h =
-      let s = sheetOf d in
+      let s = draftSheet d in
       let (before, n, after, e, k, p, i) = split (keeps s) basic h in
       let y : n ≡ 0 → ⊥ = λ q. h (none-kept (keeps s) basic basic-numbered (i ∙ q)) in
       rw (f, z, i, ne-eqb n 0 y) (broken before after n e k p)
 
-  unpaid-by : budgetPayment (sheetOf d) ≡ false → Unpaid (sheetOf d) (completing d b)
+  unpaid-by : budgetPayment (draftSheet d) ≡ false → Unpaid (draftSheet d) (completing d b)
   unfolding completing completeTests sheetTests budgetPayment
-  unpaid-by p = go (every (keeps (sheetOf d)) basic) (budget (sheetOf d)) refl refl p
+  unpaid-by p = go (every (keeps (draftSheet d)) basic) (budget (draftSheet d)) refl refl p
     where
-      go : (k c : Bool) → every (keeps (sheetOf d)) basic ≡ k → budget (sheetOf d) ≡ c → (k && c) ≡ false → Unpaid (sheetOf d) (completing d b)
+      go : (k c : Bool) → every (keeps (draftSheet d)) basic ≡ k → budget (draftSheet d) ≡ c → (k && c) ≡ false → Unpaid (draftSheet d) (completing d b)
       go true true ek ec h = absurd (true≢false h)
-      go true false ek ec h = rw (f, z, kept-none (keeps (sheetOf d)) basic ek, ec) (ordinary ek (ordinary-class (sheetOf d) ec))
+      go true false ek ec h = rw (f, z, kept-none (keeps (draftSheet d)) basic ek, ec) (ordinary ek (ordinary-class (draftSheet d) ec))
       go false c ek ec h = unpaid-broken (λ q. false≢true (sym ek ∙ q))
 
-pub whole-law : (ms : List (List ℕ)) (d b : List ℕ) → Left ms d → Whole ms d b (completing d b) (completed d b)
+pub whole-law : (ms : List (List ℕ)) (d b : List ℕ) → Postings ms d → Whole ms d b (completing d b) (completed d b)
 whole-law ms d b L =
-    let s = sheetOf d in
+    let s = draftSheet d in
     let f = left-formed ms d L in
-    let z = length-sheetOf d f in
+    let z = length-draftSheet d f in
     record {
       held = held-by ms d L;
       refused = λ l p. rw (answer-is d b f l p) (refused-by s b z (firstFilling s) refl);
@@ -162,7 +162,7 @@ filled-of (Refused m) n set k e = absurd (no-success (m .0) _ _ e)
 
 module _ (d b : List ℕ) where
   values : List ℕ
-  values = counted (firstFilling (sheetOf d)) ∷ setOf (sheetOf d) ∷ ones (setOf (sheetOf d)) ∷ []
+  values = counted (firstFilling (draftSheet d)) ∷ setOf (draftSheet d) ∷ ones (setOf (draftSheet d)) ∷ []
 
   malformed-by : (numberOf (completing d b) ≡ 1) ↔ (draftFormed d ≡ false)
   unfolding completing completeTests sheetTests values
@@ -170,12 +170,12 @@ module _ (d b : List ℕ) where
     where
       go : (w : Bool) → draftFormed d ≡ w → numberOf (completing d b) ≡ 1 → w ≡ false
       go false e h = refl
-      go true e h = absurd (never 1 values ((not (eqb (length b) 390) refuses 7) ∷ sheetTests (sheetOf d)) (λ z. omega arith) refl (rw e at h))
+      go true e h = absurd (never 1 values ((not (eqb (length b) 390) refuses 7) ∷ sheetTests (draftSheet d)) (λ z. omega arith) refl (rw e at h))
 
   sized-by : draftFormed d ≡ true → (numberOf (completing d b) ≡ 7) ↔ (length b ≡ 390 → ⊥)
   unfolding completing completeTests sheetTests values
   sized-by w = (
-    λ h l. never 7 values (sheetTests (sheetOf d)) (λ z. omega arith) refl (rw (w, l) at h),
+    λ h l. never 7 values (sheetTests (draftSheet d)) (λ z. omega arith) refl (rw (w, l) at h),
     λ n. simp (w, ne-eqb (length b) 390 n),
   )
 

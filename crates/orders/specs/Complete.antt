@@ -11,7 +11,7 @@ use Rattle.texts.specs.Texts.{every}
 use Rattle.texts.specs.Answers.{Answer, success, refusal, Test, _refuses_, _refuses_with_, answerBy, bufferBy}
 use Rattle.sheets.specs.Sheet.{slots, sheetSize}
 use Rattle.rules.specs.Rules.{budget, rules, fieldOf, keeps, firstBroken}
-use Rattle.drafts.specs.Draft.{draftFormed, sheetOf}
+use Rattle.drafts.specs.Draft.{draftFormed, draftSheet}
 use Rattle.orders.specs.Fillings.{toFill, Look, found, none, firstFilling}
 use Rattle.orders.specs.declared.complete.Completed.{Completed}
 use Rattle.orders.specs.declared.complete.Completed.the-variants.{Filled, Impossible, Broken, Refused}
@@ -62,12 +62,12 @@ sheetTests s =
     ∷ []
 
 unfoldable pub completeTests : List ℕ → List ℕ → List Test
-completeTests d b = (not (draftFormed d) refuses 1) ∷ (not (eqb (length b) sheetSize) refuses 7) ∷ sheetTests (sheetOf d)
+completeTests d b = (not (draftFormed d) refuses 1) ∷ (not (eqb (length b) sheetSize) refuses 7) ∷ sheetTests (draftSheet d)
 
 -- completing the draft d into the buffer b: "the first filling that keeps all rules, the count of fillings up to and including it, a
 -- 16-bit set of the filled slots, and how many bits are set"
 unfoldable pub completing : List ℕ → List ℕ → Answer
-completing d b = answerBy (completeTests d b) (counted (firstFilling (sheetOf d)) ∷ setOf (sheetOf d) ∷ ones (setOf (sheetOf d)) ∷ [])
+completing d b = answerBy (completeTests d b) (counted (firstFilling (draftSheet d)) ∷ setOf (draftSheet d) ∷ ones (setOf (draftSheet d)) ∷ [])
 
 unfoldable pub completed : List ℕ → List ℕ → List ℕ
-completed d b = bufferBy (completeTests d b) (sheetIn b (firstFilling (sheetOf d))) b
+completed d b = bufferBy (completeTests d b) (sheetIn b (firstFilling (draftSheet d))) b

@@ -10,8 +10,8 @@ use Rattle.texts.specs.Answers.{Answer, success, refusal, numberOf}
 use Rattle.sheets.specs.Sheet.{slots, sheetSize, cellOf, textOf}
 use Rattle.rules.specs.Rules.{classOf, rules, fieldOf, keeps, keepsAll}
 use Rattle.rules.specs.declared.Class.the-variants.{O}
-use Rattle.drafts.specs.Draft.{draftFormed, sheetOf}
-use Rattle.drafts.specs.Promises.{Left, Held}
+use Rattle.drafts.specs.Draft.{draftFormed, draftSheet}
+use Rattle.drafts.specs.Promises.{Postings, Held}
 use Rattle.orders.specs.Fillings.{toFill, Filling, Earlier, Place}
 use Rattle.orders.specs.Complete.{basic, budgetPayment, completing, completed, completeAnswer}
 use Rattle.orders.specs.declared.complete.Completed.{Completed}
@@ -74,20 +74,20 @@ pub record Whole (ms : List (List ℕ)) (d b : List ℕ) (a : Answer) (t : List 
   -- filling of its blanks keeps all the rules"
   pub refused :
       length b ≡ sheetSize
-      → budgetPayment (sheetOf d) ≡ true
-      → (numberOf a ≡ 10) ↔ ((f : List ℕ) → Filling (sheetOf d) f → keepsAll f ≡ false)
+      → budgetPayment (draftSheet d) ≡ true
+      → (numberOf a ≡ 10) ↔ ((f : List ℕ) → Filling (draftSheet d) f → keepsAll f ≡ false)
   -- "number, count of all fillings"
-  pub all : length b ≡ sheetSize → budgetPayment (sheetOf d) ≡ true → numberOf a ≡ 10 → (a ≡ refusal 10 (countOf a ∷ [])) × All (sheetOf d) (countOf a)
+  pub all : length b ≡ sheetSize → budgetPayment (draftSheet d) ≡ true → numberOf a ≡ 10 → (a ≡ refusal 10 (countOf a ∷ [])) × All (draftSheet d) (countOf a)
   -- "else the sheet returned is a filling that keeps them .."
-  pub filled : length b ≡ sheetSize → budgetPayment (sheetOf d) ≡ true → (numberOf a ≡ 10 → ⊥) → FirstFilling (sheetOf d) t (countOf a)
+  pub filled : length b ≡ sheetSize → budgetPayment (draftSheet d) ≡ true → (numberOf a ≡ 10 → ⊥) → FirstFilling (draftSheet d) t (countOf a)
   -- and the answer is a success with that count, the set of the filled slots and how many they are
   pub answered :
       length b ≡ sheetSize
-      → budgetPayment (sheetOf d) ≡ true
+      → budgetPayment (draftSheet d) ≡ true
       → (numberOf a ≡ 10 → ⊥)
-      → (set : ℕ) × (k : ℕ) × (a ≡ success (countOf a ∷ set ∷ k ∷ [])) × FilledSet (sheetOf d) set k
+      → (set : ℕ) × (k : ℕ) × (a ≡ success (countOf a ∷ set ∷ k ∷ [])) × FilledSet (draftSheet d) set k
   -- a draft that is no budget payment is refused with 8 or 9
-  pub unpaid : length b ≡ sheetSize → budgetPayment (sheetOf d) ≡ false → Unpaid (sheetOf d) a
+  pub unpaid : length b ≡ sheetSize → budgetPayment (draftSheet d) ≡ false → Unpaid (draftSheet d) a
 
 -- the promise of `complete`: completing d into a buffer that held b returned r and left t
 pub record Completes (d b : List ℕ) (r : Completed) (t : List ℕ) : Type 0 where
@@ -98,4 +98,4 @@ pub record Completes (d b : List ℕ) (r : Completed) (t : List ℕ) : Type 0 wh
   -- "draft or sheet malformed"; "output: a sheet not of 390"
   pub malformed : (numberOf (completeAnswer r) ≡ 1) ↔ (draftFormed d ≡ false)
   pub sized : draftFormed d ≡ true → (numberOf (completeAnswer r) ≡ 7) ↔ (length b ≡ sheetSize → ⊥)
-  pub whole : (ms : List (List ℕ)) → Left ms d → Whole ms d b (completeAnswer r) t
+  pub whole : (ms : List (List ℕ)) → Postings ms d → Whole ms d b (completeAnswer r) t

@@ -1,7 +1,7 @@
 // An input of messages end to end: all of them posted to a fresh draft, and that draft completed.
 ghost use mathlib.Core.Path.{_≡_};
 ghost use mathlib.Core.List.{[]};
-ghost use Rattle.drafts.specs.Promises.{Left};
+ghost use Rattle.drafts.specs.Promises.{Postings};
 ghost use Rattle.orders.specs.Stream.{pieceOf, endsStream, messagesOf, Streams};
 use crate::complete::Completed;
 use crate::complete::complete;
@@ -33,8 +33,8 @@ pub fn ends_stream(message: &[u8]) -> bool
 
 // Posts the messages of an input one after another.
 fn post_stream(draft: &mut [u8], input: &[u8])
-    requires { ⌜ Left [] (now draft) ⌝ }
-    ensures { λ _. ⌜ Left (messagesOf (now (input .entry))) (now (draft .exit)) ⌝ }
+    requires { ⌜ Postings [] (now draft) ⌝ }
+    ensures { λ _. ⌜ Postings (messagesOf (now (input .entry))) (now (draft .exit)) ⌝ }
 {
     let mut from = 0;
     while from < input.len() {

@@ -10,7 +10,7 @@ use Rattle.texts.specs.Buffers.{put}
 use Rattle.sheets.specs.Sheet.{slotOf, cell, cellText, cellOk, cellOf, textOf, _⟨_⟩}
 use Rattle.rules.specs.Rules.{rules, fieldOf, testOf, keeps, firstNot}
 use Rattle.drafts.specs.Message.{messageText, readTests, readingOf}
-use Rattle.drafts.specs.Draft.{slotIn, slotCell, slotText, slotBytes, slotWith, slotFormed, slotsFormed, draftFormed, freshDraft, slotStanding, standingOf, postTests, postingOf, stored, postedTo, cells, sheetOf}
+use Rattle.drafts.specs.Draft.{slotIn, slotCell, slotText, slotBytes, slotWith, slotFormed, slotsFormed, draftFormed, freshDraft, slotComparison, comparisonOf, postTests, postingOf, stored, postedTo, cells, draftSheet}
 use Rattle.orders.specs.Complete.{sheetTests, completeTests, completing, completed}
 use Rattle.orders.specs.Stream.{pieceOf, endsStream, pieces, messagesOf}
 use Rattle.report.specs.Lines.{decimalIn, decimal, item}
@@ -24,7 +24,7 @@ output : List ℕ
 output = bytes "1 newer" ++ (10 ∷ []) ++ bytes "end 8 14 1" ++ (10 ∷ [])
 
 example : reportOf input ≡ output
-unfolding input output every any are among same between put slotOf cell cellText cellOk cellOf textOf _⟨_⟩ rules fieldOf testOf keeps firstNot messageText readTests readingOf slotIn slotCell slotText slotBytes slotWith slotFormed slotsFormed draftFormed freshDraft slotStanding standingOf postTests postingOf stored postedTo cells sheetOf sheetTests completeTests completing completed pieceOf endsStream pieces messagesOf decimalIn decimal item messageLine endLines ending reportFrom reportOf
+unfolding input output every any are among same between put slotOf cell cellText cellOk cellOf textOf _⟨_⟩ rules fieldOf testOf keeps firstNot messageText readTests readingOf slotIn slotCell slotText slotBytes slotWith slotFormed slotsFormed draftFormed freshDraft slotComparison comparisonOf postTests postingOf stored postedTo cells draftSheet sheetTests completeTests completing completed pieceOf endsStream pieces messagesOf decimalIn decimal item messageLine endLines ending reportFrom reportOf
 example = refl
 
 -- the same of what `report` promises, in every buffer that has room

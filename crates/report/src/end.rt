@@ -7,14 +7,13 @@ ghost use Rattle.report.specs.Lines.{Wrote};
 ghost use Rattle.report.specs.Report.{fieldLine, fieldLines, ending};
 use crate::lines::put_item;
 use crate::lines::put_number;
+use drafts::draft::SLOT_COUNT;
 use orders::complete::Completed;
 use orders::complete::complete;
 use sheets::sheet::SHEET_SIZE;
 use sheets::sheet::field_in;
 use sheets::sheet::text;
 use texts::texts::wide;
-
-const SLOTS: u8 = 15;
 
 // "Field number, a space and the sheet's text", `-` for a blank.
 fn put_field(out: &mut [u8], at: usize, sheet: &[u8], slot: u8) -> usize
@@ -36,7 +35,7 @@ fn put_fields(out: &mut [u8], at: usize, sheet: &[u8]) -> usize
 {
     let mut next = at;
     let mut slot: u8 = 0;
-    while slot < SLOTS {
+    while slot < SLOT_COUNT {
         next = put_field(out, next, sheet, slot);
         slot += 1;
     }

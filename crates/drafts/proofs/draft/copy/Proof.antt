@@ -1,4 +1,4 @@
-use Rattle.drafts.proofs.Drafts.{copies}
+use Rattle.drafts.proofs.DraftPromises.{copies}
 use Rattle.drafts.proofs.draft.copy.Statement.{statement}
 use Rattle.drafts.proofs.draft.copy.Tie as tie
 

@@ -1,4 +1,4 @@
-use Rattle.drafts.proofs.Drafts.{begins}
+use Rattle.drafts.proofs.DraftPromises.{begins}
 use Rattle.drafts.proofs.draft.fresh.Statement.{statement}
 use Rattle.drafts.proofs.draft.fresh.Tie as tie
 

@@ -1,4 +1,4 @@
-use Rattle.drafts.proofs.Drafts.{posts}
+use Rattle.drafts.proofs.DraftPromises.{posts}
 use Rattle.drafts.proofs.draft.post.Statement.{statement}
 use Rattle.drafts.proofs.draft.post.Tie as tie
 

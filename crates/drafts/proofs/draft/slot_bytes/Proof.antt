@@ -1,4 +1,4 @@
-use Rattle.drafts.proofs.Drafts.{begins}
+use Rattle.drafts.proofs.DraftPromises.{begins}
 use Rattle.drafts.proofs.draft.slot_bytes.Statement.{statement}
 use Rattle.drafts.proofs.draft.slot_bytes.Tie as tie
 

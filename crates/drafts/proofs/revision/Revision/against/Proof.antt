@@ -1,4 +1,4 @@
-use Rattle.drafts.proofs.Drafts.{begins}
+use Rattle.drafts.proofs.DraftPromises.{begins}
 use Rattle.drafts.proofs.revision.Revision.against.Statement.{statement}
 use Rattle.drafts.proofs.revision.Revision.against.Tie as tie
 

@@ -14,10 +14,10 @@ use Rattle.texts.specs.Texts.{between, every, are}
 use Rattle.texts.proofs.Bools.{both}
 use Rattle.sheets.specs.Sheet.{slotOf, cellText, cellOk}
 use Rattle.texts.specs.Answers.{_refuses_, answerBy, bufferBy}
-use Rattle.drafts.specs.Message.{Bytes, fieldOf, readTests, readable}
-use Rattle.drafts.specs.Draft.{slotSize, draftSize, slotIn, slotCell, slotText, slotFormed, rankOf, slotRank, slotWith, draftFormed, freshDraft, standingOf, clashes, word, kept, postTests, postingOf, stored, postedTo}
+use Rattle.drafts.specs.Message.{Bytes, messageField, readTests, readable}
+use Rattle.drafts.specs.Draft.{slotSize, draftSize, slotIn, slotCell, slotText, slotFormed, rankOf, slotRank, slotWith, draftFormed, freshDraft, comparisonOf, clashes, word, kept, postTests, postingOf, stored, postedTo}
 use Rattle.drafts.specs.History.{postedFrom, postedAll, names, rankIn, highest, firstOf, emptySlot, endSlot, Ends, none, won, AllBytes}
-use Rattle.drafts.specs.declared.revision.Standing.{Standing}
+use Rattle.drafts.specs.declared.revision.Comparison.{Comparison}
 use Rattle.texts.proofs.Refusals.{fails, more}
 use Rattle.drafts.proofs.Messages.{readable-means}
 use Rattle.drafts.proofs.Ranks.{rank-above, length-with, rank-with, with-formed, empty-rank, rank-kept}
@@ -32,15 +32,15 @@ tested false = inr refl
 module _ (i : ℕ) (m : List ℕ) where
   pub names-read : names i m ≡ true → readable m ≡ true
   unfolding names
-  names-read t = both (readable m) (eqb (slotOf (fieldOf m)) i) t .0
+  names-read t = both (readable m) (eqb (slotOf (messageField m)) i) t .0
 
-  pub names-slot : names i m ≡ true → slotOf (fieldOf m) ≡ i
+  pub names-slot : names i m ≡ true → slotOf (messageField m) ≡ i
   unfolding names
-  names-slot t = eqb-true _ _ (both (readable m) (eqb (slotOf (fieldOf m)) i) t .1)
+  names-slot t = eqb-true _ _ (both (readable m) (eqb (slotOf (messageField m)) i) t .1)
 
-  names-not : names i m ≡ false → readable m ≡ true → i ≡ slotOf (fieldOf m) → ⊥
+  names-not : names i m ≡ false → readable m ≡ true → i ≡ slotOf (messageField m) → ⊥
   unfolding names
-  names-not t z e = true≢false (sym (rw (z, eq-eqb (slotOf (fieldOf m)) i (sym e))) ∙ t)
+  names-not t z e = true≢false (sym (rw (z, eq-eqb (slotOf (messageField m)) i (sym e))) ∙ t)
 
   pub rank-named : names i m ≡ true → rankIn i m ≡ rankOf m
   unfolding rankIn
@@ -62,8 +62,12 @@ cond-map : {A B : Type 0} (f : A → B) (b : Bool) (x y : A) → f (cond b x y) 
 cond-map f true x y = refl
 cond-map f false x y = refl
 
+cond-same : {A : Type 0} (b : Bool) (x : A) → cond b x x ≡ x
+cond-same true x = refl
+cond-same false x = refl
+
 -- a readable message against a well-formed draft: what is left to test is the clash
-pub post-read : (d m : List ℕ) (st : Standing) → draftFormed d ≡ true → readable m ≡ true → st ≡ standingOf d m
+pub post-read : (d m : List ℕ) (st : Comparison) → draftFormed d ≡ true → readable m ≡ true → st ≡ comparisonOf d m
     → (answerBy ((clashes st refuses 6) ∷ []) (word st) ≡ postingOf d m) × (bufferBy ((clashes st refuses 6) ∷ []) (kept st (stored d m) d) d ≡ postedTo d m)
 unfolding readable postingOf postedTo postTests
 post-read d m st w z e =
@@ -73,42 +77,38 @@ post-read d m st w z e =
 module _ (d m : List ℕ) where
   posted-unread : readable m ≡ false → postedTo d m ≡ d
   unfolding readable postedTo postTests
-  posted-unread z = rw (fails (readTests m) ((clashes (standingOf d m) refuses 6) ∷ []) z) (unchanged (not (draftFormed d)))
+  posted-unread z = rw (fails (readTests m) ((clashes (comparisonOf d m) refuses 6) ∷ []) z) (unchanged (not (draftFormed d)))
     where
-      unchanged : (b : Bool) → cond (not b && false) (kept (standingOf d m) (stored d m) d) d ≡ d
+      unchanged : (b : Bool) → cond (not b && false) (kept (comparisonOf d m) (stored d m) d) d ≡ d
       unchanged true = refl
       unchanged false = refl
 
   posted-read : Formed d → readable m ≡ true
-      → postedTo d m ≡ cond (ltb (slotRank (slotIn d (slotOf (fieldOf m)))) (rankOf m)) (stored d m) d
-  posted-read f z = sym (post-read d m (standingOf d m) (formed-by d f) z refl .1) ∙ rank-kept d m (stored d m)
+      → postedTo d m ≡ cond (ltb (slotRank (slotIn d (slotOf (messageField m)))) (rankOf m)) (stored d m) d
+  posted-read f z = sym (post-read d m (comparisonOf d m) (formed-by d f) z refl .1) ∙ rank-kept d m (stored d m)
 
   module _ (f : Formed d) (z : readable m ≡ true) where
-    slot-below : slotOf (fieldOf m) < 15
-    slot-below = let n = readable-means m z .listed in omega (arith, slot-le (fieldOf m))
+    slot-below : slotOf (messageField m) < 15
+    slot-below = let n = readable-means m z .listed in omega (arith, slot-le (messageField m))
 
-    stored-own : slotIn (stored d m) (slotOf (fieldOf m)) ≡ slotWith m
+    stored-own : slotIn (stored d m) (slotOf (messageField m)) ≡ slotWith m
     unfolding stored
-    stored-own = slot-same d (f .sized) _ (length-with m z) (slotOf (fieldOf m)) slot-below
+    stored-own = slot-same d (f .sized) _ (length-with m z) (slotOf (messageField m)) slot-below
 
-    stored-other : (i : ℕ) → (i ≡ slotOf (fieldOf m) → ⊥) → slotIn (stored d m) i ≡ slotIn d i
+    stored-other : (i : ℕ) → (i ≡ slotOf (messageField m) → ⊥) → slotIn (stored d m) i ≡ slotIn d i
     unfolding stored
-    stored-other i n = slot-other d (f .sized) _ (length-with m z) (slotOf (fieldOf m)) slot-below i n
+    stored-other i n = slot-other d (f .sized) _ (length-with m z) (slotOf (messageField m)) slot-below i n
 
     length-stored : length (stored d m) ≡ draftSize
     unfolding stored
-    length-stored = length-put-slot d (f .sized) _ (length-with m z) (slotOf (fieldOf m)) slot-below
+    length-stored = length-put-slot d (f .sized) _ (length-with m z) (slotOf (messageField m)) slot-below
 
   posted-sized : Formed d → length (postedTo d m) ≡ draftSize
   posted-sized f =
       ⊎-elim
-      (λ (z : readable m ≡ true). rw (posted-read f z, cond-map length, length-stored f z, f .sized) (alike (ltb (slotRank (slotIn d (slotOf (fieldOf m)))) (rankOf m))))
+      (λ (z : readable m ≡ true). rw (posted-read f z, cond-map length, length-stored f z, f .sized) (cond-same (ltb (slotRank (slotIn d (slotOf (messageField m)))) (rankOf m)) draftSize))
       (λ (z : readable m ≡ false). rw (posted-unread z) (f .sized))
       (tested (readable m))
-    where
-      alike : (b : Bool) → cond b draftSize draftSize ≡ draftSize
-      alike true = refl
-      alike false = refl
 
   -- what one posting does to slot i
   module _ (f : Formed d) (i : ℕ) where
@@ -128,13 +128,9 @@ module _ (d m : List ℕ) where
         rw (rank-other i m t, le-ltb (slotRank (slotIn d i)) 0 (omega arith))
         (⊎-elim
         (λ (z : readable m ≡ true).
-        rw (posted-read f z, cond-map (λ (x : List ℕ). slotIn x i), stored-other f z i (names-not i m t z)) (alike (ltb (slotRank (slotIn d (slotOf (fieldOf m)))) (rankOf m))))
+        rw (posted-read f z, cond-map (λ (x : List ℕ). slotIn x i), stored-other f z i (names-not i m t z)) (cond-same (ltb (slotRank (slotIn d (slotOf (messageField m)))) (rankOf m)) (slotIn d i)))
         (λ (z : readable m ≡ false). rw (posted-unread z))
         (tested (readable m)))
-      where
-        alike : (b : Bool) → cond b (slotIn d i) (slotIn d i) ≡ slotIn d i
-        alike true = refl
-        alike false = refl
 
     step : slotIn (postedTo d m) i ≡ cond (ltb (slotRank (slotIn d i)) (rankIn i m)) (slotWith m) (slotIn d i)
     unfolding Step

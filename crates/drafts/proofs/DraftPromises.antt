@@ -21,13 +21,13 @@ use Rattle.texts.proofs.Puts.{put-fits, length-put, put-put, put-none, put-next
 use Rattle.sheets.specs.Sheet.{cellSize, sheetSize, cell, slotOf}
 use Rattle.sheets.specs.declared.sheet.Field.{Field}
 use Rattle.texts.specs.Answers.{Answer, success, refusal, numberOf, _refuses_, passes, answerBy}
-use Rattle.drafts.specs.Message.{textMax, revisionSize, Bytes, IsMessage, fieldOf, revisionOf, messageText, readTests, readable, readingOf, readAnswer}
-use Rattle.drafts.specs.Draft.{cellPlace, slotSize, draftSize, standing, slotIn, slotRevision, slotCell, slotText, slotBytes, slotWith, draftFormed, freshDraft, beginTests, beginningOf, begunFrom, slotStanding, standingOf, clashes, word, kept, postTests, postingOf, stored, postedTo, postAnswer, cells, sheetOf, copyTests, copyingOf, copiedTo, copyAnswer}
+use Rattle.drafts.specs.Message.{textMax, revisionSize, Bytes, IsMessage, messageField, revisionOf, messageText, readTests, readable, readingOf, readAnswer}
+use Rattle.drafts.specs.Draft.{cellPlace, slotSize, draftSize, comparison, slotIn, slotRevision, slotCell, slotText, slotBytes, slotWith, draftFormed, freshDraft, beginTests, beginningOf, begunFrom, slotComparison, comparisonOf, clashes, word, kept, postTests, postingOf, stored, postedTo, postAnswer, cells, draftSheet, copyTests, copyingOf, copiedTo, copyAnswer}
 use Rattle.drafts.specs.History.{postedFrom, postedAll}
-use Rattle.drafts.specs.Promises.{Reads, Left, Freshens, Stands, newer as is-newer, same as is-same, older as is-older, clash as is-clash, Posts, Copies}
+use Rattle.drafts.specs.Promises.{Reads, Postings, Freshens, Stands, newer as is-newer, same as is-same, older as is-older, clash as is-clash, Posts, Copies}
 use Rattle.drafts.specs.declared.revision.Revision.{Revision}
-use Rattle.drafts.specs.declared.revision.Standing.{Standing}
-use Rattle.drafts.specs.declared.revision.Standing.the-variants.{Newer, Same, Older, Clash}
+use Rattle.drafts.specs.declared.revision.Comparison.{Comparison}
+use Rattle.drafts.specs.declared.revision.Comparison.the-variants.{Newer, Same, Older, Clash}
 use Rattle.texts.specs.declared.answers.Refusal.{Refusal}
 use Rattle.drafts.specs.declared.message.Reading.{Reading}
 use Rattle.drafts.specs.declared.message.Reading.the-variants.{Message, Refused}
@@ -38,24 +38,24 @@ use Rattle.drafts.specs.declared.draft.Copied.{Copied}
 use Rattle.drafts.specs.declared.draft.Copied.the-variants as copied
 use Rattle.texts.proofs.Refusals.{no-success, none-of, succeeds, succeeded, refused, unchanged, never}
 use Rattle.drafts.proofs.Messages.{readable-means, readable-by, read-found, text-short, message-is}
-use Rattle.drafts.proofs.Ending.{post-read}
-use Rattle.drafts.proofs.Perms.{held-by}
-use Rattle.drafts.proofs.Sheets.{length-cell, length-cells, sheet-text, sheet-formed}
+use Rattle.drafts.proofs.EndSlots.{post-read}
+use Rattle.drafts.proofs.Arrangements.{held-by}
+use Rattle.drafts.proofs.DraftSheets.{length-cell, length-cells, sheet-text, sheet-formed}
 use Rattle.drafts.proofs.Slots.{drop-zeros, length-slot, slot-le, formed-means}
 
 -- ---- the ways out of `against`
 
 module _ (r h : ℕ) (b : Bool) where
-  pub stand-newer : h < r → Newer ≡ standing r h b
+  pub stand-newer : h < r → Newer ≡ comparison r h b
   stand-newer u = simp (lt-ltb h r u)
 
-  pub stand-older : r ≤ h → r < h → Older ≡ standing r h b
+  pub stand-older : r ≤ h → r < h → Older ≡ comparison r h b
   stand-older l u = simp (le-ltb h r l, lt-ltb r h u)
 
-  pub stand-same : r ≤ h → h ≤ r → b ≡ true → Same ≡ standing r h b
+  pub stand-same : r ≤ h → h ≤ r → b ≡ true → Same ≡ comparison r h b
   stand-same l u e = simp (le-ltb h r l, le-ltb r h u, e)
 
-  pub stand-clash : r ≤ h → h ≤ r → b ≡ false → Clash ≡ standing r h b
+  pub stand-clash : r ≤ h → h ≤ r → b ≡ false → Clash ≡ comparison r h b
   stand-clash l u e = simp (le-ltb h r l, le-ltb r h u, e)
 
 -- ---- the bytes of a slot
@@ -111,7 +111,7 @@ posted-more : (m d : List ℕ) (ms : List (List ℕ)) → postedFrom d (ms ++ (m
 posted-more m d [] = refl
 posted-more m d (l ∷ ms) = posted-more m (postedTo d l) ms
 
-left-more : (d m e : List ℕ) → Bytes m → e ≡ postedTo d m → (ms : List (List ℕ)) → Left ms d → Left (ms ++ (m ∷ [])) e
+left-more : (d m e : List ℕ) → Bytes m → e ≡ postedTo d m → (ms : List (List ℕ)) → Postings ms d → Postings (ms ++ (m ∷ [])) e
 unfolding postedAll
 left-more d m e b q ms L = record {
   draft = q ∙ ap (λ (x : List ℕ). postedTo x m) (L .draft) ∙ sym (posted-more m freshDraft ms);
@@ -135,8 +135,8 @@ posted-of r a p = is r ∙ ap postedOf p
     is (posted.Refused n) = refl
 
 -- by the revision and the text of the slot
-stands-by : (s : List ℕ) (v : ℕ) (t : List ℕ) → let st = slotStanding s v t in Stands s v t (postedOf (answerBy ((clashes st refuses 6) ∷ []) (word st)))
-unfolding slotStanding postedOf
+stands-by : (s : List ℕ) (v : ℕ) (t : List ℕ) → let st = slotComparison s v t in Stands s v t (postedOf (answerBy ((clashes st refuses 6) ∷ []) (word st)))
+unfolding slotComparison postedOf
 stands-by s v t = by (ltb (slotRevision s) v) (ltb v (slotRevision s)) (same (slotText s) t) refl refl refl
   where
     by : (x y z : Bool) → ltb (slotRevision s) v ≡ x → ltb v (slotRevision s) ≡ y → same (slotText s) t ≡ z
@@ -152,14 +152,14 @@ module _ (d m : List ℕ) (r : Posted) (p : postAnswer r ≡ postingOf d m) wher
   unfolding postingOf postedTo postedOf
   post-kept e q n = q ∙ go (passes (postTests d m)) refl
     where
-      old : (st : Standing) (new : List ℕ) → r ≡ postedOf (success (word st)) → kept st new d ≡ d
+      old : (st : Comparison) (new : List ℕ) → r ≡ postedOf (success (word st)) → kept st new d ≡ d
       old Newer new h = absurd (n h)
       old Same new h = refl
       old Older new h = refl
       old Clash new h = refl
 
-      go : (b : Bool) → passes (postTests d m) ≡ b → cond b (kept (standingOf d m) (stored d m) d) d ≡ d
-      go true h = old (standingOf d m) (stored d m) (posted-of r _ (p ∙ succeeds _ [] (postTests d m) h))
+      go : (b : Bool) → passes (postTests d m) ≡ b → cond b (kept (comparisonOf d m) (stored d m) d) d ≡ d
+      go true h = old (comparisonOf d m) (stored d m) (posted-of r _ (p ∙ succeeds _ [] (postTests d m) h))
       go false h = refl
 
   post-formed : (r ≡ posted.Refused (record { 0 = 1 })) ↔ (draftFormed d ≡ false)
@@ -168,21 +168,21 @@ module _ (d m : List ℕ) (r : Posted) (p : postAnswer r ≡ postingOf d m) wher
     where
       go : (b : Bool) → draftFormed d ≡ b → postingOf d m ≡ refusal 1 [] → b ≡ false
       go false w h = refl
-      go true w h = absurd (never 1 (word (standingOf d m)) (readTests m ++ ((clashes (standingOf d m) refuses 6) ∷ [])) (λ z. omega arith) refl (ap numberOf (rw w at h)))
+      go true w h = absurd (never 1 (word (comparisonOf d m)) (readTests m ++ ((clashes (comparisonOf d m) refuses 6) ∷ [])) (λ z. omega arith) refl (ap numberOf (rw w at h)))
 
   module _ (w : draftFormed d ≡ true) where
     post-refused : (n : ℕ) → readingOf m ≡ refusal n [] → r ≡ posted.Refused (record { 0 = n })
     unfolding postingOf postTests readingOf postedOf
     post-refused n h =
-        let o = refused _ (word (standingOf d m)) n [] (readTests m) ((clashes (standingOf d m) refuses 6) ∷ []) (sym h) in
+        let o = refused _ (word (comparisonOf d m)) n [] (readTests m) ((clashes (comparisonOf d m) refuses 6) ∷ []) (sym h) in
         posted-of r (refusal n []) (p ∙ rw w (sym (o .1)))
 
     post-stands : (f v : ℕ) (t : List ℕ) → IsMessage m f v t → Stands (slotIn d (slotOf f)) v t r
-    unfolding standingOf
+    unfolding comparisonOf
     post-stands f v t M =
         let (R, ef, ev, et) = message-is m f v t M in
-        let o = post-read d m (standingOf d m) w (readable-by m R) refl .0 in
-        rw (posted-of r _ (p ∙ sym o), ← ef, ← ev, ← et) (stands-by (slotIn d (slotOf (fieldOf m))) (revisionOf m) (messageText m))
+        let o = post-read d m (comparisonOf d m) w (readable-by m R) refl .0 in
+        rw (posted-of r _ (p ∙ sym o), ← ef, ← ev, ← et) (stands-by (slotIn d (slotOf (messageField m))) (revisionOf m) (messageText m))
 
 -- the promise of `post`, from its two equations
 pub posts-by : (d m : List ℕ) (r : Posted) (e : List ℕ) → Bytes m → postAnswer r ≡ postingOf d m → e ≡ postedTo d m → Posts d m r e
@@ -214,22 +214,22 @@ module _ (d m : List ℕ) (h : (k : ℕ) → Fits w8 (getD m k 0)) (b : Bool) (e
     pub post-unread : (n : Refusal) → rd ≡ Refused n → Posts d m (posted.Refused n) d
     unfolding postingOf postedTo postTests readingOf
     post-unread n e =
-        let p = refused (fieldOf m ∷ revisionOf m ∷ []) (word (standingOf d m)) (n .0) [] (readTests m) ((clashes (standingOf d m) refuses 6) ∷ []) (ap readAnswer (sym e) ∙ R .answer) in
+        let p = refused (messageField m ∷ revisionOf m ∷ []) (word (comparisonOf d m)) (n .0) [] (readTests m) ((clashes (comparisonOf d m) refuses 6) ∷ []) (ap readAnswer (sym e) ∙ R .answer) in
         post _ d (rw formed (p .1)) (rw (formed, p .0))
 
     module _ (f : Field) (v : Revision) (er : rd ≡ Message f v) (t : List ℕ) (et : t ≡ messageText m) where
-      found : (readable m ≡ true) × (f .0 ≡ fieldOf m) × (v .number ≡ revisionOf m)
+      found : (readable m ≡ true) × (f .0 ≡ messageField m) × (v .number ≡ revisionOf m)
       found = read-found m f v (ap readAnswer (sym er) ∙ R .answer)
 
       pub post-short : length t ≤ textMax
       post-short = rw et (text-short m (found .0))
 
-      module _ (k : ℕ) (ek : k ≡ slotOf (f .0)) (s : List ℕ) (es : s ≡ slotIn d k) (st : Standing) (est : st ≡ slotStanding s (v .number) t) where
-        slot-is : k ≡ slotOf (fieldOf m)
+      module _ (k : ℕ) (ek : k ≡ slotOf (f .0)) (s : List ℕ) (es : s ≡ slotIn d k) (st : Comparison) (est : st ≡ slotComparison s (v .number) t) where
+        slot-is : k ≡ slotOf (messageField m)
         slot-is = ek ∙ ap slotOf (found .1)
 
-        stood : st ≡ standingOf d m
-        unfolding standingOf
+        stood : st ≡ comparisonOf d m
+        unfolding comparisonOf
         stood = est ∙ rw (es, slot-is, found .2, et)
 
         pub post-newer : (e : List ℕ) → st ≡ Newer → e ≡ putAt d (k * slotSize) (slotBytes (v .number) t) → Posts d m posted.Newer e
@@ -252,7 +252,7 @@ module _ (d m : List ℕ) (h : (k : ℕ) → Fits w8 (getD m k 0)) (b : Bool) (e
         pub post-clash : st ≡ Clash → Posts d m (posted.Refused (record { 0 = 6 })) d
         post-clash q = let p = post-read d m Clash formed (found .0) (sym q ∙ stood) in post _ d (p .0) (p .1)
 
--- ---- sheet_of: the cells of the first n slots stand in what was there before
+-- ---- draft_sheet: the cells of the first n slots stand in what was there before
 
 module _ (d s : List ℕ) (l : length d ≡ draftSize) (z : length s ≡ sheetSize) where
   pub cells-none : s ≡ put s 0 (cells d 0)
@@ -267,8 +267,8 @@ module _ (d s : List ℕ) (l : length d ≡ draftSize) (z : length s ≡ sheetSi
         let p : putAt x (n * cellSize) c ≡ put s 0 (cells d n ++ c) = put-next s (cells d n) c x (n * cellSize) (length-cells d l n (omega arith)) (omega arith) ex in
         ey ∙ rw (ew, p, add-one, ec, eu)
 
-    pub cells-all : n ≤ 15 → 15 ≤ n → x ≡ sheetOf d
-    unfolding sheetOf
+    pub cells-all : n ≤ 15 → 15 ≤ n → x ≡ draftSheet d
+    unfolding draftSheet
     cells-all h g =
         let e : n ≡ 15 = omega arith in
         ex ∙ rw e (put-whole s (cells d 15) (length-cells d l 15 (omega arith) ∙ sym z))
@@ -298,7 +298,7 @@ copies-by d s r e p q = record {
       λ o.
       let z = succeeded [] [] (copyTests d s) (ap copyAnswer (sym o) ∙ p) .0 in
       let w = copy-means d s z .0 in
-      let u : e ≡ sheetOf d = q ∙ rw z in
+      let u : e ≡ draftSheet d = q ∙ rw z in
       rw u (sheet-formed d w, sheet-text d (formed-means d w .sized));
 }
 
@@ -320,8 +320,8 @@ module _ (d s : List ℕ) (b : Bool) (eb : b ≡ draftFormed d) where
     pub copy-sized : length d ≡ draftSize
     copy-sized = formed-means d whole .sized
 
-    pub copy-made : (x e : List ℕ) → length s ≡ sheetSize → x ≡ sheetOf d → e ≡ putAt s 0 x → Copies d s copied.Made e
-    unfolding copyingOf copiedTo copyTests sheetOf
+    pub copy-made : (x e : List ℕ) → length s ≡ sheetSize → x ≡ draftSheet d → e ≡ putAt s 0 x → Copies d s copied.Made e
+    unfolding copyingOf copiedTo copyTests draftSheet
     copy-made x e z ex ee =
         let l = length-cells d copy-sized 15 (omega arith) in
         let p : putAt s 0 (cells d 15) ≡ cells d 15 = put-fits s 0 (cells d 15) (omega arith) ∙ put-whole s (cells d 15) (l ∙ sym z) in

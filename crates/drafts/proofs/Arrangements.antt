@@ -11,14 +11,14 @@ use lib.Dec.{eqb}
 use lib.ListN.{length, getD}
 use lib.Seq.{ext-getD, getD-take, getD-drop}
 use Rattle.sheets.specs.Sheet.{fields, placeOf, slotOf}
-use Rattle.drafts.specs.Message.{fieldOf, readable}
+use Rattle.drafts.specs.Message.{messageField, readable}
 use Rattle.drafts.specs.Draft.{slotSize, draftSize, slotIn, rankOf, slotWith}
 use Rattle.drafts.specs.History.{postedAll, names, rankIn, highest, firstOf, endSlot, AllBytes, NoClash}
-use Rattle.drafts.specs.Promises.{Left, Held}
+use Rattle.drafts.specs.Promises.{Postings, Held}
 use Rattle.drafts.proofs.Messages.{readable-means}
 use Rattle.drafts.proofs.Slots.{slot-part, slot-le, formed-by}
 use Rattle.drafts.proofs.Ranks.{with-same}
-use Rattle.drafts.proofs.Ending.{tested, names-read, names-slot, rank-named, ranked, Top, top-at, all-formed, all-slot, ends-right}
+use Rattle.drafts.proofs.EndSlots.{tested, names-read, names-slot, rank-named, ranked, Top, top-at, all-formed, all-slot, ends-right}
 
 -- ---- a draft is its slots
 
@@ -46,9 +46,9 @@ place-at x (y ∷ ys) h =
     (λ (t : eqb x y ≡ false). rw t (ih (let g = rw t at h in omega arith)))
     (tested (eqb x y))
 
-field-at : (m : List ℕ) → readable m ≡ true → getD fields (slotOf (fieldOf m)) 0 ≡ fieldOf m
+field-at : (m : List ℕ) → readable m ≡ true → getD fields (slotOf (messageField m)) 0 ≡ messageField m
 unfolding slotOf
-field-at m z = let n = readable-means m z .listed in place-at (fieldOf m) fields (omega (arith, slot-le (fieldOf m)))
+field-at m z = let n = readable-means m z .listed in place-at (messageField m) fields (omega (arith, slot-le (messageField m)))
 
 -- ---- lists that are arrangements of one another
 
@@ -82,7 +82,7 @@ module _ (ms ns : List (List ℕ)) (agree : NoClash ms) (p : List·Permᴰ ms ns
       let b : names i (w .m) ≡ true = ranked i (w .m) (omega (arith, w .top)) in
       let ra = names-read i (v .m) a in
       let rb = names-read i (w .m) b in
-      let f : fieldOf (v .m) ≡ fieldOf (w .m) =
+      let f : messageField (v .m) ≡ messageField (w .m) =
       sym (field-at (v .m) ra) ∙ ap (λ (k : ℕ). getD fields k 0) (names-slot i (v .m) a ∙ sym (names-slot i (w .m) b)) ∙ field-at (w .m) rb in
       let r : rankOf (v .m) ≡ rankOf (w .m) = omega (arith, v .top, w .top, rank-named i (v .m) a, rank-named i (w .m) b) in
       rw (v .first, w .first) (with-same (v .m) (w .m) r (agree (v .m) (w .m) (member v) (perm-mem (Permᴰ·symm p) (member w)) ra rb f r))
@@ -105,7 +105,7 @@ all-perm ms ns b agree p =
     (λ i l. all-slot ns c i l ∙ sym (end-perm ms ns agree p i) ∙ sym (all-slot ms b i l))
 
 -- the first half of demand 3
-pub held-by : (ms : List (List ℕ)) (d : List ℕ) → Left ms d → Held ms d
+pub held-by : (ms : List (List ℕ)) (d : List ℕ) → Postings ms d → Held ms d
 held-by ms d L =
     let b = L .strings in
     rw (L .draft)

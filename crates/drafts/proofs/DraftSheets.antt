@@ -12,7 +12,7 @@ use lib.Seq.{length-take-le, take-all, drop-at, take-append-le, drop-append-le}
 use Rattle.texts.specs.Texts.{between, every}
 use Rattle.texts.proofs.Bools.{both}
 use Rattle.sheets.specs.Sheet.{slots, cellSize, sheetSize, cellOk, cellOf, textOf, slotOk, wellFormed}
-use Rattle.drafts.specs.Draft.{cellPlace, draftSize, slotIn, slotCell, slotText, slotFormed, draftFormed, cells, sheetOf}
+use Rattle.drafts.specs.Draft.{cellPlace, draftSize, slotIn, slotCell, slotText, slotFormed, draftFormed, cells, draftSheet}
 use Rattle.drafts.proofs.Slots.{length-slot-in, formed-means}
 
 module _ (d : List ℕ) (size : length d ≡ draftSize) where
@@ -50,16 +50,16 @@ module _ (d : List ℕ) (size : length d ≡ draftSize) where
             cell-part (x ++ c) i ∙ rw e (ap (take cellSize) (drop-at x c (n * cellSize) lx) ∙ take-all cellSize c (omega (arith, length-cell n (omega arith))))
       ]
 
-  pub sheet-cell : (i : ℕ) → i < 15 → cellOf (sheetOf d) i ≡ slotCell (slotIn d i)
-  unfolding sheetOf
+  pub sheet-cell : (i : ℕ) → i < 15 → cellOf (draftSheet d) i ≡ slotCell (slotIn d i)
+  unfolding draftSheet
   sheet-cell i h = cell-at 15 i h (omega arith)
 
-  pub sheet-text : (i : ℕ) → i < 15 → textOf (sheetOf d) i ≡ slotText (slotIn d i)
+  pub sheet-text : (i : ℕ) → i < 15 → textOf (draftSheet d) i ≡ slotText (slotIn d i)
   unfolding textOf slotText
   sheet-text i h = rw (sheet-cell i h)
 
-  pub length-sheet : length (sheetOf d) ≡ sheetSize
-  unfolding sheetOf
+  pub length-sheet : length (draftSheet d) ≡ sheetSize
+  unfolding draftSheet
   length-sheet = length-cells 15 (omega arith)
 
 -- what each that passes one test passes too
@@ -74,13 +74,13 @@ below : every (λ (x : ℕ). ltb x 15) slots ≡ true
 unfolding every
 below = refl
 
-pub sheet-formed : (d : List ℕ) → draftFormed d ≡ true → wellFormed (sheetOf d) ≡ true
+pub sheet-formed : (d : List ℕ) → draftFormed d ≡ true → wellFormed (draftSheet d) ≡ true
 unfolding slotOk slotFormed
 sheet-formed d w =
     let F = formed-means d w in
     let z = F .sized in
     rw (eq-eqb _ _ (length-sheet d z))
-    (every-from (slotOk (sheetOf d)) (λ (x : ℕ). ltb x 15)
+    (every-from (slotOk (draftSheet d)) (λ (x : ℕ). ltb x 15)
     (λ i t.
     let l = ltb-true i 15 t in
     ap cellOk (sheet-cell d z i l) ∙ both (cellOk (slotCell (slotIn d i))) _ (F .slot i l) .0)
