@@ -10,9 +10,8 @@ use Rattle.texts.specs.Quoted.{Text}
 use Rattle.texts.specs.Texts.{blank}
 use Rattle.texts.specs.Buffers.{putAt}
 use Rattle.sheets.specs.Sheet.{cell, textOf}
-use Rattle.sheets.specs.Entries.{statusTexts, basisTexts, zeroTexts, filledAt}
+use Rattle.sheets.specs.Entries.{statusTexts, basisTexts, zeroTexts, rowOf, filledAt}
 use Rattle.orders.specs.Fillings.{listOf, toFill}
-use Rattle.sheets.specs.Rows.{statusRows, basisRows, zeroRows, noRow}
 use Rattle.orders.specs.Filled.{rowCell, filledWith, baseOf, pickedOf}
 use Rattle.orders.specs.Complete.{bits, setOf}
 
@@ -25,25 +24,25 @@ pub fill-given : (s t x : List ℕ) (k : ℕ) → t ≡ textOf s k → (length t
 unfolding filledAt
 fill-given s t x k p z = cc (ne-eqb (length t) 0 z)
 
--- a table's row is the list's cell
-row-cell : (rows : List (List ℕ)) (texts : List Text) → map rowCell rows ≡ map cell texts → (k : ℕ) → rowCell (getD rows k noRow) ≡ cell (getD texts k [])
-unfolding cell
-row-cell rows texts e k = sym (List·getD-map rowCell rows k noRow) ∙ ap (λ (l : List (List ℕ)). getD l k (rowCell noRow)) e ∙ List·getD-map cell texts k []
+-- a row is the list's cell
+row-cell : (texts : List Text) → map (λ (t : Text). rowCell (rowOf t)) texts ≡ map cell texts → (k : ℕ) → rowCell (rowOf (getD texts k [])) ≡ cell (getD texts k [])
+unfolding cell rowOf
+row-cell texts e k = sym (List·getD-map (λ (t : Text). rowCell (rowOf t)) texts k []) ∙ ap (λ (l : List (List ℕ)). getD l k (cell [])) e ∙ List·getD-map cell texts k []
 
-status-cell : (k : ℕ) → rowCell (getD statusRows k noRow) ≡ cell (getD statusTexts k [])
-unfolding cell
-status-cell k = row-cell statusRows statusTexts refl k
+status-cell : (k : ℕ) → rowCell (rowOf (getD statusTexts k [])) ≡ cell (getD statusTexts k [])
+unfolding cell rowOf
+status-cell k = row-cell statusTexts refl k
 
-basis-cell : (k : ℕ) → rowCell (getD basisRows k noRow) ≡ cell (getD basisTexts k [])
-unfolding cell
-basis-cell k = row-cell basisRows basisTexts refl k
+basis-cell : (k : ℕ) → rowCell (rowOf (getD basisTexts k [])) ≡ cell (getD basisTexts k [])
+unfolding cell rowOf
+basis-cell k = row-cell basisTexts refl k
 
-zero-cell : (k : ℕ) → rowCell (getD zeroRows k noRow) ≡ cell (getD zeroTexts k [])
-unfolding cell
-zero-cell k = row-cell zeroRows zeroTexts refl k
+zero-cell : (k : ℕ) → rowCell (rowOf (getD zeroTexts k [])) ≡ cell (getD zeroTexts k [])
+unfolding cell rowOf
+zero-cell k = row-cell zeroTexts refl k
 
 -- fill_zeros
-pub zeros-filled : (s a b c d e f r : List ℕ) → r ≡ getD zeroRows 0 noRow → a ≡ filledAt s 3 (rowCell r) → b ≡ filledAt a 4 (rowCell r)
+pub zeros-filled : (s a b c d e f r : List ℕ) → r ≡ rowOf (getD zeroTexts 0 []) → a ≡ filledAt s 3 (rowCell r) → b ≡ filledAt a 4 (rowCell r)
     → c ≡ filledAt b 7 (rowCell r) → d ≡ filledAt c 9 (rowCell r) → e ≡ filledAt d 10 (rowCell r) → f ≡ filledAt e 12 (rowCell r) → f ≡ baseOf s
 unfolding baseOf
 zeros-filled s a b c d e f r h ha hb hc hd he hf =
@@ -51,9 +50,9 @@ zeros-filled s a b c d e f r h ha hb hc hd he hf =
     cc
 
 -- fill_picked
-pub picked-filled : (s a b c d q r t u : List ℕ) (i j k l : ℕ) → q ≡ getD statusRows i noRow → a ≡ filledAt s 6 (rowCell q)
-    → r ≡ getD basisRows j noRow → b ≡ filledAt a 11 (rowCell r) → t ≡ getD zeroRows k noRow → c ≡ filledAt b 13 (rowCell t)
-    → u ≡ getD zeroRows l noRow → d ≡ filledAt c 14 (rowCell u) → d ≡ pickedOf s (i ∷ j ∷ k ∷ l ∷ [])
+pub picked-filled : (s a b c d q r t u : List ℕ) (i j k l : ℕ) → q ≡ rowOf (getD statusTexts i []) → a ≡ filledAt s 6 (rowCell q)
+    → r ≡ rowOf (getD basisTexts j []) → b ≡ filledAt a 11 (rowCell r) → t ≡ rowOf (getD zeroTexts k []) → c ≡ filledAt b 13 (rowCell t)
+    → u ≡ rowOf (getD zeroTexts l []) → d ≡ filledAt c 14 (rowCell u) → d ≡ pickedOf s (i ∷ j ∷ k ∷ l ∷ [])
 unfolding pickedOf
 picked-filled s a b c d q r t u i j k l hq ha hr hb ht hc hu hd =
     let z1 : rowCell q ≡ cell (getD statusTexts i []) = ap rowCell hq ∙ status-cell i in

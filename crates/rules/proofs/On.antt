@@ -1,23 +1,24 @@
 -- The tests on facts are the rules. Assumes nothing.
 use mathlib.Core.Path.{_≡_, refl, ap, sym, _∙_}
-use mathlib.Core.Logic.{_⊎_, ⊎-elim}
-use mathlib.Core.Bool.{Bool, true, false, not, cond, _&&_, _||_, and-assoc, and-comm, and-true}
+use mathlib.Core.Bool.{Bool, true, false, not, cond, _&&_, _||_, and-assoc, and-comm, and-true, false≢true}
 use mathlib.Core.List.{List, [], _∷_, _++_, map}
 use Prim.Native.Nat.{ℕ, zero, suc, _-_, _≤_}
+use Prim.Native.String.{String}
 use native.Mathlib.Omega.{arith}
 use lib.Dec.{eqb}
-use native.Mathlib.Decide.{ℕ-discrete}
-use borrow.Author.Tests.{eqb-true, eqb-false, ne-eqb}
+use borrow.Author.Tests.{eqb-true, eqb-false}
 use lib.ListN.{getD, set}
 use Rattle.texts.specs.Texts.{every, any, are, among, valueOf, value, number, _is_}
 use Rattle.texts.proofs.Bools.{both}
 use Rattle.texts.proofs.Codes.{is-one-of}
-use Rattle.texts.proofs.Arms.{outside}
+use Rattle.texts.proofs.Every.{every-member}
 use Rattle.sheets.specs.Sheet.{slotOf, textOf, _⟨_⟩, Sheet, given}
+use Rattle.sheets.specs.Lists.{wantInn, wantTen, wantTwelve, wantZero, numbersOf}
 use Rattle.sheets.specs.Forms.{_⇒_, inn, inn10, inn12}
 use Rattle.rules.specs.Rules.{Rule, budget, classOf, special, forBudget, rules, testOf, keeps, rule6, rule23}
 use Rattle.sheets.specs.Facts.{payerOf, codeOf, formOf, groupsOf, standingOf, basisOf, documentOf, dayOf, generalOf, accountOf, headOf, sidesOf, restOf, factsOf, wantedBy}
 use Rattle.rules.specs.Tests.{suits, classOn, ordinary, on6, on23, generalOn, specialOn, outcomesOn, judgedOn, kept, holds}
+use Rattle.sheets.specs.declared.forms.Wanted.the-variants.{Any, Inn, Ten, Twelve, Zero}
 use Rattle.sheets.specs.declared.facts.Payer.{Payer}
 use Rattle.sheets.specs.declared.facts.Facts.{Facts}
 
@@ -34,57 +35,44 @@ on-6 : (s : Sheet) → on6 (factsOf s) ≡ rule6 s
 unfolding factsOf headOf standingOf basisOf documentOf dayOf every given slotOf
 on-6 s = six-order (given s 3) (given s 4) (given s 5) (given s 6) (given s 7) (given s 8) (given s 9) (given s 10) (given s 11) (given s 12) (given s 13) (given s 14)
 
--- rule 23: the form that a status wants, case by case
-abbrev wants : ℕ → Payer → Bool
-wants n p =
-    (among n (1 ∷ 32 ∷ []) ⇒ p .inn10 || p .inn12)
-    && ((among n (6 ∷ 7 ∷ []) ⇒ p .inn10) && ((among n (17 ∷ []) ⇒ p .inn12) && (among n (30 ∷ []) ⇒ p .zero)))
+-- rule 23: the form that a status wants, where no status is in two of its lists
+abbrev wants : Bool → Bool → Bool → Bool → Payer → Bool
+wants a b c d p = (a ⇒ p .inn10 || p .inn12) && ((b ⇒ p .inn10) && ((c ⇒ p .inn12) && (d ⇒ p .zero)))
 
-wants-none : (n : ℕ) (p : Payer) → among n (1 ∷ 32 ∷ []) ≡ false → among n (6 ∷ 7 ∷ []) ≡ false → eqb n 17 ≡ false → eqb n 30 ≡ false → among n (17 ∷ []) ≡ false → among n (30 ∷ []) ≡ false → suits (wantedBy n) p ≡ wants n p
-unfolding suits wantedBy
-wants-none n p a b c d e f = simp (a, b, c, d, e, f)
+wants-case : (a b c d : Bool) (p : Payer) → (a ≡ true → not (b || (c || d)) ≡ true) → (b ≡ true → not (c || d) ≡ true) → (c ≡ true → not d ≡ true)
+    → suits (cond a Inn (cond b Ten (cond c Twelve (cond d Zero Any)))) p ≡ wants a b c d p
+unfolding suits
+wants-case true true c d p x y z = absurd (false≢true (x refl))
+wants-case true false true d p x y z = absurd (false≢true (x refl))
+wants-case true false false true p x y z = absurd (false≢true (x refl))
+wants-case true false false false p x y z = sym (and-true (p .inn10 || p .inn12))
+wants-case false true true d p x y z = absurd (false≢true (y refl))
+wants-case false true false true p x y z = absurd (false≢true (y refl))
+wants-case false true false false p x y z = sym (and-true (p .inn10))
+wants-case false false true true p x y z = absurd (false≢true (z refl))
+wants-case false false true false p x y z = sym (and-true (p .inn12))
+wants-case false false false true p x y z = refl
+wants-case false false false false p x y z = refl
 
-wants-is : (n : ℕ) (p : Payer) → suits (wantedBy n) p ≡ wants n p
-unfolding suits wantedBy among any are
+wants-is : (n : ℕ) (p : Payer) → suits (wantedBy n) p ≡ wants (among n (numbersOf 2 wantInn)) (among n (numbersOf 2 wantTen)) (among n (numbersOf 2 wantTwelve)) (among n (numbersOf 2 wantZero)) p
+unfolding wantedBy among any are every number value valueOf
 wants-is n p =
-    elim (ℕ-discrete n 1) [
-      | yes e ↦ rw e (sym (and-true (p .inn10 || p .inn12)))
-      | no a ↦
-          elim (ℕ-discrete n 32) [
-            | yes e ↦ rw e (sym (and-true (p .inn10 || p .inn12)))
-            | no b ↦
-                elim (ℕ-discrete n 6) [
-                  | yes e ↦ rw e (sym (and-true (p .inn10)))
-                  | no c ↦
-                      elim (ℕ-discrete n 7) [
-                        | yes e ↦ rw e (sym (and-true (p .inn10)))
-                        | no d ↦
-                            elim (ℕ-discrete n 17) [
-                              | yes e ↦ rw e (sym (and-true (p .inn12)))
-                              | no f ↦
-                                  elim (ℕ-discrete n 30) [
-                                    | yes e ↦ rw e refl
-                                    | no g ↦
-                                        wants-none n p
-                                        (outside n 1 (32 ∷ []) (λ q. ⊎-elim a b q))
-                                        (outside n 6 (7 ∷ []) (λ q. ⊎-elim c d q))
-                                        (ne-eqb n 17 f) (ne-eqb n 30 g)
-                                        (outside n 17 [] f) (outside n 30 [] g)
-                                  ]
-                            ]
-                      ]
-                ]
-          ]
-    ]
+    wants-case (of wantInn n) (of wantTen n) (of wantTwelve n) (of wantZero n) p
+    (λ m. every-member (λ (k : ℕ). not (of wantTen k || (of wantTwelve k || of wantZero k))) (numbersOf 2 wantInn) n m refl)
+    (λ m. every-member (λ (k : ℕ). not (of wantTwelve k || of wantZero k)) (numbersOf 2 wantTen) n m refl)
+    (λ m. every-member (λ (k : ℕ). not (of wantZero k)) (numbersOf 2 wantTwelve) n m refl)
+  where
+    of : String → ℕ → Bool
+    of q k = among k (numbersOf 2 q)
 
 on-23 : (s : Sheet) → on23 (factsOf s) ≡ rule23 s
 unfolding factsOf sidesOf payerOf standingOf slotOf _⟨_⟩ every number value valueOf
 on-23 s =
     let t = textOf s 6 in
-    let a = is-one-of 2 t "01 32" refl in
-    let b = is-one-of 2 t "06 07" refl in
-    let c = is-one-of 2 t "17" refl in
-    let d = is-one-of 2 t "30" refl in
+    let a = is-one-of 2 t wantInn refl in
+    let b = is-one-of 2 t wantTen refl in
+    let c = is-one-of 2 t wantTwelve refl in
+    let d = is-one-of 2 t wantZero refl in
     let p = textOf s 4 in
     wants-is (number 2 t) (payerOf p)
     ∙ (λ i. (a i ⇒ inn p) && ((b i ⇒ inn10 p) && ((c i ⇒ inn12 p) && (d i ⇒ p is "0"))))

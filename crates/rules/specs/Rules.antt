@@ -6,7 +6,8 @@ use Prim.Native.String.{String}
 use lib.Dec.{eqb}
 use Rattle.texts.specs.Texts.{every, between, blank, _is_, _isOneOf_, _begins_, _beginsOneOf_}
 use Rattle.sheets.specs.Sheet.{Sheet, fieldIn, slotOf, given, _⟨_⟩}
-use Rattle.sheets.specs.Forms.{_⇒_, bik, account, uin, code4, foreignCode, inn10, inn12, inn, digits5, digits10, digits12, kpp, kbk, oktmo, office, statuses, customsGroup, letterPair, person, document, date}
+use Rattle.sheets.specs.Forms.{_⇒_, bik, account, uin, code4, foreignCode, inn10, inn12, inn, digits5, digits10, digits12, kpp, kbk, oktmo, office, letterPair, person, document, date}
+use Rattle.sheets.specs.Lists.{bankA, accountsA, banksB, accountB, accountsB, account03100, account03212, statuses, customsGroup, treasuryGroup, courtsGroup, personalGroup, wantInn, wantTen, wantTwelve, wantZero}
 use Rattle.rules.specs.declared.Class.{Class}
 use Rattle.rules.specs.declared.Class.the-variants.{A, B, O}
 
@@ -23,14 +24,12 @@ rule3 s = account (s ⟨ 17 ⟩)
 
 -- "With 1 to 3 kept, a sheet has a class"
 abbrev pub classA : Sheet → Bool
-classA s =
-    s ⟨ 15 ⟩ begins "40102"
-    && s ⟨ 17 ⟩ beginsOneOf "03100 03212 03222 03232 03242 03252 03262 03272 03214 03224 03234 03244"
+classA s = s ⟨ 15 ⟩ begins bankA && s ⟨ 17 ⟩ beginsOneOf accountsA
 
 abbrev pub classB : Sheet → Bool
 classB s =
-    between (s ⟨ 14 ⟩) 6 9 isOneOf "000 001 002 003 004 005"
-    && (s ⟨ 17 ⟩ begins "40204" || (s ⟨ 17 ⟩ beginsOneOf "40503 40603 40703" && between (s ⟨ 17 ⟩) 13 14 is "4"))
+    between (s ⟨ 14 ⟩) 6 9 isOneOf banksB
+    && (s ⟨ 17 ⟩ begins accountB || (s ⟨ 17 ⟩ beginsOneOf accountsB && between (s ⟨ 17 ⟩) 13 14 is "4"))
 
 unfoldable pub classOf : Sheet → Class
 classOf s = cond (classA s) A (cond (classB s) B O)
@@ -55,7 +54,7 @@ abbrev pub rule6 : Sheet → Bool
 rule6 s = every (given s) needed
 
 abbrev pub rule7 : Sheet → Bool
-rule7 s = (s ⟨ 22 ⟩ is "0" || uin (s ⟨ 22 ⟩)) || (code4 (s ⟨ 22 ⟩) && s ⟨ 17 ⟩ begins "03212")
+rule7 s = (s ⟨ 22 ⟩ is "0" || uin (s ⟨ 22 ⟩)) || (code4 (s ⟨ 22 ⟩) && s ⟨ 17 ⟩ begins account03212)
 
 abbrev pub rule8 : Sheet → Bool
 rule8 s = (s ⟨ 60 ⟩ is "0" || foreignCode (s ⟨ 60 ⟩)) || inn (s ⟨ 60 ⟩)
@@ -94,32 +93,32 @@ abbrev pub rule18 : Sheet → Bool
 rule18 s = (s ⟨ 109 ⟩ is "0" || s ⟨ 109 ⟩ is "00") || date (s ⟨ 109 ⟩)
 
 abbrev pub rule19 : Sheet → Bool
-rule19 s = classA s && status s "01 04 06 07 13 16 17 28 30 32" ⇒ s ⟨ 17 ⟩ begins "03100"
+rule19 s = classA s && status s treasuryGroup ⇒ s ⟨ 17 ⟩ begins account03100
 
 abbrev pub rule20 : Sheet → Bool
-rule20 s = classA s && status s "31" ⇒ s ⟨ 17 ⟩ begins "03212"
+rule20 s = classA s && status s "31" ⇒ s ⟨ 17 ⟩ begins account03212
 
 abbrev pub rule21 : Sheet → Bool
-rule21 s = status s "31 33" ⇒ uin (s ⟨ 22 ⟩)
+rule21 s = status s courtsGroup ⇒ uin (s ⟨ 22 ⟩)
 
 abbrev pub rule22 : Sheet → Bool
-rule22 s = s ⟨ 17 ⟩ begins "03212" ⇒ not (s ⟨ 22 ⟩ is "0")
+rule22 s = s ⟨ 17 ⟩ begins account03212 ⇒ not (s ⟨ 22 ⟩ is "0")
 
 abbrev pub rule23 : Sheet → Bool
 rule23 s =
-    (status s "01 32" ⇒ inn (s ⟨ 60 ⟩))
-    && ((status s "06 07" ⇒ inn10 (s ⟨ 60 ⟩)) && ((status s "17" ⇒ inn12 (s ⟨ 60 ⟩)) && (status s "30" ⇒ s ⟨ 60 ⟩ is "0")))
+    (status s wantInn ⇒ inn (s ⟨ 60 ⟩))
+    && ((status s wantTen ⇒ inn10 (s ⟨ 60 ⟩)) && ((status s wantTwelve ⇒ inn12 (s ⟨ 60 ⟩)) && (status s wantZero ⇒ s ⟨ 60 ⟩ is "0")))
 
 abbrev pub rule24 : Sheet → Bool
 rule24 s = status s "13" ⇒ inn (s ⟨ 60 ⟩) || uin (s ⟨ 22 ⟩)
 
 abbrev pub rule25 : Sheet → Bool
 rule25 s =
-    status s "03 19 20 24"
+    status s personalGroup
     ⇒ person (s ⟨ 108 ⟩) || (s ⟨ 108 ⟩ is "0" && (inn12 (s ⟨ 60 ⟩) || uin (s ⟨ 22 ⟩)))
 
 abbrev pub rule26 : Sheet → Bool
-rule26 s = status s "31 33" ⇒ s ⟨ 108 ⟩ is "0"
+rule26 s = status s courtsGroup ⇒ s ⟨ 108 ⟩ is "0"
 
 abbrev pub rule27 : Sheet → Bool
 rule27 s =
@@ -127,7 +126,7 @@ rule27 s =
     && ((digits5 (s ⟨ 60 ⟩) ⇒ not (s ⟨ 102 ⟩ is "0")) && (digits10 (s ⟨ 60 ⟩) ⇒ not (s ⟨ 102 ⟩ is "0") || status s "01"))
 
 abbrev pub rule28 : Sheet → Bool
-rule28 s = s ⟨ 17 ⟩ begins "03100" ⇒ not (s ⟨ 104 ⟩ is "0")
+rule28 s = s ⟨ 17 ⟩ begins account03100 ⇒ not (s ⟨ 104 ⟩ is "0")
 
 abbrev pub customs : Sheet → Bool
 customs s = status s customsGroup

@@ -17,22 +17,21 @@ use Rattle.sheets.specs.declared.facts.Basis.{Basis}
 use Rattle.sheets.specs.declared.facts.Document.{Document}
 use Rattle.sheets.specs.declared.facts.Day.{Day}
 use Rattle.sheets.specs.declared.facts.Facts.{Facts}
-use Rattle.sheets.specs.Entries.{statusTexts, basisTexts, zeroTexts, statusAt, basisAt, documentAt, dayAt}
-use Rattle.sheets.specs.Rows.{statusRows, noRow}
+use Rattle.sheets.specs.Entries.{statusTexts, basisTexts, zeroTexts, rowOf, statusAt, basisAt, documentAt, dayAt}
 
--- a table's row holds the list's text
-row-text : (rows : List (List ℕ)) (texts : List Text) → map cellText rows ≡ texts → (k : ℕ) → cellText (getD rows k noRow) ≡ getD texts k []
-unfolding cellText between
-row-text rows texts e k = sym (List·getD-map cellText rows k noRow) ∙ ap (λ (l : List Text). getD l k []) e
+-- a row holds the list's text
+row-text : (texts : List Text) → map (λ (t : Text). cellText (rowOf t)) texts ≡ texts → (k : ℕ) → cellText (rowOf (getD texts k [])) ≡ getD texts k []
+unfolding cellText between rowOf
+row-text texts e k = sym (List·getD-map (λ (t : Text). cellText (rowOf t)) texts k []) ∙ ap (λ (l : List Text). getD l k []) e
 
-status-rows : map cellText statusRows ≡ statusTexts
-unfolding cellText between
-status-rows = refl
+status-text : (k : ℕ) → cellText (rowOf (getD statusTexts k [])) ≡ getD statusTexts k []
+unfolding cellText between rowOf
+status-text k = row-text statusTexts refl k
 
 module _ (f : Facts) (k : ℕ) (row t : List ℕ) (u : t ≡ cellText row) where
-  pub status-listed : (r : Standing) → row ≡ getD statusRows k noRow → r ≡ standingOf t → f .status .blank ≡ true → r ≡ statusAt f k
+  pub status-listed : (r : Standing) → row ≡ rowOf (getD statusTexts k []) → r ≡ standingOf t → f .status .blank ≡ true → r ≡ statusAt f k
   unfolding statusAt
-  status-listed r e h b = cc (row-text statusRows statusTexts status-rows k)
+  status-listed r e h b = cc (status-text k)
 
 -- the facts of an entry, by its place
 past-12 : (k : ℕ) → 12 ≤ k → record { blank = leb 12 k; zero = eqb k 0; zeros = eqb k 1; letters = leb 2 k && leb k 11 } ≡ basisOf []
@@ -99,19 +98,20 @@ module _ (f : Facts) (k : ℕ) where
   day-given b = cc
 
 -- past the end
-pub past-row : (rows : List (List ℕ)) (n k : ℕ) → length rows ≡ n → n ≤ k → 0 ∷ 0 ∷ 0 ∷ [] ≡ getD rows k noRow
-past-row rows n k e h =
-    let l : length rows ≤ k = omega arith in
-    sym (List·getD-eq-default rows noRow l)
+pub past-row : (texts : List Text) (n k : ℕ) → length texts ≡ n → n ≤ k → 0 ∷ 0 ∷ 0 ∷ [] ≡ rowOf (getD texts k [])
+unfolding rowOf
+past-row texts n k e h =
+    let l : length texts ≤ k = omega arith in
+    ap rowOf (sym (List·getD-eq-default texts [] l))
 
--- within it, whatever stands past the end
-in-row : (l : List (List ℕ)) (k : ℕ) (d e : List ℕ) → k < length l → getD l k d ≡ getD l k e
-in-row [] k d e h = absurd (omega arith)
-in-row (x ∷ xs) zero d e h = refl
-in-row (x ∷ xs) (suc k) d e h = in-row xs k d e (omega arith)
+-- within it
+in-row : (texts : List Text) (k : ℕ) → k < length texts → getD (map rowOf texts) k [] ≡ rowOf (getD texts k [])
+in-row [] k h = absurd (omega arith)
+in-row (t ∷ ts) zero h = refl
+in-row (t ∷ ts) (suc k) h = in-row ts k (omega arith)
 
-pub row-is : (rows : List (List ℕ)) (n k : ℕ) → length rows ≡ n → k < n → getD rows k [] ≡ getD rows k noRow
-row-is rows n k e h = in-row rows k [] noRow (omega arith)
+pub row-is : (texts : List Text) (n k : ℕ) → length texts ≡ n → k < n → getD (map rowOf texts) k [] ≡ rowOf (getD texts k [])
+row-is texts n k e h = in-row texts k (omega arith)
 
 -- document 01's examples name the places of statuses: 01 is the first, 04 the third
 statuses-placed : getD statusTexts 0 [] ∷ getD statusTexts 2 [] ∷ [] ≡ words "01 04"

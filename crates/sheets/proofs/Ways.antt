@@ -9,11 +9,12 @@ use native.Mathlib.Omega.{arith}
 use borrow.Author.Tests.{eq-eqb, ne-eqb}
 use lib.Dec.{eqb, leb}
 use lib.ListN.{length}
-use Rattle.texts.specs.Quoted.{Text}
-use Rattle.texts.specs.Texts.{any, are, among, between, same, number, _is_}
+use Rattle.texts.specs.Quoted.{Text, bytes}
+use Rattle.texts.specs.Texts.{every, any, are, among, between, same, valueOf, value, number, _is_}
 use Rattle.texts.proofs.Arms.{AnyOf, arm, outside}
 use Rattle.sheets.specs.Sheet.{textOf}
 use Rattle.sheets.specs.Forms.{foreignCode, inn10, inn12, digits5, digits10, digits12, person, leap, monthDays, gregorian, date}
+use Rattle.sheets.specs.Lists.{account03100, account03212, statuses, personTypes, numbersOf}
 use Rattle.sheets.specs.Facts.{payerOf, isA, isB, accountOf, groupsBy, standingOf, wantedBy, basisOf, documentOf, dayOf, headOf, sidesOf, restOf, factsOf, Read}
 use Rattle.sheets.specs.declared.forms.Wanted.{Wanted}
 use Rattle.sheets.specs.declared.forms.Wanted.the-variants.{Any, Inn, Ten, Twelve, Zero}
@@ -30,7 +31,7 @@ use Rattle.sheets.proofs.Tables.{persons-are, statuses-are, groups-are,
 
 -- is_person
 pub person-is : (t u v : Text) (n : ℕ) (p q : Bool) → u ≡ between t 0 2 → n ≡ number 2 u
-    → p ≡ among n (1 ∷ 2 ∷ 3 ∷ 4 ∷ 5 ∷ 6 ∷ 7 ∷ 8 ∷ 9 ∷ 10 ∷ 11 ∷ 12 ∷ 13 ∷ 14 ∷ 22 ∷ 24 ∷ 25 ∷ 26 ∷ 28 ∷ 29 ∷ 30 ∷ [])
+    → p ≡ among n (numbersOf 2 personTypes)
     → v ≡ between t 2 3 → q ≡ same v (59 ∷ []) → ((p && q) && leb 4 (length t)) ≡ person t
 unfolding person
 person-is t u v n p q e f g h i = cc (persons-are (between t 0 2))
@@ -68,24 +69,24 @@ six-seven : (n : ℕ) → 6 ≤ n → n < 8 → AnyOf n 6 (7 ∷ [])
 six-seven n h k = elim (ℕ-discrete n 6) [ yes e ↦ inl e | no f ↦ inr (omega arith) ]
 
 pub wanted-inn : (n : ℕ) → AnyOf n 1 (32 ∷ []) → Inn ≡ wantedBy n
-unfolding wantedBy among any are
+unfolding wantedBy among any are every number value valueOf
 wanted-inn n a = arm wantedBy Inn n 1 (32 ∷ []) (refl, refl) a
 
 pub wanted-ten : (n : ℕ) → 6 ≤ n → n < 8 → Ten ≡ wantedBy n
-unfolding wantedBy among any are
+unfolding wantedBy among any are every number value valueOf
 wanted-ten n h k = arm wantedBy Ten n 6 (7 ∷ []) (refl, refl) (six-seven n h k)
 
 pub wanted-twelve : (n : ℕ) → n ≡ 17 → Twelve ≡ wantedBy n
-unfolding wantedBy among any are
+unfolding wantedBy among any are every number value valueOf
 wanted-twelve n e = rw e
 
 pub wanted-zero : (n : ℕ) → n ≡ 30 → Zero ≡ wantedBy n
-unfolding wantedBy among any are
+unfolding wantedBy among any are every number value valueOf
 wanted-zero n e = rw e
 
 wanted-any : (n : ℕ) → (AnyOf n 1 (32 ∷ []) → ⊥) → (AnyOf n 6 (7 ∷ []) → ⊥) → (n ≡ 17 → ⊥) → (n ≡ 30 → ⊥) → Any ≡ wantedBy n
-unfolding wantedBy
-wanted-any n a b e f = simp (outside n 1 (32 ∷ []) a, outside n 6 (7 ∷ []) b, ne-eqb n 17 e, ne-eqb n 30 f)
+unfolding wantedBy every number value valueOf
+wanted-any n a b e f = simp (outside n 1 (32 ∷ []) a, outside n 6 (7 ∷ []) b, outside n 17 [] e, outside n 30 [] f)
 
 module _ (n : ℕ) (a : AnyOf n 1 (32 ∷ []) → ⊥) (e : n ≡ 17 → ⊥) (f : n ≡ 30 → ⊥) where
   pub wanted-low : n < 6 → Any ≡ wantedBy n
@@ -96,7 +97,7 @@ module _ (n : ℕ) (a : AnyOf n 1 (32 ∷ []) → ⊥) (e : n ≡ 17 → ⊥) (f
 
 -- standing_of
 pub standing-is : (t : Text) (n : ℕ) (l : Bool) (g : Groups) (w : Wanted) → n ≡ number 2 t
-    → l ≡ among n (1 ∷ 3 ∷ 4 ∷ 5 ∷ 6 ∷ 7 ∷ 8 ∷ 13 ∷ 15 ∷ 16 ∷ 17 ∷ 19 ∷ 20 ∷ 23 ∷ 24 ∷ 27 ∷ 28 ∷ 29 ∷ 30 ∷ 31 ∷ 32 ∷ 33 ∷ [])
+    → l ≡ among n (numbersOf 2 statuses)
     → g ≡ groupsBy n → w ≡ wantedBy n → record { blank = eqb (length t) 0; listed = l; groups = g; wanted = w } ≡ standingOf t
 unfolding standingOf
 standing-is t n l g w e f h i = cc (statuses-are t, groups-are t)
@@ -105,7 +106,7 @@ standing-is t n l g w e f h i = cc (statuses-are t, groups-are t)
 pub account-is : (bik bank account u v w x z : Text) (m n o : ℕ) (a b h f : Bool) → u ≡ between account 0 5 → m ≡ number 5 u
     → v ≡ between account 13 14 → f ≡ same v (52 ∷ []) → w ≡ between bank 0 5 → n ≡ number 5 w → a ≡ isA n m
     → x ≡ between bik 6 9 → o ≡ number 3 x → b ≡ isB o m f → z ≡ between account 5 8 → h ≡ same z (54 ∷ 52 ∷ 51 ∷ [])
-    → record { a = a; b = b; home = h; to03100 = eqb 3100 m; to03212 = eqb 3212 m } ≡ accountOf bik bank account
+    → record { a = a; b = b; home = h; to03100 = eqb (number 5 (bytes account03100)) m; to03212 = eqb (number 5 (bytes account03212)) m } ≡ accountOf bik bank account
 unfolding accountOf
 account-is bik bank account u v w x z m n o a b h f e1 e2 e3 e4 e5 e6 e7 e8 e9 e10 e11 e12 =
     cc (a-is bank account, b-is bik account (between account 13 14 is "4"), to03100-is account, to03212-is account)

@@ -3,12 +3,12 @@
 use mathlib.Core.Bool.{Bool, cond}
 use mathlib.Core.List.{List, [], _∷_, _++_}
 use Prim.Native.Nat.{ℕ, _*_}
-use lib.ListN.{getD}
+use lib.ListN.{length, getD}
 use Rattle.texts.specs.Quoted.{Text, words}
 use Rattle.texts.specs.Texts.{blank}
 use Rattle.texts.specs.Buffers.{putAt}
 use Rattle.sheets.specs.Sheet.{Sheet, textOf}
-use Rattle.sheets.specs.Forms.{statuses, letterPairs}
+use Rattle.sheets.specs.Lists.{statuses, letterPairs}
 use Rattle.sheets.specs.Facts.{standingOf, basisOf, documentOf, dayOf}
 use Rattle.sheets.specs.declared.facts.Standing.{Standing}
 use Rattle.sheets.specs.declared.facts.Basis.{Basis}
@@ -20,11 +20,15 @@ use Rattle.sheets.specs.declared.facts.Facts.{Facts}
 abbrev pub statusTexts : List Text
 statusTexts = words statuses
 
-abbrev pub basisTexts : List Text
-basisTexts = words "0 00" ++ words letterPairs
-
 abbrev pub zeroTexts : List Text
 zeroTexts = words "0 00"
+
+abbrev pub basisTexts : List Text
+basisTexts = zeroTexts ++ words letterPairs
+
+-- how the code keeps an entry: its length and two bytes
+unfoldable pub rowOf : Text → List ℕ
+rowOf t = length t ∷ getD t 0 0 ∷ getD t 1 0 ∷ []
 
 -- a sheet with the cell x in slot k, if that is blank
 unfoldable pub filledAt : Sheet → ℕ → List ℕ → Sheet

@@ -6,10 +6,11 @@ use mathlib.Core.List.{List, [], _∷_}
 use Prim.Native.Nat.{ℕ}
 use lib.Dec.{eqb}
 use lib.ListN.{length}
-use Rattle.texts.specs.Quoted.{Text}
+use Rattle.texts.specs.Quoted.{Text, bytes}
 use Rattle.texts.specs.Texts.{every, among, between, blank, _is_, _isOneOf_, _begins_, _beginsOneOf_, number}
 use Rattle.sheets.specs.Sheet.{sheetSize, textOf, Sheet, given}
-use Rattle.sheets.specs.Forms.{bik, account, uin, code4, foreignCode, inn10, inn12, digits5, digits10, digits12, kpp, kbk, oktmo, office, statuses, customsGroup, letterPair, person, document, date}
+use Rattle.sheets.specs.Forms.{bik, account, uin, code4, foreignCode, inn10, inn12, digits5, digits10, digits12, kpp, kbk, oktmo, office, letterPair, person, document, date}
+use Rattle.sheets.specs.Lists.{bankA, accountsA, banksB, accountB, accountsB, account03100, account03212, statuses, customsGroup, treasuryGroup, courtsGroup, personalGroup, wantInn, wantTen, wantTwelve, wantZero, numbersOf}
 use Rattle.sheets.specs.declared.forms.Wanted.{Wanted}
 use Rattle.sheets.specs.declared.forms.Wanted.the-variants.{Any, Inn, Ten, Twelve, Zero}
 use Rattle.sheets.specs.declared.facts.General.{General}
@@ -35,25 +36,23 @@ generalOf t u v = record { bik = bik t; bank = blank u || account u; account = a
 
 -- class A and B, by the numbers that the accounts begin with
 unfoldable pub isA : ℕ → ℕ → Bool
-isA bank account =
-    eqb 40102 bank
-    && among account (3100 ∷ 3212 ∷ 3222 ∷ 3232 ∷ 3242 ∷ 3252 ∷ 3262 ∷ 3272 ∷ 3214 ∷ 3224 ∷ 3234 ∷ 3244 ∷ [])
+isA bank account = eqb (number 5 (bytes bankA)) bank && among account (numbersOf 5 accountsA)
 
 unfoldable pub isB : ℕ → ℕ → Bool → Bool
 isB bank account four =
-    among bank (0 ∷ 1 ∷ 2 ∷ 3 ∷ 4 ∷ 5 ∷ [])
-    && (eqb 40204 account || (among account (40503 ∷ 40603 ∷ 40703 ∷ []) && four))
+    among bank (numbersOf 3 banksB)
+    && (eqb (number 5 (bytes accountB)) account || (among account (numbersOf 5 accountsB) && four))
 
 unfoldable pub accountOf : Text → Text → Text → Account
 accountOf bik bank account =
     record {
-      a = bank begins "40102" && account beginsOneOf "03100 03212 03222 03232 03242 03252 03262 03272 03214 03224 03234 03244";
+      a = bank begins bankA && account beginsOneOf accountsA;
       b =
-          between bik 6 9 isOneOf "000 001 002 003 004 005"
-          && (account begins "40204" || (account beginsOneOf "40503 40603 40703" && between account 13 14 is "4"));
+          between bik 6 9 isOneOf banksB
+          && (account begins accountB || (account beginsOneOf accountsB && between account 13 14 is "4"));
       home = between account 5 8 is "643";
-      to03100 = account begins "03100";
-      to03212 = account begins "03212";
+      to03100 = account begins account03100;
+      to03212 = account begins account03212;
     }
 
 -- 22, 60
@@ -79,27 +78,27 @@ formOf t full = record { zero = t is "0"; full = full }
 -- 101: the form of 60 that a status wants, and the groups that rules name, by its number and by its text
 unfoldable pub wantedBy : ℕ → Wanted
 wantedBy n =
-    cond (among n (1 ∷ 32 ∷ [])) Inn (cond (among n (6 ∷ 7 ∷ [])) Ten (cond (eqb n 17) Twelve (cond (eqb n 30) Zero Any)))
+    cond (among n (numbersOf 2 wantInn)) Inn (cond (among n (numbersOf 2 wantTen)) Ten (cond (among n (numbersOf 2 wantTwelve)) Twelve (cond (among n (numbersOf 2 wantZero)) Zero Any)))
 
 unfoldable pub groupsBy : ℕ → Groups
 groupsBy n =
     record {
-      customs = among n (6 ∷ 7 ∷ 16 ∷ 17 ∷ 28 ∷ 30 ∷ 32 ∷ []);
-      treasury = among n (1 ∷ 4 ∷ 6 ∷ 7 ∷ 13 ∷ 16 ∷ 17 ∷ 28 ∷ 30 ∷ 32 ∷ []);
-      courts = among n (31 ∷ 33 ∷ []);
-      personal = among n (3 ∷ 19 ∷ 20 ∷ 24 ∷ []);
-      is01 = among n (1 ∷ []);
-      is13 = among n (13 ∷ []);
-      is31 = among n (31 ∷ []);
+      customs = among n (numbersOf 2 customsGroup);
+      treasury = among n (numbersOf 2 treasuryGroup);
+      courts = among n (numbersOf 2 courtsGroup);
+      personal = among n (numbersOf 2 personalGroup);
+      is01 = among n (numbersOf 2 "01");
+      is13 = among n (numbersOf 2 "13");
+      is31 = among n (numbersOf 2 "31");
     }
 
 unfoldable pub groupsOf : Text → Groups
 groupsOf t =
     record {
       customs = t isOneOf customsGroup;
-      treasury = t isOneOf "01 04 06 07 13 16 17 28 30 32";
-      courts = t isOneOf "31 33";
-      personal = t isOneOf "03 19 20 24";
+      treasury = t isOneOf treasuryGroup;
+      courts = t isOneOf courtsGroup;
+      personal = t isOneOf personalGroup;
       is01 = t isOneOf "01";
       is13 = t isOneOf "13";
       is31 = t isOneOf "31";

@@ -2,11 +2,11 @@
 use mathlib.Core.Bool.{Bool, not, cond, _&&_, _||_}
 use mathlib.Core.List.{[], _∷_}
 use Prim.Native.Nat.{ℕ, _%_}
-use Prim.Native.String.{String}
 use lib.Dec.{leb, eqb}
 use lib.ListN.{length}
 use Rattle.texts.specs.Quoted.{Text}
 use Rattle.texts.specs.Texts.{every, among, between, _is_, _isOneOf_, digits, digitsNotZero, digitsNot00, number}
+use Rattle.sheets.specs.Lists.{letterPairs, personTypes}
 
 infixr 25 _⇒_
 -- if the first, then the second
@@ -64,25 +64,10 @@ oktmo t = digitsNotZero 8 t
 abbrev pub office : Text → Bool
 office t = digits 8 t
 
--- rule 10's list, in its order
-abbrev pub statuses : String
-statuses = "01 03 04 05 06 07 08 13 15 16 17 19 20 23 24 27 28 29 30 31 32 33"
-
--- the statuses of "the customs group"
-abbrev pub customsGroup : String
-customsGroup = "06 07 16 17 28 30 32"
-
--- rule 15's letter pairs, in its order
-abbrev pub letterPairs : String
-letterPairs = "УВ ИЛ ПБ ТГ ТБ ТД ПВ ИН ПК КЭ"
-
 abbrev pub letterPair : Text → Bool
 letterPair t = t isOneOf letterPairs
 
 -- 108: "a person identifier: two digits of 01 to 14, 22, 24, 25, 26, 28, 29, 30, then ";", then at least one byte"
-abbrev pub personTypes : String
-personTypes = "01 02 03 04 05 06 07 08 09 10 11 12 13 14 22 24 25 26 28 29 30"
-
 unfoldable pub person : Text → Bool
 person t = (between t 0 2 isOneOf personTypes && between t 2 3 is ";") && leb 4 (length t)
 

@@ -1,5 +1,5 @@
 pub mod Sheet
+pub mod Lists
 pub mod Forms
 pub mod Facts
 pub mod Entries
-pub mod Rows

@@ -5,8 +5,7 @@ ghost use lib.ListN.{getD};
 ghost use Rattle.texts.specs.Texts.{blank};
 ghost use Rattle.sheets.specs.Sheet.{Sheet, cell, textOf};
 ghost use Rattle.sheets.specs.Facts.{basisOf, documentOf, dayOf, Read};
-ghost use Rattle.sheets.specs.Entries.{statusTexts, basisTexts, zeroTexts, filledAt, statusAt, basisAt, documentAt, dayAt};
-ghost use Rattle.sheets.specs.Rows.{statusRows, basisRows, zeroRows, noRow};
+ghost use Rattle.sheets.specs.Entries.{statusTexts, basisTexts, zeroTexts, rowOf, filledAt, statusAt, basisAt, documentAt, dayAt};
 use crate::facts::Basis;
 use crate::facts::Day;
 use crate::facts::Document;
@@ -58,9 +57,9 @@ const BASES: [[u8; 3]; 12] = [
 
 const ZEROS: [[u8; 3]; 2] = [[1, 48, 0], [2, 48, 48]];
 
-// A row of a table, all zero past its end.
+// An entry of a list, the blank past its end.
 pub fn status_row(k: usize) -> [u8; 3]
-    ensures { λ r. ⌜ r ≡ getD statusRows k noRow ⌝ }
+    ensures { λ r. ⌜ r ≡ rowOf (getD statusTexts k []) ⌝ }
 {
     if 22 <= k {
         return [0, 0, 0];
@@ -69,7 +68,7 @@ pub fn status_row(k: usize) -> [u8; 3]
 }
 
 pub fn basis_row(k: usize) -> [u8; 3]
-    ensures { λ r. ⌜ r ≡ getD basisRows k noRow ⌝ }
+    ensures { λ r. ⌜ r ≡ rowOf (getD basisTexts k []) ⌝ }
 {
     if 12 <= k {
         return [0, 0, 0];
@@ -78,7 +77,7 @@ pub fn basis_row(k: usize) -> [u8; 3]
 }
 
 pub fn zero_row(k: usize) -> [u8; 3]
-    ensures { λ r. ⌜ r ≡ getD zeroRows k noRow ⌝ }
+    ensures { λ r. ⌜ r ≡ rowOf (getD zeroTexts k []) ⌝ }
 {
     if 2 <= k {
         return [0, 0, 0];
