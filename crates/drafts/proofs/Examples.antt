@@ -2,15 +2,15 @@
 use mathlib.Core.Path.{_≡_, refl}
 use mathlib.Core.Bool.{Bool, true, false, cond}
 use mathlib.Core.List.{List, [], _∷_, _++_, map}
-use Prim.Native.Nat.{ℕ, zero, suc}
+use Prim.Native.Nat.{ℕ, zero, suc, _*_}
 use lib.ListN.{replicate}
 use Rattle.texts.specs.Quoted.{bytes}
 use Rattle.texts.specs.Texts.{between, every, are, same}
 use Rattle.texts.specs.Answers.{Answer, success, refusal, numberOf}
 use Rattle.texts.specs.Buffers.{put}
-use Rattle.sheets.specs.Sheet.{slotOf, cell, cellText, cellOk}
+use Rattle.sheets.specs.Sheet.{slots, slotOf, cell, cellText, cellOk}
 use Rattle.drafts.specs.Message.{messageText, readTests, readable, readingOf, headBytes, messageOf, writeTests, writingOf, writtenOf}
-use Rattle.drafts.specs.Draft.{slotIn, slotCell, slotText, slotBytes, rankOf, slotWith, slotFormed, slotsFormed, draftFormed, freshDraft, slotComparison, comparisonOf, postTests, postingOf, stored, postedTo}
+use Rattle.drafts.specs.Draft.{slotIn, slotCell, slotText, slotBytes, rankOf, slotWith, slotFormed, slotsFormed, draftFormed, freshDraft, beginTests, beginningOf, slotComparison, comparisonOf, postTests, postingOf, stored, postedTo, copyTests, copyingOf}
 use Rattle.drafts.specs.History.{names, rankIn, emptySlot, endSlot}
 
 -- 00 0A 01 0E 00 00 00 01 30 30 34 35
@@ -125,3 +125,46 @@ drafts : map draftFormed (
     ≡ true ∷ false ∷ false ∷ true ∷ true ∷ false ∷ false ∷ false ∷ false ∷ true ∷ []
 unfolding text ending draftFormed slotsFormed slotFormed slotIn slotCell slotText cellOk cellText between every are
 drafts = refl
+
+-- the same in each slot: a length of 26, a pad byte at the end, a text with revision 0
+atSlot : ℕ → List ℕ → List ℕ
+atSlot k s = put (replicate 450 0) (k * 30) s
+
+drafts-slots :
+    (map (λ (k : ℕ). draftFormed (atSlot k (0 ∷ 0 ∷ 0 ∷ 1 ∷ 26 ∷ []))) slots ≡ map (λ (k : ℕ). false) slots)
+    × (map (λ (k : ℕ). draftFormed (atSlot k (0 ∷ 0 ∷ 0 ∷ 1 ∷ (replicate 25 0 ++ (1 ∷ []))))) slots ≡ map (λ (k : ℕ). false) slots)
+    × (map (λ (k : ℕ). draftFormed (atSlot k (0 ∷ 0 ∷ 0 ∷ 0 ∷ 1 ∷ 48 ∷ []))) slots ≡ map (λ (k : ℕ). false) slots)
+    × (map (λ (k : ℕ). draftFormed (atSlot k (0 ∷ 0 ∷ 1 ∷ 0 ∷ 1 ∷ 48 ∷ []))) slots ≡ map (λ (k : ℕ). true) slots)
+unfolding atSlot put draftFormed slotsFormed slotFormed slotIn slotCell slotText cellOk cellText between every are
+drafts-slots = (refl, refl, refl, refl)
+
+-- "Number order is test order": of two faults the one with the lower number is named, by reading and by writing
+two-faults : map (λ (m : List ℕ). numberOf (readingOf m)) (
+    (0 ∷ 5 ∷ 2 ∷ 16 ∷ 0 ∷ 0 ∷ 0 ∷ [])
+    ∷ (0 ∷ 6 ∷ 2 ∷ 16 ∷ 0 ∷ 0 ∷ 0 ∷ 0 ∷ [])
+    ∷ (0 ∷ 6 ∷ 1 ∷ 16 ∷ 0 ∷ 0 ∷ 0 ∷ 0 ∷ [])
+    ∷ (0 ∷ 6 ∷ 1 ∷ 14 ∷ 0 ∷ 0 ∷ 0 ∷ 0 ∷ [])
+    ∷ []
+    )
+    ≡ 2 ∷ 3 ∷ 4 ∷ 5 ∷ []
+unfolding readingOf readTests slotOf
+two-faults = refl
+
+writings : numberOf (writingOf 16 0 (text 26) []) ∷ numberOf (writingOf 16 0 (text 25) []) ∷ numberOf (writingOf 14 0 (text 25) [])
+    ∷ numberOf (writingOf 14 1 (text 25) (text 32)) ∷ numberOf (writingOf 14 1 (text 25) (text 33)) ∷ []
+    ≡ 2 ∷ 4 ∷ 5 ∷ 7 ∷ 0 ∷ []
+unfolding text writingOf writeTests slotOf
+writings = refl
+
+-- the answers of fresh, posting and copying
+answers : numberOf (beginningOf (replicate 449 0)) ∷ numberOf (beginningOf (replicate 450 7))
+    ∷ numberOf (copyingOf (replicate 449 0) []) ∷ numberOf (copyingOf (replicate 450 0) (replicate 389 0)) ∷ numberOf (copyingOf (replicate 450 0) (replicate 390 7))
+    ∷ numberOf (postingOf (replicate 449 0) bik) ∷ numberOf (postingOf (postedTo freshDraft bik) (messageOf 14 1 (bytes "1"))) ∷ []
+    ≡ 1 ∷ 0 ∷ 1 ∷ 7 ∷ 0 ∷ 1 ∷ 6 ∷ []
+unfolding bik beginningOf beginTests copyingOf copyTests postingOf postedTo postTests readTests slotOf freshDraft draftFormed slotsFormed slotFormed slotIn slotCell slotText cellOk cellText between every are comparisonOf slotComparison same messageText stored slotWith slotBytes cell put messageOf headBytes
+answers = refl
+
+standings : map (postingOf (postedTo freshDraft (messageOf 14 2 (bytes "0045")))) (messageOf 14 3 [] ∷ messageOf 14 2 (bytes "0045") ∷ bik ∷ [])
+    ≡ success (bytes "newer") ∷ success (bytes "same") ∷ success (bytes "older") ∷ []
+unfolding bik postingOf postedTo postTests readTests slotOf freshDraft draftFormed slotsFormed slotFormed slotIn slotCell slotText cellOk cellText between every are comparisonOf slotComparison same messageText stored slotWith slotBytes cell put messageOf headBytes
+standings = refl

@@ -11,11 +11,13 @@ use Rattle.texts.specs.Texts.{every, any, are, among, same, between, value, val
 use Rattle.texts.specs.Buffers.{put, putAt}
 use Rattle.sheets.specs.Sheet.{cell, slotOf, cellText, cellOf, textOf, _⟨_⟩, given}
 use Rattle.sheets.specs.Forms.{person, document, leap, monthDays, gregorian, date}
-use Rattle.rules.specs.Rules.{rules, testOf, keeps, keepsAll}
+use Rattle.rules.specs.Rules.{rules, testOf, fieldOf, keeps, keepsAll, firstNot}
 use Rattle.sheets.specs.Entries.{filledAt}
 use Rattle.orders.specs.Fillings.{joined, Look, found, none, look, firstFilling}
 use Rattle.orders.specs.Search.{passesAt, places, picks, firstPick}
 use Rattle.orders.specs.Filled.{baseOf, pickedOf}
+use Rattle.orders.specs.Complete.{budgetPayment, sheetTests}
+use Rattle.texts.specs.Answers.{refusal, answerBy}
 use Rattle.orders.proofs.Keeping.{mapLook, first-is}
 use Rattle.orders.proofs.Passing.{broken-fixed}
 
@@ -49,6 +51,41 @@ first = first-is blanked refl
 pub later : firstFilling foreign ≡ found 97 (sheet "004525987 40102810845370000004 03100643000000014800 0 0 6730054024 04 0 772801001 18201061201010000510 0 0 0 0 0")
 unfolding picked
 later = first-is foreign refl
+
+-- with 17 03222643000000014800, and 60, 102 and 104 blank too: 01, 03 and 04 keep no rule, 05 does
+fifth : firstFilling (sheet "004525987 40102810845370000004 03222643000000014800   6730054024   772801001      ")
+    ≡ found 145 (sheet "004525987 40102810845370000004 03222643000000014800 0 0 6730054024 05 0 772801001 0 0 0 0 0 0")
+unfolding picked
+fifth = first-is (sheet "004525987 40102810845370000004 03222643000000014800   6730054024   772801001      ") refl
+
+-- S with status 06, 107 10000000 and 109 "00", and 106 and 108 blank: "0" does not go with "00", nor does 108 "0" with 106 "00"
+fourth : firstFilling (sheet "004525987 40102810845370000004 03100643000000014800 0 7701569743 6730054024 06 770301001 772801001 18201061201010000510 0  10000000  00")
+    ≡ found 4 (sheet "004525987 40102810845370000004 03100643000000014800 0 7701569743 6730054024 06 770301001 772801001 18201061201010000510 0 00 10000000 00 00")
+unfolding picked
+fourth = first-is (sheet "004525987 40102810845370000004 03100643000000014800 0 7701569743 6730054024 06 770301001 772801001 18201061201010000510 0  10000000  00") refl
+
+-- class B, with all that can be filled blank
+ofB : firstFilling (sheet "044525000  40204810000000000000   6730054024   772801001      ")
+    ≡ found 97 (sheet "044525000  40204810000000000000 0 0 6730054024 04 0 772801001 0 0 0 0 0 0")
+unfolding picked
+ofB = first-is (sheet "044525000  40204810000000000000   6730054024   772801001      ") refl
+
+-- which sheets are budget payments, and what stands before the search: rules 1, 2 and 3, and class O
+payments : map budgetPayment (foreign ∷ sheet "044525000  40204810000000000000   6730054024   772801001      " ∷ sheet "044525006  40204810000000000000   6730054024   772801001      " ∷ [])
+    ≡ true ∷ true ∷ false ∷ []
+unfolding picked budgetPayment
+payments = refl
+
+before : map (λ (s : List ℕ). answerBy (sheetTests s) []) (
+    sheet "0  "
+    ∷ sheet "004525987 0 "
+    ∷ sheet "004525987  0"
+    ∷ sheet "044525006  40204810000000000000   6730054024   772801001      "
+    ∷ []
+    )
+    ≡ refusal 8 (14 ∷ 1 ∷ []) ∷ refusal 8 (15 ∷ 2 ∷ []) ∷ refusal 8 (17 ∷ 3 ∷ []) ∷ refusal 9 [] ∷ []
+unfolding picked sheetTests fieldOf firstNot
+before = refl
 
 -- "10, count 1,056": 22 is filled with "0", which breaks rule 22 whatever the other entries are
 none-passes : {A : Type 0} (p : A → Bool) → ((x : A) → p x ≡ false) → (l : List A) (n : ℕ) → look p n l ≡ none (n + length l)

@@ -4,17 +4,19 @@ use mathlib.Core.List.{List, [], _∷_, _++_}
 use Prim.Native.Nat.{ℕ, _≤_}
 use borrow.Author.Tests.{le-leb}
 use lib.ListN.{length}
-use Rattle.texts.specs.Quoted.{bytes}
-use Rattle.texts.specs.Texts.{every, any, are, among, same, between}
+use Rattle.texts.specs.Quoted.{Text, bytes}
+use Rattle.texts.specs.Texts.{every, any, are, among, same, between, value, valueOf, number, _isOneOf_, _beginsOneOf_}
 use Rattle.texts.specs.Buffers.{put}
-use Rattle.sheets.specs.Sheet.{slotOf, cell, cellText, cellOk, cellOf, textOf, _⟨_⟩}
-use Rattle.rules.specs.Rules.{rules, fieldOf, testOf, keeps, firstNot}
-use Rattle.drafts.specs.Message.{messageText, readTests, readingOf}
+use Rattle.sheets.specs.Sheet.{slotOf, cell, cellText, cellOk, cellOf, textOf, _⟨_⟩, given}
+use Rattle.sheets.specs.Forms.{person, document, leap, monthDays, gregorian, date}
+use Rattle.rules.specs.Rules.{rules, fieldOf, testOf, keeps, keepsAll, firstNot}
+use Rattle.drafts.specs.Message.{messageText, readTests, readingOf, headBytes, messageOf}
 use Rattle.drafts.specs.Draft.{slotIn, slotCell, slotText, slotBytes, slotWith, slotFormed, slotsFormed, draftFormed, freshDraft, slotComparison, comparisonOf, postTests, postingOf, stored, postedTo, cells, draftSheet}
-use Rattle.orders.specs.Complete.{sheetTests, completeTests, completing, completed}
+use Rattle.orders.specs.Fillings.{listOf, toFill, choices, look, fillings, firstFilling}
+use Rattle.orders.specs.Complete.{setOf, sheetTests, completeTests, completing, completed}
 use Rattle.orders.specs.Stream.{pieceOf, endsStream, pieces, messagesOf}
 use Rattle.report.specs.Lines.{decimalIn, decimal, item}
-use Rattle.report.specs.Report.{messageLine, endLines, ending, reportFrom, reportOf, reported}
+use Rattle.report.specs.Report.{messageLine, fieldLine, fieldLines, endLines, ending, reportFrom, reportOf, reported}
 
 -- "Input 00 0A 01 0E 00 00 00 01 30 30 34 35 (hexadecimal) prints exactly"
 input : List ℕ
@@ -31,3 +33,73 @@ example = refl
 example-reported : (b : List ℕ) → 46080 ≤ length b → reported input b ≡ output
 unfolding input output reported
 example-reported b h = simp (le-leb 46080 (length b) h) example
+
+-- a whole order: S from fifteen messages, the first of them once more, an older one, and one that is cut off
+wholeInput : List ℕ
+wholeInput =
+    messageOf 14 2 (bytes "004525987")
+    ++ messageOf 15 2 (bytes "40102810845370000004")
+    ++ messageOf 17 2 (bytes "03100643000000014800")
+    ++ messageOf 22 2 (bytes "0")
+    ++ messageOf 60 2 (bytes "7701569743")
+    ++ messageOf 61 2 (bytes "6730054024")
+    ++ messageOf 101 2 (bytes "01")
+    ++ messageOf 102 2 (bytes "770301001")
+    ++ messageOf 103 2 (bytes "772801001")
+    ++ messageOf 104 2 (bytes "18201061201010000510")
+    ++ messageOf 105 2 (bytes "0")
+    ++ messageOf 106 2 (bytes "0")
+    ++ messageOf 107 2 (bytes "0")
+    ++ messageOf 108 2 (bytes "0")
+    ++ messageOf 109 2 (bytes "0")
+    ++ messageOf 14 2 (bytes "004525987")
+    ++ messageOf 14 1 (bytes "1")
+    ++ (0 ∷ 9 ∷ 1 ∷ [])
+
+-- some lines, each ended by a line feed
+feeds : List Text → List ℕ
+feeds [] = []
+feeds (t ∷ ts) = t ++ (10 ∷ feeds ts)
+
+wholeOutput : List ℕ
+wholeOutput =
+    feeds
+    (bytes "1 newer"
+    ∷ bytes "2 newer"
+    ∷ bytes "3 newer"
+    ∷ bytes "4 newer"
+    ∷ bytes "5 newer"
+    ∷ bytes "6 newer"
+    ∷ bytes "7 newer"
+    ∷ bytes "8 newer"
+    ∷ bytes "9 newer"
+    ∷ bytes "10 newer"
+    ∷ bytes "11 newer"
+    ∷ bytes "12 newer"
+    ∷ bytes "13 newer"
+    ∷ bytes "14 newer"
+    ∷ bytes "15 newer"
+    ∷ bytes "16 same"
+    ∷ bytes "17 older"
+    ∷ bytes "18 2"
+    ∷ bytes "end ok 1"
+    ∷ bytes "14 004525987"
+    ∷ bytes "15 40102810845370000004"
+    ∷ bytes "17 03100643000000014800"
+    ∷ bytes "22 0"
+    ∷ bytes "60 7701569743"
+    ∷ bytes "61 6730054024"
+    ∷ bytes "101 01"
+    ∷ bytes "102 770301001"
+    ∷ bytes "103 772801001"
+    ∷ bytes "104 18201061201010000510"
+    ∷ bytes "105 0"
+    ∷ bytes "106 0"
+    ∷ bytes "107 0"
+    ∷ bytes "108 0"
+    ∷ bytes "109 0"
+    ∷ [])
+
+whole : reportOf wholeInput ≡ wholeOutput
+unfolding wholeInput wholeOutput feeds messageOf headBytes every any are among same between value valueOf number _isOneOf_ _beginsOneOf_ put slotOf cell cellText cellOk cellOf textOf _⟨_⟩ given person document leap monthDays gregorian date rules fieldOf testOf keeps keepsAll firstNot listOf toFill choices look fillings firstFilling setOf messageText readTests readingOf slotIn slotCell slotText slotBytes slotWith slotFormed slotsFormed draftFormed freshDraft slotComparison comparisonOf postTests postingOf stored postedTo cells draftSheet sheetTests completeTests completing completed pieceOf endsStream pieces messagesOf decimalIn decimal item messageLine fieldLine fieldLines endLines ending reportFrom reportOf
+whole = refl

@@ -5,13 +5,13 @@
 use mathlib.Core.Path.{_≡_, refl}
 use mathlib.Core.Bool.{Bool, true, false, cond}
 use mathlib.Core.List.{List, [], _∷_, _++_, map}
-use Prim.Native.Nat.{ℕ, _+_}
+use Prim.Native.Nat.{ℕ, _+_, _*_}
 use Prim.Native.String.{String}
 use lib.Dec.{eqb}
 use lib.ListN.{length, set, take}
-use Rattle.texts.specs.Quoted.{Text, words}
+use Rattle.texts.specs.Quoted.{Text, bytes, words}
 use Rattle.texts.specs.Answers.{Answer, refusal}
-use Rattle.sheets.specs.Sheet.{Sheet}
+use Rattle.sheets.specs.Sheet.{Sheet, slots}
 use Rattle.rules.specs.Rules.{Rule, rules, order, keeps}
 use Rattle.rules.specs.Verdicts.{checked}
 use Rattle.rules.specs.Examples.{Change, _≔_, accepted, broken, sheetWith, answer}
@@ -184,6 +184,13 @@ malformed =
     ∷ raw (set (sheetWith []) 9 48) (accepted "A") refl
     ∷ sheet ((22 ≔ "1234567890123456789012345") ∷ []) (accepted "A") refl
     ∷ []
+
+-- a length of 26, and a byte behind the text, in each slot
+malformedSlots :
+    (map (λ (k : ℕ). checked (set (sheetWith []) (k * 26) 26)) slots ≡ map (λ (k : ℕ). refusal 1 []) slots)
+    × (map (λ (k : ℕ). checked (set (sheetWith []) (k * 26 + 25) 1)) slots ≡ map (λ (k : ℕ). refusal 1 []) slots)
+unfolding answer
+malformedSlots = (refl, refl)
 
 -- ---- classes
 
@@ -411,4 +418,41 @@ rules19to34 =
     ∷ break 34 ((109 ≔ "00") ∷ []) 106 "0 УВ ИЛ ПБ ТГ ТБ ТД ПВ ИН ПК КЭ" refl
     ∷ keep 34 ((106 ≔ "0") ∷ []) 109 "0 01.01.2024" refl
     ∷ keep 34 ((106 ≔ "ТД") ∷ []) 109 "0 01.01.2024" refl
+    ∷ []
+
+-- ---- "Bytes in hexadecimal: У D3, В C2, И C8, Л CB, П CF, Б C1, Т D2, Г C3, Д C4, Н CD, К CA, Э DD"
+
+letters : bytes "УВИЛПБТГДНКЭ" ≡ 0xD3 ∷ 0xC2 ∷ 0xC8 ∷ 0xCB ∷ 0xCF ∷ 0xC1 ∷ 0xD2 ∷ 0xC3 ∷ 0xC4 ∷ 0xCD ∷ 0xCA ∷ 0xDD ∷ []
+letters = refl
+
+-- ---- "the rest is for A and B": each rule that class B can break
+
+rulesOfB : List Line
+unfolding answer varied inB
+rulesOfB =
+    sheet (inB ++ ((61 ≔ "") ∷ [])) (broken 61 6) refl
+    ∷ break 7 inB 22 "1234" refl
+    ∷ break 8 inB 60 "1 00000" refl
+    ∷ break 9 inB 61 "0 12345" refl
+    ∷ break 10 inB 101 "02 99" refl
+    ∷ break 11 inB 102 "1" refl
+    ∷ break 12 inB 103 "0" refl
+    ∷ break 13 inB 104 "1" refl
+    ∷ break 14 inB 105 "1" refl
+    ∷ break 15 inB 106 "1" refl
+    ∷ break 16 inB 107 "1" refl
+    ∷ break 17 inB 108 "-" refl
+    ∷ break 18 inB 109 "1" refl
+    ∷ break 21 inB 101 "31 33" refl
+    ∷ break 23 inB 60 "0" refl
+    ∷ break 24 (inB ++ ((60 ≔ "0") ∷ [])) 101 "13" refl
+    ∷ break 25 inB 101 "03 19 20 24" refl
+    ∷ break 26 (inB ++ ((108 ≔ "1") ∷ [])) 101 "31 33" refl
+    ∷ break 27 (inB ++ ((102 ≔ "0") ∷ [])) 101 "08" refl
+    ∷ break 29 inB 106 "00" refl
+    ∷ break 30 inB 107 "10000000" refl
+    ∷ break 31 inB 109 "00" refl
+    ∷ break 32 inB 106 "ТД" refl
+    ∷ break 33 inB 106 "00" refl
+    ∷ break 34 inB 109 "00" refl
     ∷ []
