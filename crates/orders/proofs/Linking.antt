@@ -1,4 +1,4 @@
--- The fillings of a sheet are what the picks make of its base, and what a pick tests is that its filling keeps all rules. Assumes nothing.
+-- The fillings of a sheet are what the picks make of its base. Assumes nothing.
 use mathlib.Core.Path.{_≡_, refl, sym, ap, _∙_}
 use mathlib.Core.Bool.{Bool, true, false, not, cond, _&&_, and-true}
 use mathlib.Core.List.{List, [], _∷_, _++_, map, append-nil}

@@ -52,8 +52,7 @@ abbrev pub sheetIn : List ℕ → Look (List ℕ) → List ℕ
 sheetIn b (found n f) = f
 sheetIn b (none n) = b
 
--- "draft or sheet malformed", "output: a sheet not of 390", "a broken rule; in completion only 1 to 3", "completion of class O", "no filling
--- keeps the rules": of the draft's sheet s
+-- of the draft's sheet s: "a broken rule; in completion only 1 to 3", "completion of class O", "no filling keeps the rules"
 unfoldable pub sheetTests : List ℕ → List Test
 sheetTests s =
     (not (eqb (firstBroken s basic) 0) refuses 8 with (fieldOf rules (firstBroken s basic) s ∷ firstBroken s basic ∷ []))
@@ -61,6 +60,7 @@ sheetTests s =
     ∷ (nothing (firstFilling s) refuses 10 with (counted (firstFilling s) ∷ []))
     ∷ []
 
+-- "draft or sheet malformed", "output: a sheet not of 390", and these
 unfoldable pub completeTests : List ℕ → List ℕ → List Test
 completeTests d b = (not (draftFormed d) refuses 1) ∷ (not (eqb (length b) sheetSize) refuses 7) ∷ sheetTests (draftSheet d)
 

@@ -83,7 +83,7 @@ all-grouped u b h =
     order-grouped (keeps u) ∙ sym (every-append (keeps u) (1 ∷ 2 ∷ 3 ∷ []) (4 ∷ grouped)) ∙ ap (λ (x : Bool). x && every (keeps u) (4 ∷ grouped)) h
     ∙ first-of (keeps u) 4 grouped (fourth u b) ∙ cc
 
--- ---- broken_general, is_budget
+-- ---- broken_basic, is_budget
 
 general-keeps : (s : Sheet) (n : ℕ) → n < 5 → kept (generalOn (factsOf s)) n ≡ keeps s n
 unfolding kept

@@ -1,4 +1,4 @@
--- The rules' tests on facts, and the rules in groups. A reader of the promise needs none of this; proofs/On.antt shows
+-- The rules' tests on facts, and their outcomes by number. A reader of the promise needs none of this; proofs/On.antt shows
 -- that the tests on facts are the rules. Assumes nothing.
 use mathlib.Core.Bool.{Bool, true, not, cond, _&&_, _||_}
 use mathlib.Core.List.{List, [], _∷_, _++_}

@@ -1,5 +1,5 @@
 -- What the rules ask of a sheet, found once: each field's text is read into facts, and a rule is a test of facts. A reader
--- of the promise needs none of this; proofs/On.antt shows that the tests on facts are the rules. Assumes nothing.
+-- of the promise needs none of this; On, in the proofs of rules, shows that the tests on facts are the rules. Assumes nothing.
 use mathlib.Core.Path.{_≡_}
 use mathlib.Core.Bool.{Bool, cond, _&&_, _||_}
 use mathlib.Core.List.{List, [], _∷_}
