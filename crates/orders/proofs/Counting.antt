@@ -15,7 +15,7 @@ use lib.Pow.{pow-pos, pow-add, high}
 use Rattle.texts.specs.Texts.{blank}
 use Rattle.texts.proofs.Bools.{both}
 use Rattle.sheets.specs.Sheet.{cell, slots, cellOf, textOf}
-use Rattle.orders.specs.Fillings.{listOf, toFill, choices, each, product, joined, fillings}
+use Rattle.orders.specs.Fillings.{listOf, toFill, choices, each, product, joined, mostFillings, fillings}
 use Rattle.orders.specs.Complete.{setOf}
 use Rattle.orders.specs.Whole.{tally, FilledSet}
 
@@ -67,7 +67,7 @@ module _ (s : List ℕ) where
   unfolding fillings
   length-fillings = length-map (product (map (choices s) slots)) joined ∙ length-product (map (choices s) slots)
 
-  pub fillings-most : length (fillings s) ≤ 1056
+  pub fillings-most : length (fillings s) ≤ mostFillings
   unfolding listOf
   fillings-most = rw length-fillings (lengths-most slots)
 

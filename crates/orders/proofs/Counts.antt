@@ -13,7 +13,7 @@ use Rattle.sheets.specs.Sheet.{cell, slotOf, cellText, cellOf, textOf, _⟨_⟩
 use Rattle.sheets.specs.Forms.{person, document, leap, monthDays, gregorian, date}
 use Rattle.rules.specs.Rules.{rules, testOf, fieldOf, keeps, keepsAll, firstNot}
 use Rattle.sheets.specs.Entries.{filledAt}
-use Rattle.orders.specs.Fillings.{joined, Look, found, none, look, firstFilling}
+use Rattle.orders.specs.Fillings.{joined, mostFillings, Look, found, none, look, firstFilling}
 use Rattle.orders.specs.Search.{passesAt, places, picks, firstPick}
 use Rattle.orders.specs.Filled.{baseOf, pickedOf}
 use Rattle.orders.specs.Complete.{budgetPayment, sheetTests}
@@ -98,3 +98,7 @@ none-passes p h (x ∷ xs) n =
 never : firstFilling hopeless ≡ none 1056
 unfolding picked
 never = first-is hopeless refl ∙ ap (mapLook (pickedOf (baseOf hopeless))) (none-passes (passesAt (baseOf hopeless)) (broken-fixed (baseOf hopeless) 22 refl refl refl refl) (picks (baseOf hopeless)) 0)
+
+-- "at most 22 × 12 × 2 × 2 = 1,056"
+most : mostFillings ≡ 1056
+most = refl

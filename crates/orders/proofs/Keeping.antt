@@ -10,6 +10,7 @@ use Rattle.texts.specs.Quoted.{Text}
 use Rattle.texts.specs.Texts.{blank, every}
 use Rattle.texts.proofs.Every.{every-append}
 use Rattle.sheets.specs.Sheet.{cell, slots, slotOf, cellText, cellOf, textOf, _⟨_⟩, given}
+use Rattle.sheets.specs.Entries.{statusCount, basisCount, zeroCount}
 use Rattle.rules.specs.Rules.{budget, rules, testOf, keeps, keepsAll, firstNot, firstBroken}
 use Rattle.sheets.proofs.Frames.{status-sized, basis-sized, zero-sized}
 use Rattle.orders.specs.Fillings.{listOf, toFill, joined, fillings, Look, found, none, look, firstFilling}
@@ -114,7 +115,7 @@ module _ (s : List ℕ) (size : length s ≡ 390) where
       let b : blank (textOf (baseOf s) 11) ≡ blank (textOf s 11) = ap blank (blank-base 11 (omega arith) refl) in
       let c : blank (textOf (baseOf s) 13) ≡ blank (textOf s 13) = ap blank (blank-base 13 (omega arith) refl) in
       let d : blank (textOf (baseOf s) 14) ≡ blank (textOf s 14) = ap blank (blank-base 14 (omega arith) refl) in
-      fillings-picked s _ _ _ _ (ap (λ (x : Bool). width x 22) a) (ap (λ (x : Bool). width x 12) b) (ap (λ (x : Bool). width x 2) c) (ap (λ (x : Bool). width x 2) d)
+      fillings-picked s _ _ _ _ (ap (λ (x : Bool). width x statusCount) a) (ap (λ (x : Bool). width x basisCount) b) (ap (λ (x : Bool). width x zeroCount) c) (ap (λ (x : Bool). width x zeroCount) d)
       ∙ map-cong (λ (q : List ℕ). joined (cellsAt s q)) (pickedOf (baseOf s)) (λ q. sym (picked-joined s size q)) (picks (baseOf s))
 
   -- the search through the picks is the search through the fillings

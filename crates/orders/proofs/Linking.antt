@@ -9,6 +9,7 @@ use lib.Seq.{getD-drop, drop-drop}
 use Rattle.texts.specs.Quoted.{Text}
 use Rattle.texts.specs.Texts.{blank, every}
 use Rattle.sheets.specs.Sheet.{cell, slots, cellText, cellOf, textOf}
+use Rattle.sheets.specs.Entries.{statusCount, basisCount, zeroCount}
 use Rattle.orders.specs.Fillings.{listOf, toFill, choices, each, product, joined, fillings}
 use Rattle.orders.specs.Search.{width, places}
 use Rattle.orders.proofs.Cells.{Cells}
@@ -123,7 +124,7 @@ map-over : {X Y Z : Type 0} (g : Y → Z) (h : X → Y) (k : X → Z) → ((x : 
 map-over g h k e [] = refl
 map-over g h k e (x ∷ xs) = λ m. e x m ∷ map-over g h k e xs m
 
-module _ (s : List ℕ) (n101 n106 n108 n109 : ℕ) (w6 : n101 ≡ width (toFill s 6) 22) (w11 : n106 ≡ width (toFill s 11) 12) (w13 : n108 ≡ width (toFill s 13) 2) (w14 : n109 ≡ width (toFill s 14) 2) where
+module _ (s : List ℕ) (n101 n106 n108 n109 : ℕ) (w6 : n101 ≡ width (toFill s 6) statusCount) (w11 : n106 ≡ width (toFill s 11) basisCount) (w13 : n108 ≡ width (toFill s 13) zeroCount) (w14 : n109 ≡ width (toFill s 14) zeroCount) where
   chain : product (map (choices s) slots) ≡ map (nested s) (each (places n101 0) (each (places n106 0) (each (places n108 0) (each (places n109 0) ([] ∷ [])))))
   unfolding nested toFill listOf
   chain =

@@ -11,7 +11,7 @@ use lib.ListN.{length, getD}
 use Rattle.texts.specs.Texts.{every, any, are, among, blank}
 use Rattle.sheets.specs.Sheet.{Sheet, cell, textOf}
 use Rattle.sheets.specs.Facts.{Read}
-use Rattle.sheets.specs.Entries.{statusTexts, basisTexts, zeroTexts, filledAt}
+use Rattle.sheets.specs.Entries.{statusTexts, basisTexts, zeroTexts, filledAt, statusCount, basisCount, zeroCount}
 use Rattle.sheets.proofs.Frames.{status-sized, basis-sized, zero-sized, filled-length, filled-other}
 use Rattle.sheets.specs.declared.facts.Facts.{Facts}
 use Rattle.texts.proofs.Every.{every-member}
@@ -136,7 +136,7 @@ R2 n108 n109 = each (places n108 0) (R3 n109)
 abbrev pub R1 : ℕ → ℕ → ℕ → Picks
 R1 n106 n108 n109 = each (places n106 0) (R2 n108 n109)
 
-module _ (u : Sheet) (n101 n106 n108 n109 : ℕ) (e1 : n101 ≡ width (blank (textOf u 6)) 22) (e2 : n106 ≡ width (blank (textOf u 11)) 12) (e3 : n108 ≡ width (blank (textOf u 13)) 2) (e4 : n109 ≡ width (blank (textOf u 14)) 2) where
+module _ (u : Sheet) (n101 n106 n108 n109 : ℕ) (e1 : n101 ≡ width (blank (textOf u 6)) statusCount) (e2 : n106 ≡ width (blank (textOf u 11)) basisCount) (e3 : n108 ≡ width (blank (textOf u 13)) zeroCount) (e4 : n109 ≡ width (blank (textOf u 14)) zeroCount) where
   whole : map (λ (t : List ℕ). t) (each (places n101 0) (R1 n106 n108 n109)) ++ [] ≡ picks u
   unfolding picks
   whole = append-nil _ ∙ map-id (each (places n101 0) (R1 n106 n108 n109)) ∙ (λ i. each (places (e1 i) 0) (R1 (e2 i) (e3 i) (e4 i)))

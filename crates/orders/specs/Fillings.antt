@@ -9,7 +9,7 @@ use lib.ListN.{length, getD, replicate}
 use Rattle.texts.specs.Quoted.{Text, words}
 use Rattle.texts.specs.Texts.{blank, same}
 use Rattle.sheets.specs.Sheet.{slots, slotOf, sheetSize, cell, cellOf, textOf}
-use Rattle.sheets.specs.Entries.{statusTexts, basisTexts, zeroTexts}
+use Rattle.sheets.specs.Entries.{statusTexts, basisTexts, zeroTexts, statusCount, basisCount, zeroCount}
 use Rattle.rules.specs.Rules.{keepsAll}
 
 -- "Lists: 22, 60, 102, 104, 105, 107: "0". 101: rule 10's order. 106: rule 15's order. 108 and 109: "0", "00"": by slot, no entry for
@@ -55,6 +55,10 @@ pub record Place (s f : List ℕ) (n : ℕ) : Type 0 where
   pub count : n ≡ suc (length list)
   pub holds : (g : List ℕ) → List·Memᴰ g list ↔ (Filling s g × Earlier s g f)
   pub once : (a b c : List (List ℕ)) (g : List ℕ) → list ≡ a ++ (g ∷ (b ++ (g ∷ c))) → ⊥
+
+-- "there are at most 22 × 12 × 2 × 2 = 1,056"
+abbrev pub mostFillings : ℕ
+mostFillings = statusCount * basisCount * zeroCount * zeroCount
 
 -- ---- all fillings, in order
 

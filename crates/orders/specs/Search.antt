@@ -6,6 +6,7 @@ use mathlib.Core.List.{List, [], _∷_}
 use Prim.Native.Nat.{ℕ, zero, suc}
 use Rattle.texts.specs.Texts.{blank, every}
 use Rattle.sheets.specs.Sheet.{Sheet, textOf}
+use Rattle.sheets.specs.Entries.{statusCount, basisCount, zeroCount}
 use Rattle.sheets.specs.Facts.{Read}
 use Rattle.sheets.specs.declared.facts.Facts.{Facts}
 use Rattle.rules.specs.Rules.{budget, keeps, keepsAll}
@@ -24,10 +25,10 @@ places (suc n) i = i ∷ places n (suc i)
 unfoldable pub picks : Sheet → List (List ℕ)
 picks s =
     product
-    (places (width (blank (textOf s 6)) 22) 0
-    ∷ places (width (blank (textOf s 11)) 12) 0
-    ∷ places (width (blank (textOf s 13)) 2) 0
-    ∷ places (width (blank (textOf s 14)) 2) 0
+    (places (width (blank (textOf s 6)) statusCount) 0
+    ∷ places (width (blank (textOf s 11)) basisCount) 0
+    ∷ places (width (blank (textOf s 13)) zeroCount) 0
+    ∷ places (width (blank (textOf s 14)) zeroCount) 0
     ∷ [])
 
 -- the sheet with the entries at these four places keeps all rules

@@ -12,7 +12,7 @@ use Rattle.rules.specs.Rules.{classOf, rules, fieldOf, keeps, keepsAll}
 use Rattle.rules.specs.declared.Class.the-variants.{O}
 use Rattle.drafts.specs.Draft.{draftFormed, draftSheet}
 use Rattle.drafts.specs.Promises.{Postings, Held}
-use Rattle.orders.specs.Fillings.{toFill, Filling, Earlier, Place}
+use Rattle.orders.specs.Fillings.{toFill, Filling, Earlier, Place, mostFillings}
 use Rattle.orders.specs.Complete.{basic, budgetPayment, completing, completed, completeAnswer}
 use Rattle.orders.specs.declared.complete.Completed.{Completed}
 use Rattle.orders.specs.declared.complete.Completed.the-variants.{Filled}
@@ -33,14 +33,13 @@ pub record FirstFilling (s t : List ℕ) (n : ℕ) : Type 0 where
   -- "no earlier filling keeps them"
   pub first : (g : List ℕ) → Filling s g → Earlier s g t → keepsAll g ≡ false
 
--- n is the number of all fillings of s: the list has each once; "there are at most 22 × 12 × 2 × 2 = 1,056, and one if nothing is to be
--- filled"
+-- n is the number of all fillings of s: the list has each once; "there are at most .., and one if nothing is to be filled"
 pub record All (s : List ℕ) (n : ℕ) : Type 0 where
   pub list : List (List ℕ)
   pub count : n ≡ length list
   pub holds : (g : List ℕ) → List·Memᴰ g list ↔ Filling s g
   pub once : (a b c : List (List ℕ)) (g : List ℕ) → list ≡ a ++ (g ∷ (b ++ (g ∷ c))) → ⊥
-  pub most : n ≤ 1056
+  pub most : n ≤ mostFillings
   pub one : ((k : ℕ) → toFill s k ≡ false) → n ≡ 1
 
 -- how many of some slots pass a test

@@ -9,6 +9,8 @@ use rules::kept_day;
 use rules::kept_document;
 use rules::kept_fixed;
 use rules::kept_status;
+use sheets::entries::BASIS_COUNT;
+use sheets::entries::ZERO_COUNT;
 use sheets::entries::blank_basis;
 use sheets::entries::blank_day;
 use sheets::entries::blank_document;
@@ -18,6 +20,7 @@ use sheets::entries::fill_day;
 use sheets::entries::fill_document;
 use sheets::entries::fill_status;
 use sheets::facts::Facts;
+use sheets::facts::STATUS_COUNT;
 
 fn width_of(blank: bool, listed: usize) -> usize
     requires { ⌜ 1 ≤ listed ⌝ }
@@ -53,10 +56,10 @@ pub(crate) fn search(f: Facts) -> Found
     };
     let mut found = false;
     let kept = kept_fixed(f);
-    let n101 = width_of(blank_status(f), 22);
-    let n106 = width_of(blank_basis(f), 12);
-    let n108 = width_of(blank_document(f), 2);
-    let n109 = width_of(blank_day(f), 2);
+    let n101 = width_of(blank_status(f), STATUS_COUNT);
+    let n106 = width_of(blank_basis(f), BASIS_COUNT);
+    let n108 = width_of(blank_document(f), ZERO_COUNT);
+    let n109 = width_of(blank_day(f), ZERO_COUNT);
     'statuses: for a in 0..n101 {
         let f1 = fill_status(f, a);
         let kept1 = kept & kept_status(f1);

@@ -107,9 +107,9 @@ not-not : (b : Bool) → not (not b) ≡ b
 not-not true = refl
 not-not false = refl
 
-pub budget-is : (f : Facts) (s : Sheet) → Read f s → (f .head .account .a || f .head .account .b) ≡ budget s
+pub budget-is : (f : Facts) (s : Sheet) → Read f s → (f .banking .account .a || f .banking .account .b) ≡ budget s
 budget-is f s o =
-    sym (not-not (f .head .account .a || f .head .account .b))
+    sym (not-not (f .banking .account .a || f .banking .account .b))
     ∙ ap not (ap (λ (g : Facts). ordinary g) (o .facts) ∙ ordinary-on s) ∙ not-not (budget s)
 
 -- ---- outcomes
@@ -141,15 +141,15 @@ broken-budget f o os r e t h i = cc
 
 -- ---- class_of
 
-pub class-a : (f : Facts) → f .head .account .a ≡ true → A ≡ classOn f
+pub class-a : (f : Facts) → f .banking .account .a ≡ true → A ≡ classOn f
 unfolding classOn
 class-a f t = cc
 
-pub class-b : (f : Facts) → f .head .account .a ≡ false → f .head .account .b ≡ true → B ≡ classOn f
+pub class-b : (f : Facts) → f .banking .account .a ≡ false → f .banking .account .b ≡ true → B ≡ classOn f
 unfolding classOn
 class-b f t u = cc
 
-pub class-o : (f : Facts) → f .head .account .a ≡ false → f .head .account .b ≡ false → O ≡ classOn f
+pub class-o : (f : Facts) → f .banking .account .a ≡ false → f .banking .account .b ≡ false → O ≡ classOn f
 unfolding classOn
 class-o f t u = cc
 

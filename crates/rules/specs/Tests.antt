@@ -15,10 +15,10 @@ use Rattle.sheets.specs.declared.facts.Facts.{Facts}
 -- ---- the rules' tests on facts
 
 abbrev pub ordinary : Facts → Bool
-ordinary f = not (f .head .account .a || f .head .account .b)
+ordinary f = not (f .banking .account .a || f .banking .account .b)
 
 unfoldable pub classOn : Facts → Class
-classOn f = cond (f .head .account .a) A (cond (f .head .account .b) B O)
+classOn f = cond (f .banking .account .a) A (cond (f .banking .account .b) B O)
 
 -- 60 has the form that the status wants
 unfoldable pub suits : Wanted → Payer → Bool
@@ -29,52 +29,52 @@ suits Twelve p = p .inn12
 suits Zero p = p .zero
 
 abbrev pub on1 : Facts → Bool
-on1 f = f .head .general .bik
+on1 f = f .banking .general .bik
 
 abbrev pub on2 : Facts → Bool
-on2 f = f .head .general .bank
+on2 f = f .banking .general .bank
 
 abbrev pub on3 : Facts → Bool
-on3 f = f .head .general .account
+on3 f = f .banking .general .account
 
 abbrev pub on4 : Facts → Bool
 on4 f = ordinary f ⇒ f .status .blank
 
 abbrev pub on5 : Facts → Bool
-on5 f = f .head .account .a ⇒ f .head .account .home
+on5 f = f .banking .account .a ⇒ f .banking .account .home
 
 abbrev pub on6 : Facts → Bool
-on6 f = f .head .given && (not (f .status .blank) && (not (f .basis .blank) && (not (f .document .blank) && not (f .day .blank))))
+on6 f = f .banking .given && (not (f .status .blank) && (not (f .basis .blank) && (not (f .document .blank) && not (f .day .blank))))
 
 abbrev pub on7 : Facts → Bool
-on7 f = (f .sides .code .zero || f .sides .code .uin) || (f .sides .code .four && f .head .account .to03212)
+on7 f = (f .parties .code .zero || f .parties .code .uin) || (f .parties .code .four && f .banking .account .to03212)
 
 abbrev pub on8 : Facts → Bool
-on8 f = (f .sides .payer .zero || f .sides .payer .foreign) || (f .sides .payer .inn10 || f .sides .payer .inn12)
+on8 f = (f .parties .payer .zero || f .parties .payer .foreign) || (f .parties .payer .inn10 || f .parties .payer .inn12)
 
 abbrev pub on9 : Facts → Bool
-on9 f = f .sides .payee
+on9 f = f .parties .payee
 
 abbrev pub on10 : Facts → Bool
 on10 f = f .status .listed
 
 abbrev pub on11 : Facts → Bool
-on11 f = f .sides .kpp .zero || f .sides .kpp .full
+on11 f = f .parties .kpp .zero || f .parties .kpp .full
 
 abbrev pub on12 : Facts → Bool
-on12 f = f .sides .payeekpp
+on12 f = f .parties .payeekpp
 
 abbrev pub on13 : Facts → Bool
-on13 f = f .rest .kbk .zero || f .rest .kbk .full
+on13 f = f .classifiers .kbk .zero || f .classifiers .kbk .full
 
 abbrev pub on14 : Facts → Bool
-on14 f = f .rest .oktmo .zero || f .rest .oktmo .full
+on14 f = f .classifiers .oktmo .zero || f .classifiers .oktmo .full
 
 abbrev pub on15 : Facts → Bool
 on15 f = (f .basis .zero || f .basis .zeros) || f .basis .letters
 
 abbrev pub on16 : Facts → Bool
-on16 f = f .rest .office .zero || f .rest .office .full
+on16 f = f .classifiers .office .zero || f .classifiers .office .full
 
 abbrev pub on17 : Facts → Bool
 on17 f = f .document .fit
@@ -83,44 +83,44 @@ abbrev pub on18 : Facts → Bool
 on18 f = (f .day .zero || f .day .zeros) || f .day .date
 
 abbrev pub on19 : Facts → Bool
-on19 f = f .head .account .a && f .status .groups .treasury ⇒ f .head .account .to03100
+on19 f = f .banking .account .a && f .status .groups .treasury ⇒ f .banking .account .to03100
 
 abbrev pub on20 : Facts → Bool
-on20 f = f .head .account .a && f .status .groups .is31 ⇒ f .head .account .to03212
+on20 f = f .banking .account .a && f .status .groups .is31 ⇒ f .banking .account .to03212
 
 abbrev pub on21 : Facts → Bool
-on21 f = f .status .groups .courts ⇒ f .sides .code .uin
+on21 f = f .status .groups .courts ⇒ f .parties .code .uin
 
 abbrev pub on22 : Facts → Bool
-on22 f = f .head .account .to03212 ⇒ not (f .sides .code .zero)
+on22 f = f .banking .account .to03212 ⇒ not (f .parties .code .zero)
 
 abbrev pub on23 : Facts → Bool
-on23 f = suits (f .status .wanted) (f .sides .payer)
+on23 f = suits (f .status .wanted) (f .parties .payer)
 
 abbrev pub on24 : Facts → Bool
-on24 f = f .status .groups .is13 ⇒ (f .sides .payer .inn10 || f .sides .payer .inn12) || f .sides .code .uin
+on24 f = f .status .groups .is13 ⇒ (f .parties .payer .inn10 || f .parties .payer .inn12) || f .parties .code .uin
 
 abbrev pub on25 : Facts → Bool
 on25 f =
     f .status .groups .personal
-    ⇒ f .document .person || (f .document .zero && (f .sides .payer .inn12 || f .sides .code .uin))
+    ⇒ f .document .person || (f .document .zero && (f .parties .payer .inn12 || f .parties .code .uin))
 
 abbrev pub on26 : Facts → Bool
 on26 f = f .status .groups .courts ⇒ f .document .zero
 
 abbrev pub on27 : Facts → Bool
 on27 f =
-    (f .sides .payer .twelve ⇒ f .sides .kpp .zero)
-    && ((f .sides .payer .five ⇒ not (f .sides .kpp .zero)) && (f .sides .payer .ten ⇒ not (f .sides .kpp .zero) || f .status .groups .is01))
+    (f .parties .payer .twelve ⇒ f .parties .kpp .zero)
+    && ((f .parties .payer .five ⇒ not (f .parties .kpp .zero)) && (f .parties .payer .ten ⇒ not (f .parties .kpp .zero) || f .status .groups .is01))
 
 abbrev pub on28 : Facts → Bool
-on28 f = f .head .account .to03100 ⇒ not (f .rest .kbk .zero)
+on28 f = f .banking .account .to03100 ⇒ not (f .classifiers .kbk .zero)
 
 abbrev pub on29 : Facts → Bool
 on29 f = not (f .status .groups .customs) ⇒ f .basis .zero
 
 abbrev pub on30 : Facts → Bool
-on30 f = (f .status .groups .customs ⇒ f .rest .office .full) && (not (f .status .groups .customs) ⇒ f .rest .office .zero)
+on30 f = (f .status .groups .customs ⇒ f .classifiers .office .full) && (not (f .status .groups .customs) ⇒ f .classifiers .office .zero)
 
 abbrev pub on31 : Facts → Bool
 on31 f = not (f .status .groups .customs) ⇒ f .day .zero

@@ -182,7 +182,7 @@ pub fn broken_basic(f: Facts) -> Rule
 pub fn is_budget(f: Facts) -> bool
     ensures { λ r. ⌜ ((s : Sheet) → Read f s → r ≡ budget s) ⌝ }
 {
-    f.head.account.a | f.head.account.b
+    f.banking.account.a | f.banking.account.b
 }
 
 // The rules for classes A and B in groups: those that ask nothing of 101, 106, 108 and 109; then, each with what the ones before
@@ -341,10 +341,10 @@ fn broken(f: Facts) -> Rule
 fn class_of(f: Facts) -> Class
     ensures { λ r. ⌜ r ≡ classOn f ⌝ }
 {
-    if f.head.account.a {
+    if f.banking.account.a {
         return Class::A;
     }
-    if f.head.account.b {
+    if f.banking.account.b {
         return Class::B;
     }
     Class::O

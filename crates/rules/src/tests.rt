@@ -8,7 +8,7 @@ use sheets::forms::Wanted;
 pub(crate) fn is_ordinary(f: Facts) -> bool
     ensures { λ r. ⌜ r ≡ ordinary f ⌝ }
 {
-    !(f.head.account.a | f.head.account.b)
+    !(f.banking.account.a | f.banking.account.b)
 }
 
 fn is_suited(w: Wanted, p: Payer) -> bool
@@ -26,19 +26,19 @@ fn is_suited(w: Wanted, p: Payer) -> bool
 pub(crate) fn keeps1(f: Facts) -> bool
     ensures { λ r. ⌜ r ≡ on1 f ⌝ }
 {
-    f.head.general.bik
+    f.banking.general.bik
 }
 
 pub(crate) fn keeps2(f: Facts) -> bool
     ensures { λ r. ⌜ r ≡ on2 f ⌝ }
 {
-    f.head.general.bank
+    f.banking.general.bank
 }
 
 pub(crate) fn keeps3(f: Facts) -> bool
     ensures { λ r. ⌜ r ≡ on3 f ⌝ }
 {
-    f.head.general.account
+    f.banking.general.account
 }
 
 pub(crate) fn keeps4(f: Facts) -> bool
@@ -50,31 +50,32 @@ pub(crate) fn keeps4(f: Facts) -> bool
 pub(crate) fn keeps5(f: Facts) -> bool
     ensures { λ r. ⌜ r ≡ on5 f ⌝ }
 {
-    !f.head.account.a | f.head.account.home
+    !f.banking.account.a | f.banking.account.home
 }
 
 pub(crate) fn keeps6(f: Facts) -> bool
     ensures { λ r. ⌜ r ≡ on6 f ⌝ }
 {
-    f.head.given & (!f.status.blank & (!f.basis.blank & (!f.document.blank & !f.day.blank)))
+    f.banking.given & (!f.status.blank & (!f.basis.blank & (!f.document.blank & !f.day.blank)))
 }
 
 pub(crate) fn keeps7(f: Facts) -> bool
     ensures { λ r. ⌜ r ≡ on7 f ⌝ }
 {
-    (f.sides.code.zero | f.sides.code.uin) | (f.sides.code.four & f.head.account.to03212)
+    (f.parties.code.zero | f.parties.code.uin) | (f.parties.code.four & f.banking.account.to03212)
 }
 
 pub(crate) fn keeps8(f: Facts) -> bool
     ensures { λ r. ⌜ r ≡ on8 f ⌝ }
 {
-    (f.sides.payer.zero | f.sides.payer.foreign) | (f.sides.payer.inn10 | f.sides.payer.inn12)
+    (f.parties.payer.zero | f.parties.payer.foreign)
+        | (f.parties.payer.inn10 | f.parties.payer.inn12)
 }
 
 pub(crate) fn keeps9(f: Facts) -> bool
     ensures { λ r. ⌜ r ≡ on9 f ⌝ }
 {
-    f.sides.payee
+    f.parties.payee
 }
 
 pub(crate) fn keeps10(f: Facts) -> bool
@@ -86,25 +87,25 @@ pub(crate) fn keeps10(f: Facts) -> bool
 pub(crate) fn keeps11(f: Facts) -> bool
     ensures { λ r. ⌜ r ≡ on11 f ⌝ }
 {
-    f.sides.kpp.zero | f.sides.kpp.full
+    f.parties.kpp.zero | f.parties.kpp.full
 }
 
 pub(crate) fn keeps12(f: Facts) -> bool
     ensures { λ r. ⌜ r ≡ on12 f ⌝ }
 {
-    f.sides.payeekpp
+    f.parties.payeekpp
 }
 
 pub(crate) fn keeps13(f: Facts) -> bool
     ensures { λ r. ⌜ r ≡ on13 f ⌝ }
 {
-    f.rest.kbk.zero | f.rest.kbk.full
+    f.classifiers.kbk.zero | f.classifiers.kbk.full
 }
 
 pub(crate) fn keeps14(f: Facts) -> bool
     ensures { λ r. ⌜ r ≡ on14 f ⌝ }
 {
-    f.rest.oktmo.zero | f.rest.oktmo.full
+    f.classifiers.oktmo.zero | f.classifiers.oktmo.full
 }
 
 pub(crate) fn keeps15(f: Facts) -> bool
@@ -116,7 +117,7 @@ pub(crate) fn keeps15(f: Facts) -> bool
 pub(crate) fn keeps16(f: Facts) -> bool
     ensures { λ r. ⌜ r ≡ on16 f ⌝ }
 {
-    f.rest.office.zero | f.rest.office.full
+    f.classifiers.office.zero | f.classifiers.office.full
 }
 
 pub(crate) fn keeps17(f: Facts) -> bool
@@ -134,25 +135,25 @@ pub(crate) fn keeps18(f: Facts) -> bool
 pub(crate) fn keeps19(f: Facts) -> bool
     ensures { λ r. ⌜ r ≡ on19 f ⌝ }
 {
-    !(f.head.account.a & f.status.groups.treasury) | f.head.account.to03100
+    !(f.banking.account.a & f.status.groups.treasury) | f.banking.account.to03100
 }
 
 pub(crate) fn keeps20(f: Facts) -> bool
     ensures { λ r. ⌜ r ≡ on20 f ⌝ }
 {
-    !(f.head.account.a & f.status.groups.is31) | f.head.account.to03212
+    !(f.banking.account.a & f.status.groups.is31) | f.banking.account.to03212
 }
 
 pub(crate) fn keeps21(f: Facts) -> bool
     ensures { λ r. ⌜ r ≡ on21 f ⌝ }
 {
-    !f.status.groups.courts | f.sides.code.uin
+    !f.status.groups.courts | f.parties.code.uin
 }
 
 pub(crate) fn keeps22(f: Facts) -> bool
     ensures { λ r. ⌜ r ≡ on22 f ⌝ }
 {
-    !f.head.account.to03212 | !f.sides.code.zero
+    !f.banking.account.to03212 | !f.parties.code.zero
 }
 
 pub(crate) fn keeps23(f: Facts) -> bool
@@ -160,20 +161,20 @@ pub(crate) fn keeps23(f: Facts) -> bool
 {
     let status = f.status;
     let wanted = status.wanted;
-    is_suited(wanted, f.sides.payer)
+    is_suited(wanted, f.parties.payer)
 }
 
 pub(crate) fn keeps24(f: Facts) -> bool
     ensures { λ r. ⌜ r ≡ on24 f ⌝ }
 {
-    !f.status.groups.is13 | ((f.sides.payer.inn10 | f.sides.payer.inn12) | f.sides.code.uin)
+    !f.status.groups.is13 | ((f.parties.payer.inn10 | f.parties.payer.inn12) | f.parties.code.uin)
 }
 
 pub(crate) fn keeps25(f: Facts) -> bool
     ensures { λ r. ⌜ r ≡ on25 f ⌝ }
 {
     !f.status.groups.personal
-        | (f.document.person | (f.document.zero & (f.sides.payer.inn12 | f.sides.code.uin)))
+        | (f.document.person | (f.document.zero & (f.parties.payer.inn12 | f.parties.code.uin)))
 }
 
 pub(crate) fn keeps26(f: Facts) -> bool
@@ -185,15 +186,15 @@ pub(crate) fn keeps26(f: Facts) -> bool
 pub(crate) fn keeps27(f: Facts) -> bool
     ensures { λ r. ⌜ r ≡ on27 f ⌝ }
 {
-    (!f.sides.payer.twelve | f.sides.kpp.zero)
-        & ((!f.sides.payer.five | !f.sides.kpp.zero)
-            & (!f.sides.payer.ten | (!f.sides.kpp.zero | f.status.groups.is01)))
+    (!f.parties.payer.twelve | f.parties.kpp.zero)
+        & ((!f.parties.payer.five | !f.parties.kpp.zero)
+            & (!f.parties.payer.ten | (!f.parties.kpp.zero | f.status.groups.is01)))
 }
 
 pub(crate) fn keeps28(f: Facts) -> bool
     ensures { λ r. ⌜ r ≡ on28 f ⌝ }
 {
-    !f.head.account.to03100 | !f.rest.kbk.zero
+    !f.banking.account.to03100 | !f.classifiers.kbk.zero
 }
 
 pub(crate) fn keeps29(f: Facts) -> bool
@@ -207,7 +208,7 @@ pub(crate) fn keeps30(f: Facts) -> bool
     ensures { λ r. ⌜ r ≡ on30 f ⌝ }
 {
     let outside = !f.status.groups.customs;
-    (!f.status.groups.customs | f.rest.office.full) & (!outside | f.rest.office.zero)
+    (!f.status.groups.customs | f.classifiers.office.full) & (!outside | f.classifiers.office.zero)
 }
 
 pub(crate) fn keeps31(f: Facts) -> bool

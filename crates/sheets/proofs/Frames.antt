@@ -16,7 +16,7 @@ use Rattle.texts.proofs.Bools.{both}
 use Rattle.texts.proofs.Puts.{put-fits, length-put, take-put, drop-put, mid-put}
 use Rattle.sheets.specs.Sheet.{Sheet, cell, cellText, cellOf, textOf, given}
 use Rattle.sheets.specs.Forms.{inn10, kpp, kbk, oktmo, office}
-use Rattle.sheets.specs.Facts.{generalOf, accountOf, codeOf, payerOf, formOf, fixed, headOf, sidesOf, restOf, standingOf, basisOf, documentOf, dayOf, factsOf, Read}
+use Rattle.sheets.specs.Facts.{generalOf, accountOf, codeOf, payerOf, formOf, fixed, bankingOf, partiesOf, classifiersOf, standingOf, basisOf, documentOf, dayOf, factsOf, Read}
 use Rattle.sheets.specs.Entries.{statusTexts, basisTexts, zeroTexts, filledAt, statusAt, basisAt, documentAt, dayAt, withAll}
 use Rattle.sheets.specs.declared.facts.Standing.{Standing}
 use Rattle.sheets.specs.declared.facts.Basis.{Basis}
@@ -127,13 +127,13 @@ module _ (s x : List ℕ) (k : ℕ) (size : length s ≡ 390) (lk : k < 15) (lx 
 unfoldable pub factsBy : (ℕ → Text) → Facts
 factsBy T =
     record {
-      head =
+      banking =
           record {
             general = generalOf (T 0) (T 1) (T 2);
             account = accountOf (T 0) (T 1) (T 2);
             given = every (λ (k : ℕ). not (blank (T k))) fixed;
           };
-      sides =
+      parties =
           record {
             code = codeOf (T 3);
             payer = payerOf (T 4);
@@ -141,7 +141,7 @@ factsBy T =
             kpp = formOf (T 7) (kpp (T 7));
             payeekpp = kpp (T 8);
           };
-      rest =
+      classifiers =
           record {
             kbk = formOf (T 9) (kbk (T 9));
             oktmo = formOf (T 10) (oktmo (T 10));
@@ -154,7 +154,7 @@ factsBy T =
     }
 
 pub facts-by : (s : Sheet) → factsOf s ≡ factsBy (textOf s)
-unfolding factsOf headOf sidesOf restOf every given factsBy
+unfolding factsOf bankingOf partiesOf classifiersOf every given factsBy
 facts-by s = refl
 
 facts-filled : (s : Sheet) (k : ℕ) (t : Text) → length s ≡ 390 → k < 15 → length (cell t) ≡ 26 → factsOf (filledAt s k (cell t)) ≡ factsBy (refilled (textOf s) k t)
@@ -185,7 +185,7 @@ module _ (f r : Facts) (k : ℕ) (s : Sheet) (o : Read f s) where
   blank-day = ap (λ (g : Facts). g .day .blank) (o .facts)
 
   pub status-filled : (y : Standing) → y ≡ statusAt f k → r ≡ withAll f y (f .basis) (f .document) (f .day) → Read r (filledAt s 6 (cell (getD statusTexts k [])))
-  unfolding factsOf headOf sidesOf restOf every given factsBy statusAt standingOf
+  unfolding factsOf bankingOf partiesOf classifiersOf every given factsBy statusAt standingOf
   status-filled y hy hr =
       let t = getD statusTexts k [] in
       record {
@@ -200,7 +200,7 @@ module _ (f r : Facts) (k : ℕ) (s : Sheet) (o : Read f s) where
 -- the same of a sheet t that has in the field what s has
 module _ (f g r : Facts) (k : ℕ) (s t : Sheet) (o : Read f s) (p : Read g t) where
   pub basis-filled : textOf t 11 ≡ textOf s 11 → (y : Basis) → y ≡ basisAt f k → r ≡ withAll g (g .status) y (g .document) (g .day) → Read r (filledAt t 11 (cell (getD basisTexts k [])))
-  unfolding factsOf headOf sidesOf restOf every given factsBy basisAt basisOf
+  unfolding factsOf bankingOf partiesOf classifiersOf every given factsBy basisAt basisOf
   basis-filled e y hy hr =
       let x = getD basisTexts k [] in
       let z : y ≡ basisOf (cond (blank (textOf t 11)) x (textOf t 11)) =
@@ -211,7 +211,7 @@ module _ (f g r : Facts) (k : ℕ) (s t : Sheet) (o : Read f s) (p : Read g t) w
       }
 
   pub document-filled : textOf t 13 ≡ textOf s 13 → (y : Document) → y ≡ documentAt f k → r ≡ withAll g (g .status) (g .basis) y (g .day) → Read r (filledAt t 13 (cell (getD zeroTexts k [])))
-  unfolding factsOf headOf sidesOf restOf every given factsBy documentAt documentOf
+  unfolding factsOf bankingOf partiesOf classifiersOf every given factsBy documentAt documentOf
   document-filled e y hy hr =
       let x = getD zeroTexts k [] in
       let z : y ≡ documentOf (cond (blank (textOf t 13)) x (textOf t 13)) =
@@ -222,7 +222,7 @@ module _ (f g r : Facts) (k : ℕ) (s t : Sheet) (o : Read f s) (p : Read g t) w
       }
 
   pub day-filled : textOf t 14 ≡ textOf s 14 → (y : Day) → y ≡ dayAt f k → r ≡ withAll g (g .status) (g .basis) (g .document) y → Read r (filledAt t 14 (cell (getD zeroTexts k [])))
-  unfolding factsOf headOf sidesOf restOf every given factsBy dayAt dayOf
+  unfolding factsOf bankingOf partiesOf classifiersOf every given factsBy dayAt dayOf
   day-filled e y hy hr =
       let x = getD zeroTexts k [] in
       let z : y ≡ dayOf (cond (blank (textOf t 14)) x (textOf t 14)) =

@@ -2,43 +2,51 @@
 use mathlib.Core.Path.{_≡_, refl, ap, sym, _∙_}
 use mathlib.Core.Bool.{Bool, true, false, cond, _&&_}
 use mathlib.Core.List.{List, [], _∷_, map}
-use Prim.Native.Nat.{ℕ, zero, suc, _≤_, _<_}
+use Prim.Native.Nat.{ℕ, zero, suc, _+_, _-_, _/_, _%_, _≤_, _<_}
 use native.Mathlib.Omega.{arith}
-use borrow.Author.Tests.{le-leb, lt-leb, ne-eqb}
-use lib.Dec.{leb, eqb}
-use lib.ListN.{length, getD, List·getD-map, List·getD-eq-default}
+use borrow.Author.Tests.{le-leb, le-ltb, ne-eqb}
+use lib.Dec.{leb, ltb, eqb}
+use lib.ListN.{length, getD, List·getD-append, List·getD-eq-default}
 use Rattle.texts.specs.Quoted.{Text, words}
-use Rattle.texts.specs.Texts.{every, any, same, between, _isOneOf_}
-use Rattle.sheets.specs.Sheet.{cellText}
+use Rattle.texts.specs.Texts.{every, any, are, among, same, between, valueOf, value, number, _isOneOf_}
 use Rattle.sheets.specs.Forms.{person, document, date}
-use Rattle.sheets.specs.Facts.{standingOf, basisOf, documentOf, dayOf}
+use Rattle.sheets.specs.Lists.{statuses, letterPairs, numbersOf}
+use Rattle.sheets.specs.Facts.{groupsBy, groupsOf, wantedBy, standingBy, standingOf, basisOf, documentOf, dayOf}
 use Rattle.sheets.specs.declared.facts.Standing.{Standing}
 use Rattle.sheets.specs.declared.facts.Basis.{Basis}
 use Rattle.sheets.specs.declared.facts.Document.{Document}
 use Rattle.sheets.specs.declared.facts.Day.{Day}
 use Rattle.sheets.specs.declared.facts.Facts.{Facts}
 use Rattle.sheets.specs.Entries.{statusTexts, basisTexts, zeroTexts, rowOf, statusAt, basisAt, documentAt, dayAt}
+use Rattle.sheets.proofs.Ways.{standing-is}
 
--- a row holds the list's text
-row-text : (texts : List Text) → map (λ (t : Text). cellText (rowOf t)) texts ≡ texts → (k : ℕ) → cellText (rowOf (getD texts k [])) ≡ getD texts k []
-unfolding cellText between rowOf
-row-text texts e k = sym (List·getD-map (λ (t : Text). cellText (rowOf t)) texts k []) ∙ ap (λ (l : List Text). getD l k []) e
+-- what a table of values holds at a place within it, and a list of texts past its end
+in-list : {A : Type 0} (g : Text → A) (d : A) (ts : List Text) (k : ℕ) → k < length ts → getD (map g ts) k d ≡ g (getD ts k [])
+in-list g d [] k h = absurd (omega arith)
+in-list g d (t ∷ ts) zero h = refl
+in-list g d (t ∷ ts) (suc k) h = in-list g d ts k (omega arith)
 
-status-text : (k : ℕ) → cellText (rowOf (getD statusTexts k [])) ≡ getD statusTexts k []
-unfolding cellText between rowOf
-status-text k = row-text statusTexts refl k
+past-list : (ts : List Text) (k : ℕ) → length ts ≤ k → [] ≡ getD ts k []
+past-list ts k h = sym (List·getD-eq-default ts [] h)
 
-module _ (f : Facts) (k : ℕ) (row t : List ℕ) (u : t ≡ cellText row) where
-  pub status-listed : (r : Standing) → row ≡ rowOf (getD statusTexts k []) → r ≡ standingOf t → f .status .blank ≡ true → r ≡ statusAt f k
-  unfolding statusAt
-  status-listed r e h b = cc (status-text k)
+-- ---- the facts of an entry: of 101 by its number, of the others by their place
 
--- the facts of an entry, by its place
-past-12 : (k : ℕ) → 12 ≤ k → record { blank = leb 12 k; zero = eqb k 0; zeros = eqb k 1; letters = leb 2 k && leb k 11 } ≡ basisOf []
+pub status-past : (k : ℕ) (r : Standing) → 22 ≤ k → r ≡ standingBy 100 true → r ≡ standingOf (getD statusTexts k [])
+unfolding standingBy standingOf groupsBy groupsOf wantedBy every any are among same number value valueOf _isOneOf_
+status-past k r h e = e ∙ ap standingOf (past-list statusTexts k h)
+
+pub status-entry : (k : ℕ) (r : Standing) → k < 22 → r ≡ standingBy (getD (numbersOf 2 statuses) k 0) false → r ≡ standingOf (getD statusTexts k [])
+status-entry k r h e =
+    let t = getD statusTexts k [] in
+    let n : getD (numbersOf 2 statuses) k 0 ≡ number 2 t = in-list (number 2) 0 statusTexts k h in
+    let b : false ≡ eqb (length t) 0 = sym (in-list (λ (u : Text). false) false statusTexts k h) ∙ in-list (λ (u : Text). eqb (length u) 0) false statusTexts k h in
+    standing-is t (number 2 t) r refl (e ∙ (λ i. standingBy (n i) (b i)))
+
+past-12 : (k : ℕ) → 12 ≤ k → record { blank = leb 12 k; zero = eqb k 0; zeros = eqb k 1; letters = leb 2 k && ltb k 12 } ≡ basisOf []
 unfolding basisOf same _isOneOf_ any
-past-12 k h = simp (le-leb 12 k h, ne-eqb k 0 (λ e. omega arith), ne-eqb k 1 (λ e. omega arith), le-leb 2 k (omega arith), lt-leb k 11 (omega arith))
+past-12 k h = simp (le-leb 12 k h, ne-eqb k 0 (λ e. omega arith), ne-eqb k 1 (λ e. omega arith), le-leb 2 k (omega arith), le-ltb k 12 (omega arith))
 
-pub basis-entry : (k : ℕ) → record { blank = leb 12 k; zero = eqb k 0; zeros = eqb k 1; letters = leb 2 k && leb k 11 } ≡ basisOf (getD basisTexts k [])
+pub basis-entry : (k : ℕ) → record { blank = leb 12 k; zero = eqb k 0; zeros = eqb k 1; letters = leb 2 k && ltb k 12 } ≡ basisOf (getD basisTexts k [])
 unfolding basisOf same _isOneOf_ any
 basis-entry zero = refl
 basis-entry (suc zero) = refl
@@ -54,12 +62,12 @@ basis-entry (suc (suc (suc (suc (suc (suc (suc (suc (suc (suc zero)))))))))) = r
 basis-entry (suc (suc (suc (suc (suc (suc (suc (suc (suc (suc (suc zero))))))))))) = refl
 basis-entry (suc (suc (suc (suc (suc (suc (suc (suc (suc (suc (suc (suc k)))))))))))) = past-12 (suc (suc (suc (suc (suc (suc (suc (suc (suc (suc (suc (suc k)))))))))))) (omega arith)
 
-pub document-entry : (k : ℕ) → record { blank = leb 2 k; fit = leb k 1; person = false; zero = eqb k 0; zeros = eqb k 1 } ≡ documentOf (getD zeroTexts k [])
+pub document-entry : (k : ℕ) → record { blank = leb 2 k; fit = ltb k 2; person = false; zero = eqb k 0; zeros = eqb k 1 } ≡ documentOf (getD zeroTexts k [])
 unfolding documentOf document person same _isOneOf_ any every between
 document-entry zero = refl
 document-entry (suc zero) = refl
 document-entry (suc (suc k)) =
-    simp (le-leb 2 (suc (suc k)) (omega arith), lt-leb (suc (suc k)) 1 (omega arith), ne-eqb (suc (suc k)) 0 (λ e. omega arith), ne-eqb (suc (suc k)) 1 (λ e. omega arith))
+    simp (le-leb 2 (suc (suc k)) (omega arith), le-ltb (suc (suc k)) 2 (omega arith), ne-eqb (suc (suc k)) 0 (λ e. omega arith), ne-eqb (suc (suc k)) 1 (λ e. omega arith))
 
 pub day-entry : (k : ℕ) → record { blank = leb 2 k; zero = eqb k 0; zeros = eqb k 1; date = false } ≡ dayOf (getD zeroTexts k [])
 unfolding dayOf date same
@@ -69,6 +77,10 @@ day-entry (suc (suc k)) =
     simp (le-leb 2 (suc (suc k)) (omega arith), ne-eqb (suc (suc k)) 0 (λ e. omega arith), ne-eqb (suc (suc k)) 1 (λ e. omega arith))
 
 module _ (f : Facts) (k : ℕ) where
+  pub status-listed : (r : Standing) → r ≡ standingOf (getD statusTexts k []) → f .status .blank ≡ true → r ≡ statusAt f k
+  unfolding statusAt
+  status-listed r h b = cc
+
   pub basis-listed : (r : Basis) → r ≡ basisOf (getD basisTexts k []) → f .basis .blank ≡ true → r ≡ basisAt f k
   unfolding basisAt
   basis-listed r h b = cc
@@ -97,21 +109,36 @@ module _ (f : Facts) (k : ℕ) where
   unfolding dayAt
   day-given b = cc
 
--- past the end
+-- ---- rows: the blank past the end; a status by its number; "0", "00", and a letter pair
+
 pub past-row : (texts : List Text) (n k : ℕ) → length texts ≡ n → n ≤ k → 0 ∷ 0 ∷ 0 ∷ [] ≡ rowOf (getD texts k [])
 unfolding rowOf
 past-row texts n k e h =
     let l : length texts ≤ k = omega arith in
-    ap rowOf (sym (List·getD-eq-default texts [] l))
+    ap rowOf (past-list texts k l)
 
--- within it
-in-row : (texts : List Text) (k : ℕ) → k < length texts → getD (map rowOf texts) k [] ≡ rowOf (getD texts k [])
-in-row [] k h = absurd (omega arith)
-in-row (t ∷ ts) zero h = refl
-in-row (t ∷ ts) (suc k) h = in-row ts k (omega arith)
+-- a table of rows that are made of a table's values
+made-row : {A : Type 0} (g : Text → A) (d : A) (row : A → List ℕ) (ts : List Text) (k : ℕ) → map (λ (t : Text). row (g t)) ts ≡ map rowOf ts → k < length ts → row (getD (map g ts) k d) ≡ rowOf (getD ts k [])
+made-row g d row ts k e h =
+    ap row (in-list g d ts k h) ∙ sym (in-list (λ (t : Text). row (g t)) [] ts k h) ∙ ap (λ (l : List (List ℕ)). getD l k []) e ∙ in-list rowOf [] ts k h
 
-pub row-is : (texts : List Text) (n k : ℕ) → length texts ≡ n → k < n → getD (map rowOf texts) k [] ≡ rowOf (getD texts k [])
-row-is texts n k e h = in-row texts k (omega arith)
+pub status-made : (k : ℕ) → k < 22 → 2 ∷ (48 + getD (numbersOf 2 statuses) k 0 / 10 % 10) ∷ (48 + getD (numbersOf 2 statuses) k 0 % 10) ∷ [] ≡ rowOf (getD statusTexts k [])
+unfolding rowOf every number value valueOf
+status-made k h = made-row (number 2) 0 (λ (n : ℕ). 2 ∷ (48 + n / 10 % 10) ∷ (48 + n % 10) ∷ []) statusTexts k refl h
+
+pub zero-made : (k : ℕ) → k < 2 → getD (map rowOf zeroTexts) k [] ≡ rowOf (getD zeroTexts k [])
+zero-made k h = in-list rowOf [] zeroTexts k h
+
+pub basis-zero : (k : ℕ) (r : List ℕ) → k < 2 → r ≡ rowOf (getD zeroTexts k []) → r ≡ rowOf (getD basisTexts k [])
+basis-zero k r h e = e ∙ ap rowOf (sym (List·getD-append zeroTexts (words letterPairs) [] k h))
+
+pub basis-pair : (k : ℕ) → 2 ≤ k → k < 12 → 2 ∷ getD (getD (words letterPairs) (k - 2) []) 0 0 ∷ getD (getD (words letterPairs) (k - 2) []) 1 0 ∷ [] ≡ rowOf (getD basisTexts k [])
+unfolding rowOf
+basis-pair zero l h = absurd (omega arith)
+basis-pair (suc zero) l h = absurd (omega arith)
+basis-pair (suc (suc k)) l h =
+    let z : suc (suc k) - 2 ≡ k = omega arith in
+    rw z (made-row (λ (t : Text). t) [] (λ (t : Text). 2 ∷ getD t 0 0 ∷ getD t 1 0 ∷ []) (words letterPairs) k refl (omega arith))
 
 -- document 01's examples name the places of statuses: 01 is the first, 04 the third
 statuses-placed : getD statusTexts 0 [] ∷ getD statusTexts 2 [] ∷ [] ≡ words "01 04"

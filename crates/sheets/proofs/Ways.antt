@@ -15,7 +15,7 @@ use Rattle.texts.proofs.Arms.{AnyOf, arm, outside}
 use Rattle.sheets.specs.Sheet.{textOf}
 use Rattle.sheets.specs.Forms.{foreignCode, inn10, inn12, digits5, digits10, digits12, person, leap, monthDays, gregorian, date}
 use Rattle.sheets.specs.Lists.{account03100, account03212, statuses, personTypes, numbersOf}
-use Rattle.sheets.specs.Facts.{payerOf, isA, isB, accountOf, groupsBy, standingOf, wantedBy, basisOf, documentOf, dayOf, headOf, sidesOf, restOf, factsOf, Read}
+use Rattle.sheets.specs.Facts.{payerOf, isA, isB, accountOf, groupsBy, standingBy, standingOf, wantedBy, basisOf, documentOf, dayOf, bankingOf, partiesOf, classifiersOf, factsOf, Read}
 use Rattle.sheets.specs.declared.forms.Wanted.{Wanted}
 use Rattle.sheets.specs.declared.forms.Wanted.the-variants.{Any, Inn, Ten, Twelve, Zero}
 use Rattle.sheets.specs.declared.facts.Groups.{Groups}
@@ -23,9 +23,9 @@ use Rattle.sheets.specs.declared.facts.Standing.{Standing}
 use Rattle.sheets.specs.declared.facts.Basis.{Basis}
 use Rattle.sheets.specs.declared.facts.Document.{Document}
 use Rattle.sheets.specs.declared.facts.Day.{Day}
-use Rattle.sheets.specs.declared.facts.Head.{Head}
-use Rattle.sheets.specs.declared.facts.Sides.{Sides}
-use Rattle.sheets.specs.declared.facts.Rest.{Rest}
+use Rattle.sheets.specs.declared.facts.Banking.{Banking}
+use Rattle.sheets.specs.declared.facts.Parties.{Parties}
+use Rattle.sheets.specs.declared.facts.Classifiers.{Classifiers}
 use Rattle.sheets.specs.declared.facts.Facts.{Facts}
 use Rattle.sheets.proofs.Tables.{persons-are, statuses-are, groups-are, a-is, b-is, to03100-is, to03212-is}
 
@@ -96,11 +96,9 @@ module _ (n : ℕ) (a : AnyOf n 1 (32 ∷ []) → ⊥) (e : n ≡ 17 → ⊥) (f
   wanted-high h = wanted-any n a (λ q. ⊎-elim (λ p. omega arith) (λ p. omega arith) q) e f
 
 -- standing_of
-pub standing-is : (t : Text) (n : ℕ) (l : Bool) (g : Groups) (w : Wanted) → n ≡ number 2 t
-    → l ≡ among n (numbersOf 2 statuses)
-    → g ≡ groupsBy n → w ≡ wantedBy n → record { blank = eqb (length t) 0; listed = l; groups = g; wanted = w } ≡ standingOf t
-unfolding standingOf
-standing-is t n l g w e f h i = cc (statuses-are t, groups-are t)
+pub standing-is : (t : Text) (n : ℕ) (r : Standing) → n ≡ number 2 t → r ≡ standingBy n (eqb (length t) 0) → r ≡ standingOf t
+unfolding standingBy standingOf
+standing-is t n r e f = cc (statuses-are t, groups-are t)
 
 -- account_of
 pub account-is : (bik bank account u v w x z : Text) (m n o : ℕ) (a b h f : Bool) → u ≡ between account 0 5 → m ≡ number 5 u
@@ -115,17 +113,17 @@ account-is bik bank account u v w x z m n o a b h f e1 e2 e3 e4 e5 e6 e7 e8 e9 e
 pub facts-other : (s : List ℕ) (r : Facts) → (length s ≡ 390 → ⊥) → length s ≡ 390 → Read r s
 facts-other s r l e = absurd (l e)
 
-pub facts-is : (s : List ℕ) (h : Head) (d : Sides) (r : Rest) (a : Standing) (b : Basis) (c : Document) (y : Day) (t u v w : Text)
-    → h ≡ headOf s → d ≡ sidesOf s → r ≡ restOf s → t ≡ textOf s 6 → a ≡ standingOf t → u ≡ textOf s 11 → b ≡ basisOf u
+pub facts-is : (s : List ℕ) (h : Banking) (d : Parties) (r : Classifiers) (a : Standing) (b : Basis) (c : Document) (y : Day) (t u v w : Text)
+    → h ≡ bankingOf s → d ≡ partiesOf s → r ≡ classifiersOf s → t ≡ textOf s 6 → a ≡ standingOf t → u ≡ textOf s 11 → b ≡ basisOf u
     → v ≡ textOf s 13 → c ≡ documentOf v → w ≡ textOf s 14 → y ≡ dayOf w
-    → length s ≡ 390 → Read (record { head = h; sides = d; rest = r; status = a; basis = b; document = c; day = y }) s
+    → length s ≡ 390 → Read (record { banking = h; parties = d; classifiers = r; status = a; basis = b; document = c; day = y }) s
 unfolding factsOf
 facts-is s h d r a b c y t u v w eh ed er et ea eu eb ev ec ew ey l =
     let fa : a ≡ standingOf (textOf s 6) = ea ∙ ap standingOf et in
     let fb : b ≡ basisOf (textOf s 11) = eb ∙ ap basisOf eu in
     let fc : c ≡ documentOf (textOf s 13) = ec ∙ ap documentOf ev in
     let fy : y ≡ dayOf (textOf s 14) = ey ∙ ap dayOf ew in
-    record { size = l; facts = λ i. record { head = eh i; sides = ed i; rest = er i; status = fa i; basis = fb i; document = fc i; day = fy i } }
+    record { size = l; facts = λ i. record { banking = eh i; parties = ed i; classifiers = er i; status = fa i; basis = fb i; document = fc i; day = fy i } }
 
 -- payer_of
 pub payer-is : (t : Text) (a b c d e f g : Bool) → a ≡ (t is "0") → b ≡ foreignCode t → c ≡ inn10 t → d ≡ inn12 t → e ≡ digits5 t → f ≡ digits10 t → g ≡ digits12 t

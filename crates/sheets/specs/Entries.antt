@@ -26,6 +26,16 @@ zeroTexts = words "0 00"
 abbrev pub basisTexts : List Text
 basisTexts = zeroTexts ++ words letterPairs
 
+-- how many entries each list has
+abbrev pub statusCount : ℕ
+statusCount = length statusTexts
+
+abbrev pub basisCount : ℕ
+basisCount = length basisTexts
+
+abbrev pub zeroCount : ℕ
+zeroCount = length zeroTexts
+
 -- how the code keeps an entry: its length and two bytes
 unfoldable pub rowOf : Text → List ℕ
 rowOf t = length t ∷ getD t 0 0 ∷ getD t 1 0 ∷ []
@@ -48,4 +58,4 @@ unfoldable pub dayAt : Facts → ℕ → Day
 dayAt f k = cond (f .day .blank) (dayOf (getD zeroTexts k [])) (f .day)
 
 abbrev pub withAll : Facts → Standing → Basis → Document → Day → Facts
-withAll f a b c d = record { head = f .head; sides = f .sides; rest = f .rest; status = a; basis = b; document = c; day = d }
+withAll f a b c d = record { banking = f .banking; parties = f .parties; classifiers = f .classifiers; status = a; basis = b; document = c; day = d }

@@ -23,9 +23,9 @@ use Rattle.sheets.specs.declared.facts.Standing.{Standing}
 use Rattle.sheets.specs.declared.facts.Basis.{Basis}
 use Rattle.sheets.specs.declared.facts.Document.{Document}
 use Rattle.sheets.specs.declared.facts.Day.{Day}
-use Rattle.sheets.specs.declared.facts.Head.{Head}
-use Rattle.sheets.specs.declared.facts.Sides.{Sides}
-use Rattle.sheets.specs.declared.facts.Rest.{Rest}
+use Rattle.sheets.specs.declared.facts.Banking.{Banking}
+use Rattle.sheets.specs.declared.facts.Parties.{Parties}
+use Rattle.sheets.specs.declared.facts.Classifiers.{Classifiers}
 use Rattle.sheets.specs.declared.facts.Facts.{Facts}
 
 -- ---- facts of one field
@@ -104,6 +104,9 @@ groupsOf t =
       is31 = t isOneOf "31";
     }
 
+unfoldable pub standingBy : ℕ → Bool → Standing
+standingBy n blank = record { blank = blank; listed = among n (numbersOf 2 statuses); groups = groupsBy n; wanted = wantedBy n }
+
 unfoldable pub standingOf : Text → Standing
 standingOf t =
     record { blank = blank t; listed = t isOneOf statuses; groups = groupsOf t; wanted = wantedBy (number 2 t) }
@@ -124,16 +127,16 @@ dayOf t = record { blank = blank t; zero = t is "0"; zeros = t is "00"; date = d
 abbrev pub fixed : List ℕ
 fixed = 3 ∷ 4 ∷ 5 ∷ 7 ∷ 8 ∷ 9 ∷ 10 ∷ 12 ∷ []
 
-unfoldable pub headOf : Sheet → Head
-headOf s =
+unfoldable pub bankingOf : Sheet → Banking
+bankingOf s =
     record {
       general = generalOf (textOf s 0) (textOf s 1) (textOf s 2);
       account = accountOf (textOf s 0) (textOf s 1) (textOf s 2);
       given = every (given s) fixed;
     }
 
-unfoldable pub sidesOf : Sheet → Sides
-sidesOf s =
+unfoldable pub partiesOf : Sheet → Parties
+partiesOf s =
     record {
       code = codeOf (textOf s 3);
       payer = payerOf (textOf s 4);
@@ -142,8 +145,8 @@ sidesOf s =
       payeekpp = kpp (textOf s 8);
     }
 
-unfoldable pub restOf : Sheet → Rest
-restOf s =
+unfoldable pub classifiersOf : Sheet → Classifiers
+classifiersOf s =
     record {
       kbk = formOf (textOf s 9) (kbk (textOf s 9));
       oktmo = formOf (textOf s 10) (oktmo (textOf s 10));
@@ -153,9 +156,9 @@ restOf s =
 unfoldable pub factsOf : Sheet → Facts
 factsOf s =
     record {
-      head = headOf s;
-      sides = sidesOf s;
-      rest = restOf s;
+      banking = bankingOf s;
+      parties = partiesOf s;
+      classifiers = classifiersOf s;
       status = standingOf (textOf s 6);
       basis = basisOf (textOf s 11);
       document = documentOf (textOf s 13);

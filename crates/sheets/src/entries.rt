@@ -4,97 +4,79 @@ ghost use mathlib.Core.List.{[]};
 ghost use lib.ListN.{getD};
 ghost use Rattle.texts.specs.Texts.{blank};
 ghost use Rattle.sheets.specs.Sheet.{Sheet, cell, textOf};
-ghost use Rattle.sheets.specs.Facts.{basisOf, documentOf, dayOf, Read};
+ghost use Rattle.sheets.specs.Facts.{standingOf, basisOf, documentOf, dayOf, Read};
 ghost use Rattle.sheets.specs.Entries.{statusTexts, basisTexts, zeroTexts, rowOf, filledAt, statusAt, basisAt, documentAt, dayAt};
 use crate::facts::Basis;
 use crate::facts::Day;
 use crate::facts::Document;
 use crate::facts::Facts;
+use crate::facts::STATUS_COUNT;
+use crate::facts::STATUSES;
 use crate::facts::Standing;
-use crate::facts::standing_of;
-use crate::sheet::cell_text;
+use crate::facts::standing_by;
+use crate::forms::LETTER_PAIR_COUNT;
+use crate::forms::LETTER_PAIRS;
+use crate::forms::Status;
 
-// Candidate texts, each as a cell begins: the length and two bytes.
-const STATUSES: [[u8; 3]; 22] = [
-    [2, 48, 49],
-    [2, 48, 51],
-    [2, 48, 52],
-    [2, 48, 53],
-    [2, 48, 54],
-    [2, 48, 55],
-    [2, 48, 56],
-    [2, 49, 51],
-    [2, 49, 53],
-    [2, 49, 54],
-    [2, 49, 55],
-    [2, 49, 57],
-    [2, 50, 48],
-    [2, 50, 51],
-    [2, 50, 52],
-    [2, 50, 55],
-    [2, 50, 56],
-    [2, 50, 57],
-    [2, 51, 48],
-    [2, 51, 49],
-    [2, 51, 50],
-    [2, 51, 51],
-];
+// "108 and 109: "0", "00""; the list of 106 begins with these.
+pub const ZERO_COUNT: usize = 2;
 
-const BASES: [[u8; 3]; 12] = [
-    [1, 48, 0],
-    [2, 48, 48],
-    [2, 0xD3, 0xC2],
-    [2, 0xC8, 0xCB],
-    [2, 0xCF, 0xC1],
-    [2, 0xD2, 0xC3],
-    [2, 0xD2, 0xC1],
-    [2, 0xD2, 0xC4],
-    [2, 0xCF, 0xC2],
-    [2, 0xC8, 0xCD],
-    [2, 0xCF, 0xCA],
-    [2, 0xCA, 0xDD],
-];
+const ZEROS: [[u8; 3]; ZERO_COUNT] = [[1, 48, 0], [2, 48, 48]];
 
-const ZEROS: [[u8; 3]; 2] = [[1, 48, 0], [2, 48, 48]];
+pub const BASIS_COUNT: usize = ZERO_COUNT + LETTER_PAIR_COUNT;
 
-// An entry of a list, the blank past its end.
+// An entry of a list as a cell begins, the length and two bytes; the blank past its end.
 pub fn status_row(k: usize) -> [u8; 3]
     ensures { λ r. ⌜ r ≡ rowOf (getD statusTexts k []) ⌝ }
 {
-    if 22 <= k {
+    if STATUS_COUNT <= k {
         return [0, 0, 0];
     }
-    STATUSES[k]
-}
-
-pub fn basis_row(k: usize) -> [u8; 3]
-    ensures { λ r. ⌜ r ≡ rowOf (getD basisTexts k []) ⌝ }
-{
-    if 12 <= k {
-        return [0, 0, 0];
-    }
-    BASES[k]
+    let n = STATUSES[k];
+    [2, 48 + n / 10 % 10, 48 + n % 10]
 }
 
 pub fn zero_row(k: usize) -> [u8; 3]
     ensures { λ r. ⌜ r ≡ rowOf (getD zeroTexts k []) ⌝ }
 {
-    if 2 <= k {
+    if ZERO_COUNT <= k {
         return [0, 0, 0];
     }
     ZEROS[k]
 }
 
-// The facts of an entry of the lists of 106, 108 and 109, which the search asks for again and again: "0", "00", for 106 ten letter
-// pairs, and the blank past the end.
+pub fn basis_row(k: usize) -> [u8; 3]
+    ensures { λ r. ⌜ r ≡ rowOf (getD basisTexts k []) ⌝ }
+{
+    if k < ZERO_COUNT {
+        return zero_row(k);
+    }
+    if BASIS_COUNT <= k {
+        return [0, 0, 0];
+    }
+    let pair = LETTER_PAIRS[k - ZERO_COUNT];
+    [2, pair[0], pair[1]]
+}
+
+// The facts of an entry, which the search asks for again and again: by the status's number; "0", "00" and, for 106, the letter pairs by
+// the place in the list; the blank past the end.
+fn status_entry(k: usize) -> Standing
+    ensures { λ r. ⌜ r ≡ standingOf (getD statusTexts k []) ⌝ }
+{
+    if STATUS_COUNT <= k {
+        return standing_by(Status(100), true);
+    }
+    standing_by(Status(STATUSES[k]), false)
+}
+
 fn basis_entry(k: usize) -> Basis
     ensures { λ r. ⌜ r ≡ basisOf (getD basisTexts k []) ⌝ }
 {
     Basis {
-        blank: 12 <= k,
+        blank: BASIS_COUNT <= k,
         zero: k == 0,
         zeros: k == 1,
-        letters: (2 <= k) & (k <= 11),
+        letters: (ZERO_COUNT <= k) & (k < BASIS_COUNT),
     }
 }
 
@@ -102,8 +84,8 @@ fn document_entry(k: usize) -> Document
     ensures { λ r. ⌜ r ≡ documentOf (getD zeroTexts k []) ⌝ }
 {
     Document {
-        blank: 2 <= k,
-        fit: k <= 1,
+        blank: ZERO_COUNT <= k,
+        fit: k < ZERO_COUNT,
         person: false,
         zero: k == 0,
         zeros: k == 1,
@@ -114,7 +96,7 @@ fn day_entry(k: usize) -> Day
     ensures { λ r. ⌜ r ≡ dayOf (getD zeroTexts k []) ⌝ }
 {
     Day {
-        blank: 2 <= k,
+        blank: ZERO_COUNT <= k,
         zero: k == 0,
         zeros: k == 1,
         date: false,
@@ -125,7 +107,7 @@ fn status_at(f: Facts, k: usize) -> Standing
     ensures { λ r. ⌜ r ≡ statusAt f k ⌝ }
 {
     if f.status.blank {
-        return standing_of(cell_text(&status_row(k)));
+        return status_entry(k);
     }
     f.status
 }

@@ -3,7 +3,7 @@ ghost use mathlib.Core.Path.{_≡_};
 ghost use lib.ListN.{length};
 ghost use Rattle.texts.specs.Texts.{every};
 ghost use Rattle.sheets.specs.Sheet.{given};
-ghost use Rattle.sheets.specs.Facts.{generalOf, isA, isB, accountOf, codeOf, payerOf, formOf, groupsBy, standingOf, basisOf, documentOf, dayOf, fixed, headOf, sidesOf, restOf, Read};
+ghost use Rattle.sheets.specs.Facts.{generalOf, isA, isB, accountOf, codeOf, payerOf, formOf, groupsBy, standingBy, standingOf, basisOf, documentOf, dayOf, fixed, bankingOf, partiesOf, classifiersOf, Read};
 use crate::forms::Status;
 use crate::forms::Wanted;
 use crate::forms::is_account;
@@ -120,14 +120,14 @@ pub struct Day {
 }
 
 // 14, 15 and 17; and none of 22, 60, 61, 102 to 105, 107 is blank.
-pub struct Head {
+pub struct Banking {
     pub general: General,
     pub account: Account,
     pub given: bool,
 }
 
 // 22, 60, 61, 102, 103.
-pub struct Sides {
+pub struct Parties {
     pub code: Code,
     pub payer: Payer,
     pub payee: bool,
@@ -136,7 +136,7 @@ pub struct Sides {
 }
 
 // 104, 105, 107.
-pub struct Rest {
+pub struct Classifiers {
     pub kbk: Form,
     pub oktmo: Form,
     pub office: Form,
@@ -144,9 +144,9 @@ pub struct Rest {
 
 // The last four are those that a filling can vary.
 pub struct Facts {
-    pub head: Head,
-    pub sides: Sides,
-    pub rest: Rest,
+    pub banking: Banking,
+    pub parties: Parties,
+    pub classifiers: Classifiers,
     pub status: Standing,
     pub basis: Basis,
     pub document: Document,
@@ -172,7 +172,10 @@ const ACCOUNTS_B: [usize; 3] = [40503, 40603, 40703];
 
 const BANKS_B: [usize; 6] = [000, 001, 002, 003, 004, 005];
 
-const STATUSES: [u8; 22] = [
+// Rule 10's list, which completion goes through as well.
+pub const STATUS_COUNT: usize = 22;
+
+pub(crate) const STATUSES: [u8; STATUS_COUNT] = [
     01,
     03,
     04,
@@ -291,18 +294,25 @@ fn groups_of(status: Status) -> Groups
     }
 }
 
-pub fn standing_of(t: &[u8]) -> Standing
-    ensures { λ r. ⌜ r ≡ standingOf (now (t .entry)) ⌝ }
+// 101 by its number, which is 100 where it is not two digits.
+pub(crate) fn standing_by(status: Status, blank: bool) -> Standing
+    ensures { λ r. ⌜ r ≡ standingBy (status .0) blank ⌝ }
 {
-    let n = number_2(t);
+    let n = status.0;
     let groups = groups_of(Status(n));
     let wanted = wanted_by(Status(n));
     Standing {
-        blank: t.len() == 0,
+        blank: blank,
         listed: is_among(n, &STATUSES),
         groups: groups,
         wanted: wanted,
     }
+}
+
+fn standing_of(t: &[u8]) -> Standing
+    ensures { λ r. ⌜ r ≡ standingOf (now (t .entry)) ⌝ }
+{
+    standing_by(Status(number_2(t)), t.len() == 0)
 }
 
 fn basis_of(t: &[u8]) -> Basis
@@ -357,8 +367,8 @@ fn all_given(sheet: &[u8]) -> bool
                             & (is_given(sheet, 10) & (is_given(sheet, 12) & true)))))))
 }
 
-fn head_of(sheet: &[u8]) -> Head
-    ensures { λ r. ⌜ r ≡ headOf (now (sheet .entry)) ⌝ }
+fn banking_of(sheet: &[u8]) -> Banking
+    ensures { λ r. ⌜ r ≡ bankingOf (now (sheet .entry)) ⌝ }
 {
     let bik = text(sheet, 0);
     let bank = text(sheet, 1);
@@ -366,15 +376,15 @@ fn head_of(sheet: &[u8]) -> Head
     let general = general_of(bik, bank, account);
     let accounts = account_of(bik, bank, account);
     let given = all_given(sheet);
-    Head {
+    Banking {
         general: general,
         account: accounts,
         given: given,
     }
 }
 
-fn sides_of(sheet: &[u8]) -> Sides
-    ensures { λ r. ⌜ r ≡ sidesOf (now (sheet .entry)) ⌝ }
+fn parties_of(sheet: &[u8]) -> Parties
+    ensures { λ r. ⌜ r ≡ partiesOf (now (sheet .entry)) ⌝ }
 {
     let code = code_of(text(sheet, 3));
     let payer = payer_of(text(sheet, 4));
@@ -382,7 +392,7 @@ fn sides_of(sheet: &[u8]) -> Sides
     let t = text(sheet, 7);
     let kpp = form_of(t, is_kpp(t));
     let payeekpp = is_kpp(text(sheet, 8));
-    Sides {
+    Parties {
         code: code,
         payer: payer,
         payee: payee,
@@ -391,127 +401,38 @@ fn sides_of(sheet: &[u8]) -> Sides
     }
 }
 
-fn rest_of(sheet: &[u8]) -> Rest
-    ensures { λ r. ⌜ r ≡ restOf (now (sheet .entry)) ⌝ }
+fn classifiers_of(sheet: &[u8]) -> Classifiers
+    ensures { λ r. ⌜ r ≡ classifiersOf (now (sheet .entry)) ⌝ }
 {
     let kbk = text(sheet, 9);
     let oktmo = text(sheet, 10);
     let office = text(sheet, 12);
-    Rest {
+    Classifiers {
         kbk: form_of(kbk, is_kbk(kbk)),
         oktmo: form_of(oktmo, is_oktmo(oktmo)),
         office: form_of(office, is_office(office)),
     }
 }
 
-// Nothing holds, of a sheet that has another size: nothing is promised of these facts.
-fn no_facts() -> Facts {
-    Facts {
-        head: Head {
-            general: General {
-                bik: false,
-                bank: false,
-                account: false,
-            },
-            account: Account {
-                a: false,
-                b: false,
-                home: false,
-                to03100: false,
-                to03212: false,
-            },
-            given: false,
-        },
-        sides: Sides {
-            code: Code {
-                zero: false,
-                uin: false,
-                four: false,
-            },
-            payer: Payer {
-                zero: false,
-                foreign: false,
-                inn10: false,
-                inn12: false,
-                five: false,
-                ten: false,
-                twelve: false,
-            },
-            payee: false,
-            kpp: Form {
-                zero: false,
-                full: false,
-            },
-            payeekpp: false,
-        },
-        rest: Rest {
-            kbk: Form {
-                zero: false,
-                full: false,
-            },
-            oktmo: Form {
-                zero: false,
-                full: false,
-            },
-            office: Form {
-                zero: false,
-                full: false,
-            },
-        },
-        status: Standing {
-            blank: false,
-            listed: false,
-            groups: Groups {
-                customs: false,
-                treasury: false,
-                courts: false,
-                personal: false,
-                is01: false,
-                is13: false,
-                is31: false,
-            },
-            wanted: Wanted::Any,
-        },
-        basis: Basis {
-            blank: false,
-            zero: false,
-            zeros: false,
-            letters: false,
-        },
-        document: Document {
-            blank: false,
-            fit: false,
-            person: false,
-            zero: false,
-            zeros: false,
-        },
-        day: Day {
-            blank: false,
-            zero: false,
-            zeros: false,
-            date: false,
-        },
-    }
-}
-
-// The test of the size tells the compiler where every field stands.
+// The test of the size tells the compiler where every field stands. Of a sheet that has another size nothing is promised: the
+// facts are those of an empty one.
 pub fn facts_of(sheet: &[u8]) -> Facts
     ensures { λ r. ⌜ (length (now (sheet .entry)) ≡ 390 → Read r (now (sheet .entry))) ⌝ }
 {
     if sheet.len() != SHEET_SIZE {
-        return no_facts();
+        return facts_of(&[0u8; SHEET_SIZE]);
     }
-    let head = head_of(sheet);
-    let sides = sides_of(sheet);
-    let rest = rest_of(sheet);
+    let banking = banking_of(sheet);
+    let parties = parties_of(sheet);
+    let classifiers = classifiers_of(sheet);
     let status = standing_of(text(sheet, 6));
     let basis = basis_of(text(sheet, 11));
     let document = document_of(text(sheet, 13));
     let day = day_of(text(sheet, 14));
     Facts {
-        head: head,
-        sides: sides,
-        rest: rest,
+        banking: banking,
+        parties: parties,
+        classifiers: classifiers,
         status: status,
         basis: basis,
         document: document,

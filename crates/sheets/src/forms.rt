@@ -1,6 +1,6 @@
 // The forms of texts that several rules ask for.
 ghost use mathlib.Core.Path.{_≡_};
-ghost use Rattle.texts.specs.Texts.{every};
+ghost use Rattle.texts.specs.Texts.{every, same};
 ghost use Rattle.sheets.specs.Forms.{bik, account, uin, code4, foreignCode, inn10, inn12, digits5, digits10, digits12, kpp, kbk, oktmo, office, letterPair, person, allowed, document, leap, monthDays, gregorian, date};
 ghost use Rattle.sheets.specs.Facts.{wantedBy};
 use texts::texts::equals;
@@ -23,6 +23,22 @@ pub enum Wanted {
     Twelve,
     Zero,
 }
+
+// УВ, ИЛ, ПБ, ТГ, ТБ, ТД, ПВ, ИН, ПК, КЭ.
+pub(crate) const LETTER_PAIR_COUNT: usize = 10;
+
+pub(crate) const LETTER_PAIRS: [[u8; 2]; LETTER_PAIR_COUNT] = [
+    [0xD3, 0xC2],
+    [0xC8, 0xCB],
+    [0xCF, 0xC1],
+    [0xD2, 0xC3],
+    [0xD2, 0xC1],
+    [0xD2, 0xC4],
+    [0xCF, 0xC2],
+    [0xC8, 0xCD],
+    [0xCF, 0xCA],
+    [0xCA, 0xDD],
+];
 
 const PERSON_TYPES: [u8; 21] = [
     1,
@@ -132,20 +148,22 @@ pub(crate) fn is_office(t: &[u8]) -> bool
     has_digits(t, 8)
 }
 
-// УВ, ИЛ, ПБ, ТГ, ТБ, ТД, ПВ, ИН, ПК, КЭ.
+fn is_pair(t: &[u8], pair: [u8; 2]) -> bool
+    ensures { λ r. ⌜ r ≡ same (now (t .entry)) pair ⌝ }
+{
+    equals(t, &pair)
+}
+
 pub(crate) fn is_letter_pair(t: &[u8]) -> bool
     ensures { λ r. ⌜ r ≡ letterPair (now (t .entry)) ⌝ }
 {
-    equals(t, b"\xD3\xC2")
-        | (equals(t, b"\xC8\xCB")
-            | (equals(t, b"\xCF\xC1")
-                | (equals(t, b"\xD2\xC3")
-                    | (equals(t, b"\xD2\xC1")
-                        | (equals(t, b"\xD2\xC4")
-                            | (equals(t, b"\xCF\xC2")
-                                | (equals(t, b"\xC8\xCD")
-                                    | (equals(t, b"\xCF\xCA")
-                                        | (equals(t, b"\xCA\xDD") | false)))))))))
+    let mut found = false;
+    let mut i = 0;
+    while i < LETTER_PAIR_COUNT {
+        found = found | is_pair(t, LETTER_PAIRS[i]);
+        i += 1;
+    }
+    found
 }
 
 pub(crate) fn is_person(t: &[u8]) -> bool

@@ -25,11 +25,13 @@ module _ (p : ℕ → Bool) (t : List ℕ) (i : ℕ) (g : Bool) where
   unfolding every
   every-kept e h = rw e (rw (drop-of-length-le t h, and-true g))
 
-  any-step : i < length t → any p (drop i t) ≡ (p (getD t i 0) || any p (drop (i + 1) t))
+-- one of a list of anything, d standing past its end
+module _ {A : Type 0} (p : A → Bool) (t : List A) (i : ℕ) (g : Bool) (d : A) where
+  any-step : i < length t → any p (drop i t) ≡ (p (getD t i d) || any p (drop (i + 1) t))
   unfolding any
-  any-step h = rw (add-one, drop-cons t i 0)
+  any-step h = rw (add-one, drop-cons t i d)
 
-  pub any-more : (b : Bool) → any p t ≡ (g || any p (drop i t)) → i < length t → b ≡ p (getD t i 0)
+  pub any-more : (b : Bool) → any p t ≡ (g || any p (drop i t)) → i < length t → b ≡ p (getD t i d)
       → any p t ≡ ((g || b) || any p (drop (i + 1) t))
   any-more b e h q = cc (any-step h, or-assoc g b (any p (drop (i + 1) t)))
 
@@ -47,7 +49,7 @@ module _ (b : ℕ) (t : List ℕ) (i : ℕ) (g : Bool) where
   pub found-more : any (are b) t ≡ (g || any (are b) (drop i t)) → i < length t
       → any (are b) t ≡ ((g || eqb (getD t i 0) b) || any (are b) (drop (i + 1) t))
   unfolding are
-  found-more e h = any-more (are b) t i g (eqb (getD t i 0) b) e h refl
+  found-more e h = any-more (are b) t i g 0 (eqb (getD t i 0) b) e h refl
 
 module _ (t u : List ℕ) (i : ℕ) (g : Bool) where
   same-step : i < length t → i < length u → same (drop i t) (drop i u) ≡ (eqb (getD t i 0) (getD u i 0) && same (drop (i + 1) t) (drop (i + 1) u))

@@ -9,6 +9,7 @@ use native.Mathlib.Omega.{arith}
 use borrow.Author.Needs.{needs}
 use Rattle.texts.specs.Texts.{blank}
 use Rattle.sheets.specs.Sheet.{Sheet, textOf}
+use Rattle.sheets.specs.Entries.{statusCount, basisCount, zeroCount}
 use Rattle.sheets.specs.declared.facts.Facts.{Facts}
 use Rattle.orders.specs.Search.{passesAt, width, Payment}
 use Rattle.orders.specs.Found.{foundOf}
@@ -24,28 +25,28 @@ Lefts f h R N n₀ k n = (u : Sheet) → Payment f u → Left (passesAt u) h R N
 
 abbrev Inv-days : tie.InvT-days
 Inv-days f count₀ pick₀ found₀ kept n101 n106 n108 n109 a f1 kept1 b f2 kept2 c f3 kept3 d₀ count pick found d =
-    (d ≤ n109) × (count ≤ a * 48 + b * 4 + c * 2 + d) × Lefts f (λ (t : List ℕ). a ∷ b ∷ c ∷ t) R4 n109 count₀ d count × (found ≡ false) × (n109 ≤ 2)
+    (d ≤ n109) × (count ≤ a * 48 + b * 4 + c * 2 + d) × Lefts f (λ (t : List ℕ). a ∷ b ∷ c ∷ t) R4 n109 count₀ d count × (found ≡ false) × (n109 ≤ zeroCount)
 
 abbrev μ-days : tie.MeasureT-days
 μ-days f count₀ pick₀ found₀ kept n101 n106 n108 n109 a f1 kept1 b f2 kept2 c f3 kept3 d₀ count pick found d = n109 - d
 
 abbrev Inv-documents : tie.InvT-documents
 Inv-documents f count₀ pick₀ found₀ kept n101 n106 n108 n109 a f1 kept1 b f2 kept2 c₀ count pick found c =
-    (c ≤ n108) × (count ≤ a * 48 + b * 4 + c * 2) × Lefts f (λ (t : List ℕ). a ∷ b ∷ t) (R3 n109) n108 count₀ c count × (found ≡ false) × (n108 ≤ 2)
+    (c ≤ n108) × (count ≤ a * 48 + b * 4 + c * 2) × Lefts f (λ (t : List ℕ). a ∷ b ∷ t) (R3 n109) n108 count₀ c count × (found ≡ false) × (n108 ≤ zeroCount)
 
 abbrev μ-documents : tie.MeasureT-documents
 μ-documents f count₀ pick₀ found₀ kept n101 n106 n108 n109 a f1 kept1 b f2 kept2 c₀ count pick found c = n108 - c
 
 abbrev Inv-bases : tie.InvT-bases
 Inv-bases f count₀ pick₀ found₀ kept n101 n106 n108 n109 a f1 kept1 b₀ count pick found b =
-    (b ≤ n106) × (count ≤ a * 48 + b * 4) × Lefts f (λ (t : List ℕ). a ∷ t) (R2 n108 n109) n106 count₀ b count × (found ≡ false) × (n106 ≤ 12)
+    (b ≤ n106) × (count ≤ a * 48 + b * 4) × Lefts f (λ (t : List ℕ). a ∷ t) (R2 n108 n109) n106 count₀ b count × (found ≡ false) × (n106 ≤ basisCount)
 
 abbrev μ-bases : tie.MeasureT-bases
 μ-bases f count₀ pick₀ found₀ kept n101 n106 n108 n109 a f1 kept1 b₀ count pick found b = n106 - b
 
 abbrev Inv-statuses : tie.InvT-statuses
 Inv-statuses f count₀ pick₀ found₀ kept n101 n106 n108 n109 a₀ count pick found a =
-    (a ≤ n101) × (count ≤ a * 48) × Lefts f (λ (t : List ℕ). t) (R1 n106 n108 n109) n101 count₀ a count × (found ≡ false) × (n101 ≤ 22)
+    (a ≤ n101) × (count ≤ a * 48) × Lefts f (λ (t : List ℕ). t) (R1 n106 n108 n109) n101 count₀ a count × (found ≡ false) × (n101 ≤ statusCount)
 
 abbrev μ-statuses : tie.MeasureT-statuses
 μ-statuses f count₀ pick₀ found₀ kept n101 n106 n108 n109 a₀ count pick found a = n101 - a
@@ -144,10 +145,10 @@ outcome c =
     let n106 = (w .before .before .before .before .width-of2 .result) in
     let n108 = (w .before .before .width-of3 .result) in
     let n109 = (w .width-of4 .result) in
-    let e101 : (u : Sheet) → Payment (w .before .before .before .before .before .before .before .before .before .args .f) u → n101 ≡ width (blank (textOf u 6)) 22 = λ u o. w .before .before .before .before .before .before .width-of .ensures .0 ∙ ap (λ (x : Bool). width x 22) (w .before .before .before .before .before .before .before .blank-status .ensures u (o .read)) in
-    let e106 : (u : Sheet) → Payment (w .before .before .before .before .before .before .before .before .before .args .f) u → n106 ≡ width (blank (textOf u 11)) 12 = λ u o. w .before .before .before .before .width-of2 .ensures .0 ∙ ap (λ (x : Bool). width x 12) (w .before .before .before .before .before .blank-basis .ensures u (o .read)) in
-    let e108 : (u : Sheet) → Payment (w .before .before .before .before .before .before .before .before .before .args .f) u → n108 ≡ width (blank (textOf u 13)) 2 = λ u o. w .before .before .width-of3 .ensures .0 ∙ ap (λ (x : Bool). width x 2) (w .before .before .before .blank-document .ensures u (o .read)) in
-    let e109 : (u : Sheet) → Payment (w .before .before .before .before .before .before .before .before .before .args .f) u → n109 ≡ width (blank (textOf u 14)) 2 = λ u o. w .width-of4 .ensures .0 ∙ ap (λ (x : Bool). width x 2) (w .before .blank-day .ensures u (o .read)) in
+    let e101 : (u : Sheet) → Payment (w .before .before .before .before .before .before .before .before .before .args .f) u → n101 ≡ width (blank (textOf u 6)) statusCount = λ u o. w .before .before .before .before .before .before .width-of .ensures .0 ∙ ap (λ (x : Bool). width x statusCount) (w .before .before .before .before .before .before .before .blank-status .ensures u (o .read)) in
+    let e106 : (u : Sheet) → Payment (w .before .before .before .before .before .before .before .before .before .args .f) u → n106 ≡ width (blank (textOf u 11)) basisCount = λ u o. w .before .before .before .before .width-of2 .ensures .0 ∙ ap (λ (x : Bool). width x basisCount) (w .before .before .before .before .before .blank-basis .ensures u (o .read)) in
+    let e108 : (u : Sheet) → Payment (w .before .before .before .before .before .before .before .before .before .args .f) u → n108 ≡ width (blank (textOf u 13)) zeroCount = λ u o. w .before .before .width-of3 .ensures .0 ∙ ap (λ (x : Bool). width x zeroCount) (w .before .before .before .blank-document .ensures u (o .read)) in
+    let e109 : (u : Sheet) → Payment (w .before .before .before .before .before .before .before .before .before .args .f) u → n109 ≡ width (blank (textOf u 14)) zeroCount = λ u o. w .width-of4 .ensures .0 ∙ ap (λ (x : Bool). width x zeroCount) (w .before .blank-day .ensures u (o .read)) in
     ⊎-elim
     (λ q. inr (
       q .3 ∙ v .inv .3,

@@ -1,10 +1,9 @@
 use borrow.Author.Needs.{needs}
 use mathlib.Core.Path.{refl}
-use Rattle.sheets.specs.Entries.{basisTexts, rowOf}
-use Rattle.sheets.proofs.Listed.{past-row, row-is}
+use Rattle.sheets.specs.Entries.{basisTexts}
+use Rattle.sheets.proofs.Listed.{past-row, basis-zero, basis-pair}
 use Rattle.sheets.proofs.entries.basis_row.Statement.{statement}
 use Rattle.sheets.proofs.entries.basis_row.Tie as tie
 
 pub basis-row-spec : {M : Type 1} → statement M
-unfolding rowOf
-basis-row-spec = tie.close (tie.spec (λ c. past-row basisTexts 12 _ refl (c .if1 .taken)) (λ c. search needs) (λ c. search needs) (λ c. row-is basisTexts 12 (c .before .before .args .k) refl (c .before .if1 .left)))
+basis-row-spec = tie.close (tie.spec (λ c κs. search needs) (λ c. search (needs, basis-zero)) (λ c. past-row basisTexts 12 _ refl (c .if2 .taken)) (λ c. search needs) (λ c. search needs) (λ c. search needs) (λ c. search needs) (λ c. basis-pair (c .before .before .before .args .k) (c .before .before .if1 .left) (c .before .if2 .left)))
