@@ -22,7 +22,7 @@ use Rattle.sheets.specs.Sheet.{cellSize, sheetSize, cell, slotOf}
 use Rattle.sheets.specs.declared.sheet.Field.{Field}
 use Rattle.texts.specs.Answers.{Answer, success, refusal, numberOf, _refuses_, passes, answerBy}
 use Rattle.drafts.specs.Message.{textMax, revisionSize, Bytes, IsMessage, messageField, revisionOf, messageText, readTests, readable, readingOf, readAnswer}
-use Rattle.drafts.specs.Draft.{cellPlace, slotSize, draftSize, comparison, slotIn, slotRevision, slotCell, slotText, slotBytes, slotWith, draftFormed, freshDraft, beginTests, beginningOf, begunFrom, slotComparison, comparisonOf, clashes, word, kept, postTests, postingOf, stored, postedTo, postAnswer, cells, draftSheet, copyTests, copyingOf, copiedTo, copyAnswer}
+use Rattle.drafts.specs.Draft.{cellPlace, slotSize, draftSize, comparison, slotIn, slotRevision, slotCell, slotText, slotBytes, slotWith, draftFormed, freshDraft, beginTests, beginningOf, begunFrom, slotComparison, comparisonOf, clashes, word, kept, postTests, postingOf, stored, postedTo, postAnswer, cells, draftSheet, copyTests, copyingOf, copiedTo, copyAnswer, sheetInto}
 use Rattle.drafts.specs.History.{postedFrom, postedAll}
 use Rattle.drafts.specs.Promises.{Reads, Postings, Freshens, Stands, newer as is-newer, same as is-same, older as is-older, clash as is-clash, Posts, Copies}
 use Rattle.drafts.specs.declared.revision.Revision.{Revision}
@@ -40,7 +40,7 @@ use Rattle.texts.proofs.Refusals.{no-success, none-of, succeeds, succeeded, ref
 use Rattle.drafts.proofs.Messages.{readable-means, readable-by, read-found, text-short, message-is}
 use Rattle.drafts.proofs.EndSlots.{post-read}
 use Rattle.drafts.proofs.Arrangements.{held-by}
-use Rattle.drafts.proofs.DraftSheets.{length-cell, length-cells, sheet-text, sheet-formed}
+use Rattle.drafts.proofs.DraftSheets.{length-cell, length-cells, sheet-text, sheet-formed, sheet-into}
 use Rattle.drafts.proofs.Slots.{drop-zeros, length-slot, slot-le, formed-means}
 
 -- ---- the ways out of `against`
@@ -267,11 +267,23 @@ module _ (d s : List ℕ) (l : length d ≡ draftSize) (z : length s ≡ sheetSi
         let p : putAt x (n * cellSize) c ≡ put s 0 (cells d n ++ c) = put-next s (cells d n) c x (n * cellSize) (length-cells d l n (omega arith)) (omega arith) ex in
         ey ∙ rw (ew, p, add-one, ec, eu)
 
-    pub cells-all : n ≤ 15 → 15 ≤ n → x ≡ draftSheet d
+    pub cells-length : n ≤ 15 → length x ≡ length s
+    cells-length h = ap length ex ∙ length-put s 0 (cells d n) (omega (arith, length-cells d l n h))
+
+    pub cells-all : n ≤ 15 → 15 ≤ n → x ≡ sheetInto d s
     unfolding draftSheet
     cells-all h g =
         let e : n ≡ 15 = omega arith in
-        ex ∙ rw e (put-whole s (cells d 15) (length-cells d l 15 (omega arith) ∙ sym z))
+        ex ∙ rw e (put-whole s (cells d 15) (length-cells d l 15 (omega arith) ∙ sym z)) ∙ sym (sheet-into d s l z)
+
+module _ (d s : List ℕ) where
+  pub draft-other : (length d ≡ draftSize → ⊥) → s ≡ sheetInto d s
+  unfolding sheetInto
+  draft-other n = sym (simp (ne-eqb (length d) draftSize n))
+
+  pub sheet-other : length d ≡ draftSize → (length s ≡ sheetSize → ⊥) → s ≡ sheetInto d s
+  unfolding sheetInto
+  sheet-other l n = sym (simp (eq-eqb (length d) draftSize l, ne-eqb (length s) sheetSize n))
 
 -- ---- copy
 
@@ -317,20 +329,21 @@ module _ (d s : List ℕ) (b : Bool) (eb : b ≡ draftFormed d) where
     unfolding copyingOf copiedTo copyTests
     copy-size n = copies-by d s _ s (simp (whole, ne-eqb _ _ n)) (simp (whole, ne-eqb _ _ n))
 
-    pub copy-sized : length d ≡ draftSize
+    copy-sized : length d ≡ draftSize
     copy-sized = formed-means d whole .sized
 
-    pub copy-made : (x e : List ℕ) → length s ≡ sheetSize → x ≡ draftSheet d → e ≡ putAt s 0 x → Copies d s copied.Made e
+    pub copy-made : (o x e : List ℕ) → length o ≡ sheetSize → length s ≡ sheetSize → x ≡ sheetInto d o → e ≡ putAt s 0 x → Copies d s copied.Made e
     unfolding copyingOf copiedTo copyTests draftSheet
-    copy-made x e z ex ee =
+    copy-made o x e lo z ex ee =
+        let ed : x ≡ draftSheet d = ex ∙ sheet-into d o copy-sized lo in
         let l = length-cells d copy-sized 15 (omega arith) in
         let p : putAt s 0 (cells d 15) ≡ cells d 15 = put-fits s 0 (cells d 15) (omega arith) ∙ put-whole s (cells d 15) (l ∙ sym z) in
-        copies-by d s copied.Made e (simp (whole, eq-eqb _ _ z)) (ee ∙ rw (ex, p) (simp (whole, eq-eqb _ _ z)))
+        copies-by d s copied.Made e (simp (whole, eq-eqb _ _ z)) (ee ∙ rw (ed, p) (simp (whole, eq-eqb _ _ z)))
 
 pub ruleset begins = (needs, stand-newer, stand-older, stand-same, stand-clash, slot-made, fresh-not, fresh-made)
 
 pub ruleset posts = (needs, post-malformed, post-unread, post-short, post-newer, post-same, post-older, post-clash)
 
-pub ruleset sheets = (needs, cells-none, cells-more, cells-all)
+pub ruleset sheets = (needs, cells-none, cells-more, cells-length, cells-all, draft-other, sheet-other)
 
-pub ruleset copies = (needs, copy-malformed, copy-size, copy-sized, copy-made)
+pub ruleset copies = (needs, copy-malformed, copy-size, copy-made)

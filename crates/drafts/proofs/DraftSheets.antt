@@ -12,7 +12,7 @@ use lib.Seq.{length-take-le, take-all, drop-at, take-append-le, drop-append-le}
 use Rattle.texts.specs.Texts.{between, every}
 use Rattle.texts.proofs.Bools.{both}
 use Rattle.sheets.specs.Sheet.{slots, cellSize, sheetSize, cellOk, cellOf, textOf, slotOk, wellFormed}
-use Rattle.drafts.specs.Draft.{cellPlace, draftSize, slotIn, slotCell, slotText, slotFormed, draftFormed, cells, draftSheet}
+use Rattle.drafts.specs.Draft.{cellPlace, draftSize, slotIn, slotCell, slotText, slotFormed, draftFormed, cells, draftSheet, sheetInto}
 use Rattle.drafts.proofs.Slots.{length-slot-in, formed-means}
 
 module _ (d : List ℕ) (size : length d ≡ draftSize) where
@@ -85,3 +85,7 @@ sheet-formed d w =
     let l = ltb-true i 15 t in
     ap cellOk (sheet-cell d z i l) ∙ both (cellOk (slotCell (slotIn d i))) _ (F .slot i l) .0)
     slots below)
+
+pub sheet-into : (d s : List ℕ) → length d ≡ draftSize → length s ≡ sheetSize → sheetInto d s ≡ draftSheet d
+unfolding sheetInto
+sheet-into d s l z = simp (eq-eqb (length d) draftSize l, eq-eqb (length s) sheetSize z)

@@ -144,6 +144,10 @@ cells d (suc n) = cells d n ++ slotCell (slotIn d n)
 unfoldable pub draftSheet : List ℕ → List ℕ
 draftSheet d = cells d 15
 
+-- what a buffer that held s holds after the sheet of d was put into it: s where one of them has another size
+unfoldable pub sheetInto : List ℕ → List ℕ → List ℕ
+sheetInto d s = cond (eqb (length d) draftSize && eqb (length s) sheetSize) (draftSheet d) s
+
 -- "draft or sheet malformed", "output: a sheet not of 390"
 unfoldable pub copyTests : List ℕ → List ℕ → List Test
 copyTests d s = (not (draftFormed d) refuses 1) ∷ (not (eqb (length s) sheetSize) refuses 7) ∷ []

@@ -4,7 +4,7 @@ ghost use Prim.Native.Nat.{_*_, _≤_};
 ghost use lib.ListN.{length};
 ghost use Rattle.texts.specs.Buffers.{putAt};
 ghost use Rattle.drafts.specs.Message.{textMax};
-ghost use Rattle.drafts.specs.Draft.{slotSize, draftSize, slotIn, slotRevision, slotCell, slotFormed, draftFormed, slotComparison, slotBytes, draftSheet};
+ghost use Rattle.drafts.specs.Draft.{slotSize, slotIn, slotRevision, slotCell, slotFormed, draftFormed, slotComparison, slotBytes, sheetInto};
 ghost use Rattle.drafts.specs.Promises.{Freshens, Posts, Copies};
 use crate::message::Reading;
 use crate::message::message_text;
@@ -168,22 +168,25 @@ pub fn post(draft: &mut [u8], message: &[u8]) -> Posted
     }
 }
 
-// A draft's sheet, made in an array: the compiler knows that it does not overlap the draft.
-fn draft_sheet(draft: &[u8]) -> [u8; SHEET_SIZE]
-    requires { ⌜ length (now draft) ≡ draftSize ⌝ }
-    ensures { λ r. ⌜ r ≡ draftSheet (now (draft .entry)) ⌝ }
+// Puts a draft's sheet into a buffer. Callers lend an array of their own, which the compiler knows not to overlap the draft.
+pub fn put_sheet(draft: &[u8], sheet: &mut [u8])
+    ensures { λ _. ⌜ now (sheet .exit) ≡ sheetInto (now (draft .entry)) (now (sheet .entry)) ⌝ }
 {
-    let mut sheet = [0u8; SHEET_SIZE];
+    if draft.len() != DRAFT_SIZE {
+        return;
+    }
+    if sheet.len() != SHEET_SIZE {
+        return;
+    }
     let mut slot: u8 = 0;
     while slot < SLOT_COUNT {
         put(
-            &mut sheet,
+            sheet,
             wide(slot) * CELL_SIZE,
             slot_cell(slot_in(draft, slot)),
         );
         slot += 1;
     }
-    sheet
 }
 
 // "Copying a draft to a sheet drops the revisions".
@@ -196,6 +199,8 @@ pub fn copy(draft: &[u8], sheet: &mut [u8]) -> Copied
     if sheet.len() != SHEET_SIZE {
         return Copied::Refused(Refusal(7));
     }
-    put(sheet, 0, &draft_sheet(draft));
+    let mut cells = [0u8; SHEET_SIZE];
+    put_sheet(draft, &mut cells);
+    put(sheet, 0, &cells);
     Copied::Made
 }

@@ -8,7 +8,7 @@ use borrow.Author.Tests.{eq-eqb, ne-eqb, not-true, not-false}
 use lib.Count.{ones}
 use lib.ListN.{length}
 use Rattle.texts.specs.Texts.{every}
-use Rattle.texts.specs.Answers.{success, refusal}
+use Rattle.texts.specs.Answers.{refusal}
 use Rattle.texts.specs.Buffers.{putAt}
 use Rattle.texts.proofs.Puts.{put-fits, put-whole}
 use Rattle.rules.specs.Rules.{budget, rules, fieldOf, keeps, firstNot, firstBroken}
@@ -17,11 +17,9 @@ use Rattle.rules.proofs.First.{none-kept}
 use Rattle.sheets.specs.declared.facts.Facts.{Facts}
 use Rattle.rules.specs.declared.Rule.{Rule as RuleNumber}
 use Rattle.sheets.specs.declared.sheet.Field.{Field}
-use Rattle.drafts.specs.Draft.{draftFormed, draftSheet, copyTests, copyingOf, copiedTo, copyAnswer}
-use Rattle.drafts.specs.Promises.{Copies}
-use Rattle.drafts.specs.declared.draft.Copied.{Copied}
-use Rattle.drafts.specs.declared.draft.Copied.the-variants as copied
-use Rattle.texts.specs.declared.answers.Refusal.{Refusal}
+use Rattle.drafts.specs.Draft.{draftFormed, draftSheet, sheetInto}
+use Rattle.drafts.proofs.Slots.{formed-means}
+use Rattle.drafts.proofs.DraftSheets.{sheet-into}
 use Rattle.orders.specs.Fillings.{Look, found, none, firstFilling}
 use Rattle.orders.specs.Search.{Payment, firstPick}
 use Rattle.orders.specs.Found.{pickOf, foundOf}
@@ -47,32 +45,6 @@ none-cases : (l : Look (List ℕ)) (n : ℕ) → Nothing n ≡ foundOf l → l �
 none-cases (found m q) n e = let z : _≡_ {A = ℕ} 0 1 = cc in absurd (omega arith)
 none-cases (none m) n e = let a : n ≡ m = cc in ap none (sym a)
 
-copied-is : (d z : List ℕ) → draftFormed d ≡ true → length z ≡ 390 → copiedTo d z ≡ draftSheet d
-unfolding copiedTo copyTests
-copied-is d z f l = simp (f, eq-eqb (length z) 390 l)
-
--- a refusal is no success
-differ : (n : ℕ) → refusal n [] ≡ success [] → ⊥
-differ n e = let z : _≡_ {A = ℕ} 0 1 = cc in omega arith
-
--- a copy to a sheet of 390 bytes is made exactly where the draft is well formed
-module _ (d z : List ℕ) (l : length z ≡ 390) where
-  refused-case : (n : ℕ) (w : Bool) → draftFormed d ≡ w → refusal n [] ≡ copyingOf d z → w ≡ false
-  unfolding copyingOf copyTests
-  refused-case n false h e = refl
-  refused-case n true h e = absurd (differ n (e ∙ simp (h, eq-eqb (length z) 390 l)))
-
-  made-case : (w : Bool) → draftFormed d ≡ w → success [] ≡ copyingOf d z → w ≡ true
-  unfolding copyingOf copyTests
-  made-case true h e = refl
-  made-case false h e = absurd (differ 1 (sym (e ∙ simp h)))
-
-  copy-refused : (n : ℕ) → refusal n [] ≡ copyingOf d z → draftFormed d ≡ false
-  copy-refused n e = refused-case n (draftFormed d) refl e
-
-  copy-made : success [] ≡ copyingOf d z → draftFormed d ≡ true
-  copy-made e = made-case (draftFormed d) refl e
-
 -- the fields of rules 1 to 3 are the same of every sheet
 basic-case : (s t : List ℕ) (n : ℕ) (a b c : Bool) → n ≡ cond a (cond b (cond c 0 3) 2) 1 → fieldOf rules n s ≡ fieldOf rules n t
 unfolding fieldOf rules
@@ -85,19 +57,16 @@ basic-field : (s t : List ℕ) (n : ℕ) → n ≡ firstBroken s basic → field
 unfolding firstNot
 basic-field s t n e = basic-case t s n (keeps s 1) (keeps s 2) (keeps s 3) e
 
-module _ (d b o s : List ℕ) (c : Copied) (lo : length o ≡ 390) (hs : Copies d o c s) where
-  pub refused-1 : (n : Refusal) → c ≡ copied.Refused n → Completes d b (Refused (record { 0 = 1 })) b
+module _ (d b : List ℕ) (w : Bool) (hw : w ≡ draftFormed d) where
+  pub refused-1 : not w ≡ true → Completes d b (Refused (record { 0 = 1 })) b
   unfolding completing completed completeTests completeAnswer
-  refused-1 n h =
-      let f : draftFormed d ≡ false = copy-refused d o lo (n .0) (sym (ap copyAnswer h) ∙ hs .answer) in
+  refused-1 h =
+      let f : draftFormed d ≡ false = sym hw ∙ not-true w h in
       completes-by d b (Refused (record { 0 = 1 })) b (sym (simp f)) (sym (simp f))
 
-  module _ (h : c ≡ copied.Made) where
+  module _ (h : not w ≡ false) where
     formed : draftFormed d ≡ true
-    formed = copy-made d o lo (sym (ap copyAnswer h) ∙ hs .answer)
-
-    sheet : s ≡ draftSheet d
-    sheet = hs .sheet ∙ copied-is d o formed lo
+    formed = sym hw ∙ not-false w h
 
     size : length (draftSheet d) ≡ 390
     size = length-draftSheet d formed
@@ -106,7 +75,10 @@ module _ (d b o s : List ℕ) (c : Copied) (lo : length o ≡ 390) (hs : Copies 
     unfolding completing completed completeTests completeAnswer
     refused-7 z = completes-by d b (Refused (record { 0 = 7 })) b (sym (simp (formed, ne-eqb (length b) 390 z))) (sym (simp (formed, ne-eqb (length b) 390 z)))
 
-    module _ (z : length b ≡ 390) (u : List ℕ) (x : Facts) (g : RuleNumber) (hu : u ≡ baseOf s) (hx : length u ≡ 390 → Read x u) (hg : (t : List ℕ) → Read x t → g .0 ≡ firstBroken t basic) where
+    module _ (z : length b ≡ 390) (o s : List ℕ) (lo : length o ≡ 390) (hs : s ≡ sheetInto d o) (u : List ℕ) (x : Facts) (g : RuleNumber) (hu : u ≡ baseOf s) (hx : length u ≡ 390 → Read x u) (hg : (t : List ℕ) → Read x t → g .0 ≡ firstBroken t basic) where
+      sheet : s ≡ draftSheet d
+      sheet = hs ∙ sheet-into d o (formed-means d formed .sized) lo
+
       base : u ≡ baseOf (draftSheet d)
       base = hu ∙ ap baseOf sheet
 

@@ -5,8 +5,8 @@ use crate::fill::fill_zeros;
 use crate::fill::filled_set;
 use crate::search::Found;
 use crate::search::search;
-use drafts::draft::Copied;
-use drafts::draft::copy;
+use drafts::draft::put_sheet;
+use drafts::draft::well_formed;
 use rules::Rule;
 use rules::broken_basic;
 use rules::field_of;
@@ -25,16 +25,15 @@ pub enum Completed {
     Refused(Refusal),
 }
 
-// A copy to a sheet of its size is refused only where the draft is malformed. "0" goes into the fields that take nothing else first, and
-// leaves 14, 15 and 17, so that the facts are read once.
+// "0" goes into the fields that take nothing else first, and leaves 14, 15 and 17, so that the facts are read once.
 pub fn complete(draft: &[u8], sheet: &mut [u8]) -> Completed
     ensures { λ r. ⌜ Completes (now (draft .entry)) (now (sheet .entry)) r (now (sheet .exit)) ⌝ }
 {
     let mut work = [0u8; SHEET_SIZE];
-    let copied = copy(draft, &mut work);
-    let Copied::Made = copied else {
+    put_sheet(draft, &mut work);
+    if !well_formed(draft) {
         return Completed::Refused(Refusal(1));
-    };
+    }
     if sheet.len() != SHEET_SIZE {
         return Completed::Refused(Refusal(7));
     }

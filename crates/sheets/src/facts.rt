@@ -414,13 +414,18 @@ fn classifiers_of(sheet: &[u8]) -> Classifiers
     }
 }
 
+// A function of its own: the compiler makes an array at the head of the function that has it.
+fn empty_facts() -> Facts {
+    facts_of(&[0u8; SHEET_SIZE])
+}
+
 // The test of the size tells the compiler where every field stands. Of a sheet that has another size nothing is promised: the
 // facts are those of an empty one.
 pub fn facts_of(sheet: &[u8]) -> Facts
     ensures { λ r. ⌜ (length (now (sheet .entry)) ≡ 390 → Read r (now (sheet .entry))) ⌝ }
 {
     if sheet.len() != SHEET_SIZE {
-        return facts_of(&[0u8; SHEET_SIZE]);
+        return empty_facts();
     }
     let banking = banking_of(sheet);
     let parties = parties_of(sheet);

@@ -157,6 +157,9 @@ fn is_pair(t: &[u8], pair: [u8; 2]) -> bool
 pub(crate) fn is_letter_pair(t: &[u8]) -> bool
     ensures { λ r. ⌜ r ≡ letterPair (now (t .entry)) ⌝ }
 {
+    if t.len() != 2 {
+        return false;
+    }
     let mut found = false;
     let mut i = 0;
     while i < LETTER_PAIR_COUNT {

@@ -3,4 +3,4 @@ use Rattle.drafts.proofs.draft.copy.Statement.{statement}
 use Rattle.drafts.proofs.draft.copy.Tie as tie
 
 pub copy-spec : {M : Type 1} → statement M
-copy-spec = tie.close (tie.spec (λ c κs. search copies) (λ c. search copies) (λ c. search copies) (λ c κs. search copies) (λ c. search copies) (λ c κs. search copies) (λ c. search copies) (λ c. search copies))
+copy-spec = tie.close (tie.spec (λ c κs. search copies) (λ c. search copies) (λ c. search copies) (λ c. search copies) (λ c κs. search copies) (λ c. search copies) (λ c κs. search copies) (λ c. search copies) (λ c. search copies))

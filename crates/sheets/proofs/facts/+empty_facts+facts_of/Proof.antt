@@ -1,4 +1,4 @@
--- A sheet that has another size calls once more, with one that has it. Assumes nothing.
+-- A sheet that has another size makes facts_of call itself once more, with one that has it. Assumes nothing.
 use mathlib.Core.Bool.{cond}
 use mathlib.Core.Path.{_≡_}
 use Prim.Native.Nat.{ℕ, _<_}
@@ -10,9 +10,12 @@ use borrow.Fn.PlainCycle.{Measures, is, falls, and}
 use lib.Dec.{eqb}
 use lib.ListN.{length}
 use Rattle.sheets.proofs.Ways.{facts-is, facts-other}
+use Rattle.sheets.proofs.facts.empty_facts.Reads as empty-facts
+use Rattle.sheets.proofs.facts.empty_facts.Kinds as empty-facts-kinds
+use Rattle.sheets.proofs.facts.+empty_facts+facts_of.Lts-empty_facts as empty-facts-lts
 use Rattle.sheets.proofs.facts.facts_of.Reads as facts-of
 use Rattle.sheets.proofs.facts.facts_of.Kinds as facts-of-kinds
-use Rattle.sheets.proofs.facts.+facts_of.Lts-facts_of as facts-of-lts
+use Rattle.sheets.proofs.facts.+empty_facts+facts_of.Lts-facts_of as facts-of-lts
 use Rattle.sheets.proofs.facts.banking_of.Reads as banking-of-reads
 use Rattle.sheets.proofs.facts.basis_of.Reads as basis-of-reads
 use Rattle.sheets.proofs.facts.classifiers_of.Reads as classifiers-of-reads
@@ -21,31 +24,47 @@ use Rattle.sheets.proofs.facts.document_of.Reads as document-of-reads
 use Rattle.sheets.proofs.facts.parties_of.Reads as parties-of-reads
 use Rattle.sheets.proofs.facts.standing_of.Reads as standing-of-reads
 use Rattle.sheets.proofs.sheet.text.Reads as text-reads
-use Rattle.sheets.proofs.facts.+facts_of.{statement}
-use Rattle.sheets.proofs.facts.+facts_of.Tie.{close}
+use Rattle.sheets.proofs.facts.+empty_facts+facts_of.{statement}
+use Rattle.sheets.proofs.facts.+empty_facts+facts_of.Tie.{close}
+
+abbrev μ-empty-facts : Measures 0 empty-facts-kinds.ps ℕ
+μ-empty-facts κs a = 1
 
 abbrev μ-facts-of : Measures 1 facts-of-kinds.ps ℕ
-μ-facts-of κs a = cond (eqb (length (a .0 .now)) 390) 0 1
+μ-facts-of κs a = cond (eqb (length (a .0 .now)) 390) 0 2
+
+abbrev empty-facts-at : ℕ → In 0 empty-facts-kinds.ps
+empty-facts-at t = and 0 empty-facts-kinds.ps (is 0 empty-facts-kinds.ps μ-empty-facts t) empty-facts.Pre
+
+abbrev empty-facts-below : ℕ → In 0 empty-facts-kinds.ps
+empty-facts-below t = and 0 empty-facts-kinds.ps (falls 0 empty-facts-kinds.ps _<_ μ-empty-facts t) empty-facts.Pre
 
 abbrev facts-of-at : ℕ → In 1 facts-of-kinds.ps
 facts-of-at t = and 1 facts-of-kinds.ps (is 1 facts-of-kinds.ps μ-facts-of t) facts-of.Pre
 
 abbrev facts-of-below : ℕ → In 1 facts-of-kinds.ps
-facts-of-below t =
-    and 1 facts-of-kinds.ps (falls 1 facts-of-kinds.ps _<_ μ-facts-of t) facts-of.Pre
+facts-of-below t = and 1 facts-of-kinds.ps (falls 1 facts-of-kinds.ps _<_ μ-facts-of t) facts-of.Pre
 
-falls-once : (n t : ℕ) → (n ≡ 390 → ⊥) → cond (eqb n 390) 0 1 ≡ t → 0 < t
+falls-once : (n t : ℕ) → (n ≡ 390 → ⊥) → cond (eqb n 390) 0 2 ≡ t → 1 < t
 falls-once n t f e =
-    let g : 1 ≡ t = cc (ne-eqb n 390 f) in
+    let g : 2 ≡ t = cc (ne-eqb n 390 f) in
     omega arith
 
-pub +facts-of-spec : {M : Type 1} → statement M
-+facts-of-spec =
-    close μ-facts-of
+falls-to : (t : ℕ) → 1 ≡ t → 0 < t
+falls-to t e = omega arith
+
+pub +empty-facts+facts-of-spec : {M : Type 1} → statement M
++empty-facts+facts-of-spec =
+    close μ-empty-facts μ-facts-of
+    (λ t.
+    empty-facts-lts.spec (facts-of-below t, facts-of.Post) (empty-facts-at t) empty-facts.Post
+    (λ c. search needs)
+    (λ c κs. (search (needs, falls-to), tt))
+    (λ c. search needs))
     (λ t.
     facts-of-lts.spec (
-      facts-of-below t,
-      facts-of.Post,
+      empty-facts-below t,
+      empty-facts.Post,
       banking-of-reads.Asked,
       banking-of-reads.Learnt,
       parties-of-reads.Asked,
@@ -65,7 +84,6 @@ pub +facts-of-spec : {M : Type 1} → statement M
     )
     (facts-of-at t)
     facts-of.Post
-    (λ c. search needs)
     (λ c κs. (search (needs, falls-once), tt))
     (λ c. search (needs, facts-other))
     (λ c κs. search needs)
