@@ -14,7 +14,7 @@ run: target/bin/budgetorder lib
 test:
 	@./tools/test
 
-# The must-fail edits that the gate leaves out.
+# The must-fail edits that the gate leaves out: more-must-fail.
 edits:
 	@./tools/edits
 
