@@ -10,11 +10,11 @@ ORDER ?= bindings/samples/order.txt
 run: target/bin/budgetorder lib
 	@./tools/run "$(ORDER)"
 
-# Proves every crate from nothing, tries the must-fail edits, runs the programs, then the checks from outside.
+# Layout and lints, every crate proved from nothing, the must-fail edits, the programs, then the checks from outside.
 test:
 	@./tools/test
 
-# The must-fail edits that the gate leaves out.
+# The must-fail edits that the gate leaves out: more-must-fail.
 edits:
 	@./tools/edits
 

@@ -13,6 +13,11 @@ _Static_assert(sizeof(kieselbrot_write_answer) == 16, "the answers' layout");
 _Static_assert(sizeof(kieselbrot_post_answer) == 2, "the answers' layout");
 _Static_assert(sizeof(kieselbrot_complete_answer) == 24, "the answers' layout");
 
+_Static_assert(KIESELBROT_SHEET_SIZE == KIESELBROT_FIELDS * KIESELBROT_SHEET_SLOT_SIZE, "a sheet");
+_Static_assert(KIESELBROT_DRAFT_SIZE == KIESELBROT_FIELDS * KIESELBROT_DRAFT_SLOT_SIZE, "a draft");
+_Static_assert(KIESELBROT_MESSAGE_MAX == KIESELBROT_MESSAGE_HEAD_SIZE + KIESELBROT_TEXT_MAX,
+               "a message");
+
 static const uint8_t fields[KIESELBROT_FIELDS] = {14,  15,  17,  22,  60,  61,  101, 102,
                                                   103, 104, 105, 106, 107, 108, 109};
 
@@ -57,7 +62,9 @@ static kieselbrot_post_answer send_message(uint8_t *draft, const struct arrival 
     const kieselbrot_write_answer written =
         kieselbrot_write(arrival->field, arrival->revision, (const uint8_t *)arrival->text, length,
                          message, sizeof message);
-    expect(written.number == KIESELBROT_OK && written.length == 8 + length, "writing");
+    expect(written.number == KIESELBROT_OK &&
+               written.length == KIESELBROT_MESSAGE_HEAD_SIZE + length,
+           "writing");
 
     const kieselbrot_read_answer read = kieselbrot_read(message, written.length);
     expect(read.number == KIESELBROT_OK, "reading");
@@ -72,7 +79,7 @@ static kieselbrot_post_answer send_message(uint8_t *draft, const struct arrival 
 static void print_sheet(const uint8_t *sheet)
 {
     for (size_t slot = 0; slot < KIESELBROT_FIELDS; slot++) {
-        const uint8_t *text = sheet + 26 * slot;
+        const uint8_t *text = sheet + KIESELBROT_SHEET_SLOT_SIZE * slot;
         printf("%d %.*s\n", fields[slot], text[0], (const char *)text + 1);
     }
 }
@@ -97,7 +104,8 @@ static void refuse(uint8_t *draft)
                broken.class_ == 0,
            "a blank sheet");
     expect(kieselbrot_check(sheet, sizeof sheet - 1).number == KIESELBROT_MALFORMED, "a short sheet");
-    expect(kieselbrot_copy(draft, KIESELBROT_DRAFT_SIZE, sheet, 389) == KIESELBROT_OUTPUT,
+    expect(kieselbrot_copy(draft, KIESELBROT_DRAFT_SIZE, sheet, sizeof sheet - 1) ==
+               KIESELBROT_OUTPUT,
            "a short output");
 }
 

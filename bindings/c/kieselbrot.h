@@ -12,6 +12,26 @@
  *
  * Field, status and rule numbers are those of the form and of document 01. Texts
  * are bytes of Windows-1251, 0 to 25 of them; the empty text is a blank.
+ *
+ * Layouts, numbers big-endian (the highest byte first):
+ *
+ *   message       0  2 bytes   L, how many bytes follow these two, 6 to 31
+ *                 2  1 byte    the version, 1
+ *                 3  1 byte    the field
+ *                 4  4 bytes   the revision, not 0
+ *                 8  L - 6     the text
+ *
+ *   sheet         slot i at 26 * i:
+ *                 0  1 byte    the text's length
+ *                 1  25 bytes  the text, and zero bytes behind it
+ *
+ *   draft         slot i at 30 * i:
+ *                 0  4 bytes   the revision, 0 = never given
+ *                 4  26 bytes  as in a sheet
+ *
+ * A sheet or draft is malformed if it has another size, a length above 25 or a
+ * byte behind a text that is not zero; a draft also if a slot has revision 0 and
+ * a text.
  */
 #ifndef KIESELBROT_H
 #define KIESELBROT_H
@@ -30,17 +50,16 @@ extern "C" {
 /* A text's greatest length. */
 #define KIESELBROT_TEXT_MAX 25
 
-/* A sheet's size. Slot i stands at 26 * i: the text's length, and the text padded
- * with zero bytes to 25. */
+/* The size of a sheet, and of a slot in it. */
 #define KIESELBROT_SHEET_SIZE 390
+#define KIESELBROT_SHEET_SLOT_SIZE 26
 
-/* A draft's size. Slot i stands at 30 * i: the revision (4 bytes, big-endian, 0 =
- * never given), and then as in a sheet. */
+/* The size of a draft, and of a slot in it. */
 #define KIESELBROT_DRAFT_SIZE 450
+#define KIESELBROT_DRAFT_SLOT_SIZE 30
 
-/* The size of the longest message: two bytes of length (of what follows,
- * big-endian), the version 1, the field, four bytes of revision (big-endian, not
- * 0), and the text. */
+/* The size of what stands before a message's text, and of the longest message. */
+#define KIESELBROT_MESSAGE_HEAD_SIZE 8
 #define KIESELBROT_MESSAGE_MAX 33
 
 /* The numbers of the answers, in the order in which they are tested. */

@@ -82,7 +82,7 @@ The library, and the second implementation in plain Rust, in one run on the same
 inputs, both built for release. Each figure is the least of many batches, those of
 both in turn; a row has 256 inputs, all different, and every batch begins with
 another. The ratio is library to second implementation: below 1 the library is
-faster. Made by `make bench`.
+faster; it varies by about 0.1 from run to run. Made by `make bench`.
 ";
 
 const GROWTH: &str = "

@@ -7,7 +7,9 @@
 //! pointer.
 //!
 //! Field, status and rule numbers are those of the form and of document 01.
-//! Texts are bytes of Windows-1251, 0 to 25 of them; the empty text is a blank.
+//! Texts are bytes of Windows-1251, 0 to 25 of them; the empty text is a blank. The
+//! constants have the sizes of a sheet, a draft and a message, and say how they are
+//! laid out.
 //!
 //! # Example
 //!
@@ -60,16 +62,31 @@ pub const FIELDS: [u8; 15] = [
 /// A text's greatest length.
 pub const TEXT_MAX: usize = 25;
 
-/// A sheet's size: for each slot the text's length and the text, padded with zero
-/// bytes to 25.
+/// A sheet's size: a slot for each field.
 pub const SHEET_SIZE: usize = 390;
 
-/// A draft's size: for each slot the revision (4 bytes, big-endian, 0 = never
-/// given), then as in a sheet.
+/// The size of a sheet's slot: the text's length in one byte, then the text, padded
+/// with zero bytes to 25. Slot i stands at i times this.
+pub const SHEET_SLOT_SIZE: usize = 26;
+
+/// A draft's size: a slot for each field.
 pub const DRAFT_SIZE: usize = 450;
+
+/// The size of a draft's slot: the revision (4 bytes, big-endian, 0 = never given),
+/// then as in a sheet. Slot i stands at i times this.
+pub const DRAFT_SLOT_SIZE: usize = 30;
+
+/// The size of what stands before a message's text: L, how many bytes follow it (2
+/// bytes, big-endian), the version 1, the field, the revision (4 bytes, big-endian,
+/// not 0).
+pub const MESSAGE_HEAD_SIZE: usize = 8;
 
 /// The size of the longest message; a buffer of it is long enough for any.
 pub const MESSAGE_MAX: usize = 33;
+
+const _: () = assert!(SHEET_SIZE == FIELDS.len() * SHEET_SLOT_SIZE);
+const _: () = assert!(DRAFT_SIZE == FIELDS.len() * DRAFT_SLOT_SIZE);
+const _: () = assert!(MESSAGE_MAX == MESSAGE_HEAD_SIZE + TEXT_MAX);
 
 /// Checks a sheet against the rules and tells its class.
 ///
