@@ -5,7 +5,7 @@ use libc::STDOUT_FILENO;
 use report::INPUT_SIZE;
 use report::REPORT_SIZE;
 use report::report;
-use texts::texts::part;
+use texts::parts::part;
 
 fn main() {
     let mut input = [0u8; INPUT_SIZE];

@@ -11,10 +11,10 @@ use Rattle.texts.specs.Texts.{between, same}
 use Rattle.texts.specs.Answers.{Answer, success, refusal, numberOf, Test, test, answerBy}
 use Rattle.rules.specs.Rules.{classOf}
 use Rattle.rules.specs.Verdicts.{className, verdictAnswer, checkTests, checked, Checked}
-use Rattle.rules.specs.declared.Class.{Class}
-use Rattle.rules.specs.declared.Class.the-variants.{A, B, O}
-use Rattle.rules.specs.declared.Verdict.{Verdict}
-use Rattle.rules.specs.declared.Verdict.the-variants.{Accepted}
+use Rattle.rules.specs.declared.class.Class.{Class}
+use Rattle.rules.specs.declared.class.Class.the-variants.{A, B, O}
+use Rattle.rules.specs.declared.check.Verdict.{Verdict}
+use Rattle.rules.specs.declared.check.Verdict.the-variants.{Accepted}
 use Rattle.drafts.specs.Message.{messageField, revisionOf, messageText, readTests, readable, readingOf, readAnswer, writeTests, writingOf, writeAnswer}
 use Rattle.drafts.specs.Draft.{beginTests, beginningOf, beginAnswer, word, comparisonOf, postTests, postingOf, postAnswer, copyTests, copyingOf, copyAnswer}
 use Rattle.drafts.specs.Promises.{Reads, Writes, Freshens, Posts, Copies}

@@ -8,8 +8,8 @@ use drafts::message::Reading;
 use drafts::message::Written;
 use drafts::revision::Revision;
 use orders::complete::Completed;
-use rules::Class;
-use rules::Verdict;
+use rules::check::Verdict;
+use rules::class::Class;
 use sheets::sheet::Field;
 
 #[repr(C)]
@@ -55,7 +55,7 @@ pub struct Complete {
 pub extern "C" fn kieselbrot_check(sheet: &[u8]) -> Check
     ensures { λ r. ⌜ CheckReturns (now (sheet .entry)) r ⌝ }
 {
-    let v = rules::check(sheet);
+    let v = rules::check::check(sheet);
     match v {
         Verdict::Malformed => Check {
             number: 1,

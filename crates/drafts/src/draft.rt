@@ -19,12 +19,12 @@ use sheets::sheet::slot_of;
 use texts::answers::Refusal;
 use texts::buffers::clear;
 use texts::buffers::put;
+use texts::comparisons::equals;
 use texts::numbers::bytes_of_4;
 use texts::numbers::number_of_4;
-use texts::texts::at;
-use texts::texts::equals;
-use texts::texts::part;
-use texts::texts::wide;
+use texts::parts::at;
+use texts::parts::part;
+use texts::parts::wide;
 
 // Where a slot's cell begins, and the text in it.
 const CELL_PLACE: usize = 4;

@@ -11,8 +11,8 @@ use texts::buffers::put;
 use texts::numbers::bytes_of_4;
 use texts::numbers::number_of_2;
 use texts::numbers::number_of_4;
-use texts::texts::at;
-use texts::texts::part;
+use texts::parts::at;
+use texts::parts::part;
 
 // "A text has 0 to 25 bytes".
 const TEXT_MAX: usize = 25;

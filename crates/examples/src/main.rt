@@ -7,11 +7,11 @@ use libc::STDIN_FILENO;
 use libc::STDOUT_FILENO;
 use report::REPORT_SIZE;
 use report::report;
-use rules::Class;
-use rules::Verdict;
+use rules::check::Verdict;
+use rules::class::Class;
 use texts::numbers::number_of_2;
-use texts::texts::at;
-use texts::texts::part;
+use texts::parts::at;
+use texts::parts::part;
 
 fn write_number(n: u8) {
     io::print_decimal(STDOUT_FILENO, n as u64);
@@ -28,7 +28,7 @@ fn write_class(c: Class) {
 
 // Kind 'c': a sheet is checked.
 fn run_check(sheet: &[u8]) {
-    let v = rules::check(sheet);
+    let v = rules::check::check(sheet);
     match v {
         Verdict::Malformed => write_number(1),
         Verdict::Broken(f, r) => {

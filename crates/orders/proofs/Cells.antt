@@ -15,9 +15,9 @@ use Rattle.texts.proofs.Puts.{put-fits}
 use Rattle.texts.proofs.Bools.{both}
 use Rattle.sheets.specs.Sheet.{cell, slots, cellText, cellOf, textOf}
 use Rattle.orders.specs.Fillings.{joined}
-use Rattle.orders.specs.Search.{places}
-use Rattle.sheets.specs.Entries.{filledAt}
-use Rattle.orders.specs.Filled.{Entry, filledWith}
+use Rattle.orders.specs.Working.Search.{places}
+use Rattle.sheets.specs.Working.Entries.{filledAt}
+use Rattle.orders.specs.Working.Entering.{Entry, filledWith}
 
 abbrev pub Cells : Type 0
 Cells = List (List ℕ)

@@ -12,18 +12,18 @@ use Rattle.texts.specs.Answers.{refusal}
 use Rattle.texts.specs.Buffers.{putAt}
 use Rattle.texts.proofs.Puts.{put-fits, put-whole}
 use Rattle.rules.specs.Rules.{budget, rules, fieldOf, keeps, firstNot, firstBroken}
-use Rattle.sheets.specs.Facts.{Read}
+use Rattle.sheets.specs.Working.Facts.{Read}
 use Rattle.rules.proofs.First.{none-kept}
 use Rattle.sheets.specs.declared.facts.Facts.{Facts}
-use Rattle.rules.specs.declared.Rule.{Rule as RuleNumber}
+use Rattle.rules.specs.declared.rules.Rule.{Rule as RuleNumber}
 use Rattle.sheets.specs.declared.sheet.Field.{Field}
 use Rattle.drafts.specs.Draft.{draftFormed, draftSheet, sheetInto}
 use Rattle.drafts.proofs.Slots.{formed-means}
 use Rattle.drafts.proofs.DraftSheets.{sheet-into}
 use Rattle.orders.specs.Fillings.{Look, found, none, firstFilling}
-use Rattle.orders.specs.Search.{Payment, firstPick}
-use Rattle.orders.specs.Found.{pickOf, foundOf}
-use Rattle.orders.specs.Filled.{baseOf, pickedOf}
+use Rattle.orders.specs.Working.Search.{Payment, firstPick}
+use Rattle.orders.specs.Working.Found.{pickOf, foundOf}
+use Rattle.orders.specs.Working.Entering.{baseOf, pickedOf}
 use Rattle.orders.specs.Complete.{setOf, basic, budgetPayment, completeAnswer, sheetTests, completeTests, completing, completed}
 use Rattle.orders.specs.Whole.{Completes}
 use Rattle.orders.specs.declared.search.Pick.{Pick}

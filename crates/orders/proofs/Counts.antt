@@ -12,10 +12,10 @@ use Rattle.texts.specs.Buffers.{put, putAt}
 use Rattle.sheets.specs.Sheet.{cell, slotOf, cellText, cellOf, textOf, _⟨_⟩, given}
 use Rattle.sheets.specs.Forms.{person, document, leap, monthDays, gregorian, date}
 use Rattle.rules.specs.Rules.{rules, testOf, fieldOf, keeps, keepsAll, firstNot}
-use Rattle.sheets.specs.Entries.{filledAt}
+use Rattle.sheets.specs.Working.Entries.{filledAt}
 use Rattle.orders.specs.Fillings.{joined, mostFillings, Look, found, none, look, firstFilling}
-use Rattle.orders.specs.Search.{passesAt, places, picks, firstPick}
-use Rattle.orders.specs.Filled.{baseOf, pickedOf}
+use Rattle.orders.specs.Working.Search.{passesAt, places, picks, firstPick}
+use Rattle.orders.specs.Working.Entering.{baseOf, pickedOf}
 use Rattle.orders.specs.Complete.{budgetPayment, sheetTests}
 use Rattle.texts.specs.Answers.{refusal, answerBy}
 use Rattle.orders.proofs.Keeping.{mapLook, first-is}

@@ -10,12 +10,12 @@ use Rattle.texts.specs.Quoted.{Text}
 use Rattle.texts.specs.Texts.{blank, every}
 use Rattle.texts.proofs.Every.{every-append}
 use Rattle.sheets.specs.Sheet.{cell, slots, slotOf, cellText, cellOf, textOf, _⟨_⟩, given}
-use Rattle.sheets.specs.Entries.{statusCount, basisCount, zeroCount}
+use Rattle.sheets.specs.Lists.{statusCount, basisCount, zeroCount}
 use Rattle.rules.specs.Rules.{budget, rules, testOf, keeps, keepsAll, firstNot, firstBroken}
 use Rattle.sheets.proofs.Frames.{status-sized, basis-sized, zero-sized}
 use Rattle.orders.specs.Fillings.{listOf, toFill, joined, fillings, Look, found, none, look, firstFilling}
-use Rattle.orders.specs.Search.{passesAt, width, picks, firstPick}
-use Rattle.orders.specs.Filled.{filledWith, zeroEntries, baseOf, pickEntries, pickedOf}
+use Rattle.orders.specs.Working.Search.{passesAt, width, picks, firstPick}
+use Rattle.orders.specs.Working.Entering.{filledWith, zeroEntries, baseOf, pickEntries, pickedOf}
 use Rattle.orders.specs.Complete.{basic}
 use Rattle.orders.proofs.Cells.{Cells, Sized, Fit, fillCells, length-joined, joined-cells, sized-cells, cell-joined, filled-joined, filled-sized}
 use Rattle.orders.proofs.Linking.{pickCell, cellsAt, fillings-picked}

@@ -6,7 +6,7 @@ use Prim.Native.Nat.{ℕ, zero, suc, _+_, _-_, _<_, _≤_}
 use native.Mathlib.Numerals.{add-one}
 use native.Mathlib.Omega.{arith}
 use Rattle.orders.specs.Fillings.{each, product, Look, found, none, look}
-use Rattle.orders.specs.Search.{places}
+use Rattle.orders.specs.Working.Search.{places}
 
 abbrev pub Picks : Type 0
 Picks = List (List ℕ)

@@ -1,10 +1,10 @@
 pub mod Levels
-pub mod Filling
+pub mod BlankSlots
 pub mod Cells
 pub mod Linking
 pub mod Keeping
 pub mod Passing
-pub mod Fills
+pub mod EveryFilling
 pub mod Looking
 pub mod Order
 pub mod Counting

@@ -9,9 +9,9 @@ use lib.Seq.{getD-drop, drop-drop}
 use Rattle.texts.specs.Quoted.{Text}
 use Rattle.texts.specs.Texts.{blank, every}
 use Rattle.sheets.specs.Sheet.{cell, slots, cellText, cellOf, textOf}
-use Rattle.sheets.specs.Entries.{statusCount, basisCount, zeroCount}
+use Rattle.sheets.specs.Lists.{statusCount, basisCount, zeroCount}
 use Rattle.orders.specs.Fillings.{listOf, toFill, choices, each, product, joined, fillings}
-use Rattle.orders.specs.Search.{width, places}
+use Rattle.orders.specs.Working.Search.{width, places}
 use Rattle.orders.proofs.Cells.{Cells}
 
 -- the cell of slot j with entry i of its list, where it is to be filled

@@ -14,7 +14,7 @@ use Rattle.texts.proofs.Bools.{both}
 use Rattle.texts.proofs.Codes.{same-true, same-self}
 use Rattle.sheets.specs.Sheet.{cell, slots, cellOf}
 use Rattle.orders.specs.Fillings.{lists, listOf, toFill, choices, rank, each, product, joined, fillings, Filling, Earlier, Place}
-use Rattle.orders.proofs.Fills.{Drawn, product-drawn, every-at, at-slots, drawn-cell, filling-of, of-filling}
+use Rattle.orders.proofs.EveryFilling.{Drawn, product-drawn, every-at, at-slots, drawn-cell, filling-of, of-filling}
 
 -- ---- lists in order
 

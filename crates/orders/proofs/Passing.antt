@@ -10,20 +10,21 @@ use lib.Dec.{eqb}
 use lib.ListN.{length, getD}
 use Rattle.texts.specs.Texts.{every, any, are, among, blank}
 use Rattle.sheets.specs.Sheet.{Sheet, cell, textOf}
-use Rattle.sheets.specs.Facts.{Read}
-use Rattle.sheets.specs.Entries.{statusTexts, basisTexts, zeroTexts, filledAt, statusCount, basisCount, zeroCount}
+use Rattle.sheets.specs.Working.Facts.{Read}
+use Rattle.sheets.specs.Lists.{statusTexts, basisTexts, zeroTexts, statusCount, basisCount, zeroCount}
+use Rattle.sheets.specs.Working.Entries.{filledAt}
 use Rattle.sheets.proofs.Frames.{status-sized, basis-sized, zero-sized, filled-length, filled-other}
 use Rattle.sheets.specs.declared.facts.Facts.{Facts}
 use Rattle.texts.proofs.Every.{every-member}
 use Rattle.rules.specs.Rules.{budget, order, keeps, keepsAll}
-use Rattle.rules.specs.Groups.{fixedRules, statusRules, basisRules, documentRules, dayRules, AlikeBut, spare}
+use Rattle.rules.specs.Working.Groups.{fixedRules, statusRules, basisRules, documentRules, dayRules, AlikeBut, spare}
 use Rattle.rules.proofs.Judging.{all-grouped}
 use Rattle.rules.proofs.Reading.{spared, spared-class}
 use Rattle.orders.specs.Complete.{basic}
 use Rattle.orders.specs.Fillings.{each, found, none, look}
-use Rattle.orders.specs.Filled.{pickedOf}
-use Rattle.orders.specs.Search.{passesAt, width, places, picks, firstPick, Payment}
-use Rattle.orders.specs.Found.{foundOf}
+use Rattle.orders.specs.Working.Entering.{pickedOf}
+use Rattle.orders.specs.Working.Search.{passesAt, width, places, picks, firstPick, Payment}
+use Rattle.orders.specs.Working.Found.{foundOf}
 use Rattle.orders.specs.declared.search.Pick.{Pick}
 use Rattle.orders.specs.declared.search.Found.{Found}
 use Rattle.orders.specs.declared.search.Found.the-variants.{Place, Nothing}

@@ -27,7 +27,7 @@ use Rattle.orders.specs.Complete.{setOf, basic, budgetPayment, completeA
 use Rattle.orders.specs.Whole.{countOf, FirstFilling, All, FilledSet, Unpaid, broken, ordinary, Whole, Completes}
 use Rattle.orders.specs.declared.complete.Completed.{Completed}
 use Rattle.orders.specs.declared.complete.Completed.the-variants.{Filled, Impossible, Broken, Refused}
-use Rattle.orders.proofs.Fills.{filling-of, of-filling, unchanged as stays}
+use Rattle.orders.proofs.EveryFilling.{filling-of, of-filling, unchanged as stays}
 use Rattle.orders.proofs.Looking.{First, look-found, look-none}
 use Rattle.orders.proofs.Order.{earlier-before, place-of, once-all}
 use Rattle.orders.proofs.Counting.{fillings-most, fillings-one, filled-set}

@@ -9,7 +9,7 @@ use lib.ListN.{length, getD, replicate}
 use Rattle.texts.specs.Quoted.{Text, words}
 use Rattle.texts.specs.Texts.{blank, same}
 use Rattle.sheets.specs.Sheet.{slots, slotOf, sheetSize, cell, cellOf, textOf}
-use Rattle.sheets.specs.Entries.{statusTexts, basisTexts, zeroTexts, statusCount, basisCount, zeroCount}
+use Rattle.sheets.specs.Lists.{statusTexts, basisTexts, zeroTexts, statusCount, basisCount, zeroCount}
 use Rattle.rules.specs.Rules.{keepsAll}
 
 -- "Lists: 22, 60, 102, 104, 105, 107: "0". 101: rule 10's order. 106: rule 15's order. 108 and 109: "0", "00"": by slot, no entry for

@@ -9,7 +9,7 @@ use Rattle.texts.specs.Texts.{every, blank}
 use Rattle.texts.specs.Answers.{Answer, success, refusal, numberOf}
 use Rattle.sheets.specs.Sheet.{slots, sheetSize, cellOf, textOf}
 use Rattle.rules.specs.Rules.{classOf, rules, fieldOf, keeps, keepsAll}
-use Rattle.rules.specs.declared.Class.the-variants.{O}
+use Rattle.rules.specs.declared.class.Class.the-variants.{O}
 use Rattle.drafts.specs.Draft.{draftFormed, draftSheet}
 use Rattle.drafts.specs.Promises.{Postings, Held}
 use Rattle.orders.specs.Fillings.{toFill, Filling, Earlier, Place, mostFillings}

@@ -5,8 +5,8 @@ ghost use mathlib.Core.List.{_∷_, []};
 ghost use Prim.Native.Nat.{_≤_};
 ghost use Rattle.texts.specs.Texts.{blank};
 ghost use Rattle.sheets.specs.Sheet.{textOf};
-ghost use Rattle.sheets.specs.Entries.{filledAt};
-ghost use Rattle.orders.specs.Filled.{rowCell, baseOf, pickedOf};
+ghost use Rattle.sheets.specs.Working.Entries.{filledAt};
+ghost use Rattle.orders.specs.Working.Entering.{rowCell, baseOf, pickedOf};
 ghost use Rattle.orders.specs.Complete.{setOf};
 use crate::search::Pick;
 use sheets::entries::basis_row;
@@ -15,7 +15,7 @@ use sheets::entries::zero_row;
 use sheets::sheet::CELL_SIZE;
 use sheets::sheet::text;
 use texts::buffers::put;
-use texts::texts::wide;
+use texts::parts::wide;
 
 fn row_cell(row: [u8; 3]) -> [u8; CELL_SIZE]
     ensures { λ r. ⌜ r ≡ rowCell row ⌝ }

@@ -11,8 +11,8 @@ use drafts::draft::post;
 use drafts::message::Reading;
 use drafts::message::read;
 use texts::numbers::number_of_2;
-use texts::texts::at;
-use texts::texts::part;
+use texts::parts::at;
+use texts::parts::part;
 
 // The first message: "2 + L bytes or what is left if that is less".
 pub fn piece(rest: &[u8]) -> &[u8]

@@ -13,7 +13,7 @@ use Rattle.texts.specs.Buffers.{put}
 use Rattle.texts.specs.Answers.{Answer, success, refusal}
 use Rattle.texts.proofs.Puts.{put-none, put-put, mid-put}
 use Rattle.sheets.specs.Sheet.{slots}
-use Rattle.rules.specs.declared.Rule.{Rule}
+use Rattle.rules.specs.declared.rules.Rule.{Rule}
 use Rattle.sheets.specs.declared.sheet.Field.{Field}
 use Rattle.drafts.specs.Draft.{freshDraft, postingOf, postedTo}
 use Rattle.drafts.specs.History.{postedAll}
@@ -27,7 +27,7 @@ use Rattle.orders.specs.declared.complete.Completed.the-variants.{Filled, Impos
 use Rattle.report.specs.Lines.{decimal, item, space, newline, Wrote}
 use Rattle.orders.specs.Stream.{messagesOf}
 use Rattle.report.specs.Report.{messageLine, fieldLines, endLines, noSheet, ending, reportFrom, reportOf, reported, Reports}
-use Rattle.report.specs.Told.{Told}
+use Rattle.report.specs.Working.Told.{Told}
 use Rattle.report.proofs.Writing.{wrote-as, number-as, wrote-then}
 
 module _ (d s b x : List ℕ) (at k : ℕ) (r : Completed) (C : Completes d noSheet r s) (w : Wrote b at (item (bytes "end") space) k x) (kw : k ≡ at + 3 + 1) (l : at + 733 ≤ length b) (e : List ℕ) (q : ℕ) where

@@ -20,12 +20,12 @@ use Rattle.drafts.specs.Message.{lengthOf, readTests, readingOf}
 use Rattle.drafts.specs.Draft.{freshDraft, postingOf, postedTo, postAnswer}
 use Rattle.drafts.specs.Promises.{Posts}
 use Rattle.drafts.specs.declared.draft.Posted.{Posted}
-use Rattle.orders.specs.Search.{places}
+use Rattle.orders.specs.Working.Search.{places}
 use Rattle.orders.specs.Stream.{pieceOf, endsStream, messagesOf}
 use Rattle.orders.proofs.Streaming.{messages-none, messages-next, rest-is, first-is, some}
 use Rattle.report.specs.Lines.{Wrote}
 use Rattle.report.specs.Report.{messageLine, fieldLine, fieldLines, ending, reportFrom, reportOf}
-use Rattle.report.specs.Told.{Told}
+use Rattle.report.specs.Working.Told.{Told}
 use Rattle.report.proofs.Writing.{wrote-as, wrote-then}
 
 -- ---- the lines of the fields

@@ -1,3 +1,3 @@
 pub mod Lines
 pub mod Report
-pub mod Told
+pub mod Working

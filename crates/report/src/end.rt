@@ -13,7 +13,7 @@ use orders::complete::complete;
 use sheets::sheet::SHEET_SIZE;
 use sheets::sheet::field_in;
 use sheets::sheet::text;
-use texts::texts::wide;
+use texts::parts::wide;
 
 // "Field number, a space and the sheet's text", `-` for a blank.
 fn put_field(out: &mut [u8], at: usize, sheet: &[u8], slot: u8) -> usize

@@ -4,7 +4,7 @@ ghost use Prim.Native.Nat.{_+_, _≤_};
 ghost use lib.ListN.{length, drop};
 ghost use Rattle.report.specs.Lines.{decimal, item, Wrote};
 use texts::buffers::put;
-use texts::texts::part;
+use texts::parts::part;
 
 // A number in decimal: its digits stand from place `from` on.
 pub(crate) struct Decimal {

@@ -5,15 +5,15 @@ ghost use lib.ListN.{length};
 ghost use Rattle.drafts.specs.Draft.{freshDraft, postAnswer};
 ghost use Rattle.report.specs.Lines.{item, newline, Wrote};
 ghost use Rattle.report.specs.Report.{shown, messageLine};
-ghost use Rattle.report.specs.Told.{Told};
+ghost use Rattle.report.specs.Working.Told.{Told};
 use crate::lines::put_item;
 use crate::lines::put_number;
 use drafts::draft::Posted;
 use drafts::draft::post;
 use orders::stream::ends_stream;
 use orders::stream::piece;
-use texts::texts::part;
-use texts::texts::wide;
+use texts::parts::part;
+use texts::parts::wide;
 
 // "Newer, same, older or the refusal number", and the end of the line.
 fn put_posted(out: &mut [u8], at: usize, posted: Posted) -> usize

@@ -12,7 +12,7 @@ use lib.Seq.{drop-cons}
 use Rattle.texts.specs.Texts.{every}
 use Rattle.texts.proofs.Bools.{both}
 use Rattle.rules.specs.Rules.{firstNot}
-use Rattle.rules.specs.Tests.{kept, allTrue}
+use Rattle.rules.specs.Working.Tests.{kept, allTrue}
 
 -- a number that names a rule
 abbrev pub numbered : ℕ → Bool

@@ -14,16 +14,16 @@ use Rattle.texts.proofs.Bools.{both}
 use Rattle.texts.proofs.Every.{every-append, every-same}
 use Rattle.sheets.specs.Sheet.{slots, slotOk, wellFormed, fieldIn, slotOf, Sheet, given}
 use Rattle.rules.specs.Rules.{Rule, classA, classB, budget, testOf, keepsAll, firstBlank, rules, order, fieldOf, keeps, firstNot, firstBroken, classOf}
-use Rattle.sheets.specs.Facts.{factsOf, Read}
-use Rattle.rules.specs.Tests.{ordinary, classOn, kept, holds, allTrue, generalOn, specialOn, outcomesOn, judgedOn}
-use Rattle.rules.specs.Groups.{fixedRules, statusRules, basisRules, documentRules, dayRules, grouped}
+use Rattle.sheets.specs.Working.Facts.{factsOf, Read}
+use Rattle.rules.specs.Working.Tests.{ordinary, classOn, kept, holds, allTrue, generalOn, specialOn, outcomesOn, judgedOn}
+use Rattle.rules.specs.Working.Groups.{fixedRules, statusRules, basisRules, documentRules, dayRules, grouped}
 use Rattle.sheets.specs.Forms.{_⇒_}
 use Rattle.rules.specs.Verdicts.{verdictAnswer, checkTests, checked, Checked}
-use Rattle.rules.specs.declared.Class.{Class}
-use Rattle.rules.specs.declared.Class.the-variants.{A, B, O}
-use Rattle.rules.specs.declared.Rule.{Rule as RuleNumber}
+use Rattle.rules.specs.declared.class.Class.{Class}
+use Rattle.rules.specs.declared.class.Class.the-variants.{A, B, O}
+use Rattle.rules.specs.declared.rules.Rule.{Rule as RuleNumber}
 use Rattle.sheets.specs.declared.sheet.Field.{Field}
-use Rattle.rules.specs.declared.Verdict.the-variants.{Malformed, Broken, Accepted}
+use Rattle.rules.specs.declared.check.Verdict.the-variants.{Malformed, Broken, Accepted}
 use Rattle.sheets.specs.declared.facts.Facts.{Facts}
 use Rattle.rules.proofs.On.{counted, rules-counted, counted-step, budget-keeps, keeps-on, judged-keeps, ordinary-on, class-on}
 use Rattle.rules.proofs.First.{not-alike, all-held}

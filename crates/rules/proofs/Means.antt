@@ -15,10 +15,10 @@ use Rattle.sheets.specs.Sheet.{wellFormed, Sheet}
 use Rattle.rules.specs.Rules.{classOf, rules, order, fieldOf, keeps, keepsAll, firstBroken}
 use Rattle.rules.specs.Verdicts.{className, verdictAnswer, checkTests, checked, Checked}
 use Rattle.rules.proofs.First.{numbered, none-kept, kept-none, split}
-use Rattle.rules.specs.declared.Class.{Class}
-use Rattle.rules.specs.declared.Class.the-variants.{A, B, O}
-use Rattle.rules.specs.declared.Verdict.{Verdict}
-use Rattle.rules.specs.declared.Verdict.the-variants.{Malformed, Broken, Accepted}
+use Rattle.rules.specs.declared.class.Class.{Class}
+use Rattle.rules.specs.declared.class.Class.the-variants.{A, B, O}
+use Rattle.rules.specs.declared.check.Verdict.{Verdict}
+use Rattle.rules.specs.declared.check.Verdict.the-variants.{Malformed, Broken, Accepted}
 
 -- the parts of an answer
 first : {l m : List ℕ} → l ≡ m → getD l 0 0 ≡ getD m 0 0

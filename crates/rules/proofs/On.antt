@@ -16,8 +16,8 @@ use Rattle.sheets.specs.Sheet.{slotOf, textOf, _⟨_⟩, Sheet, given}
 use Rattle.sheets.specs.Lists.{wantInn, wantTen, wantTwelve, wantZero, numbersOf}
 use Rattle.sheets.specs.Forms.{_⇒_, inn, inn10, inn12}
 use Rattle.rules.specs.Rules.{Rule, budget, classOf, special, forBudget, rules, testOf, keeps, rule6, rule23}
-use Rattle.sheets.specs.Facts.{payerOf, codeOf, formOf, groupsOf, standingOf, basisOf, documentOf, dayOf, generalOf, accountOf, bankingOf, partiesOf, classifiersOf, factsOf, wantedBy}
-use Rattle.rules.specs.Tests.{suits, classOn, ordinary, on6, on23, generalOn, specialOn, outcomesOn, judgedOn, kept, holds}
+use Rattle.sheets.specs.Working.Facts.{payerOf, codeOf, formOf, groupsOf, standingOf, basisOf, documentOf, dayOf, generalOf, accountOf, bankingOf, partiesOf, classifiersOf, factsOf, wantedBy}
+use Rattle.rules.specs.Working.Tests.{suits, classOn, ordinary, on6, on23, generalOn, specialOn, outcomesOn, judgedOn, kept, holds}
 use Rattle.sheets.specs.declared.forms.Wanted.the-variants.{Any, Inn, Ten, Twelve, Zero}
 use Rattle.sheets.specs.declared.facts.Payer.{Payer}
 use Rattle.sheets.specs.declared.facts.Facts.{Facts}

@@ -11,10 +11,10 @@ use Rattle.texts.specs.Texts.{every, any, are, among}
 use Rattle.texts.proofs.Bools.{both}
 use Rattle.texts.proofs.Every.{every-member}
 use Rattle.sheets.specs.Sheet.{Sheet, slotOf, textOf, _⟨_⟩}
-use Rattle.sheets.specs.Facts.{generalOf, factsOf}
+use Rattle.sheets.specs.Working.Facts.{generalOf, factsOf}
 use Rattle.sheets.proofs.Frames.{factsBy, facts-by}
 use Rattle.rules.specs.Rules.{budget, order, keeps}
-use Rattle.rules.specs.Groups.{readsOf, AlikeIn, AlikeBut, apart, spare}
+use Rattle.rules.specs.Working.Groups.{readsOf, AlikeIn, AlikeBut, apart, spare}
 use Rattle.rules.proofs.On.{verdictsOn, keeps-on}
 
 -- the texts in some slots, and none in the others

@@ -10,10 +10,10 @@ use Rattle.texts.specs.Texts.{every}
 use Rattle.texts.specs.Answers.{Answer, success, refusal, Test, _refuses_, _refuses_with_, answerBy}
 use Rattle.sheets.specs.Sheet.{wellFormed, Sheet}
 use Rattle.rules.specs.Rules.{classOf, rules, order, fieldOf, keeps, keepsAll, firstBroken}
-use Rattle.rules.specs.declared.Class.{Class}
-use Rattle.rules.specs.declared.Class.the-variants.{A, B, O}
-use Rattle.rules.specs.declared.Verdict.{Verdict}
-use Rattle.rules.specs.declared.Verdict.the-variants.{Malformed, Broken, Accepted}
+use Rattle.rules.specs.declared.class.Class.{Class}
+use Rattle.rules.specs.declared.class.Class.the-variants.{A, B, O}
+use Rattle.rules.specs.declared.check.Verdict.{Verdict}
+use Rattle.rules.specs.declared.check.Verdict.the-variants.{Malformed, Broken, Accepted}
 
 -- "Acceptance returns the class"
 abbrev pub className : Class → List ℕ

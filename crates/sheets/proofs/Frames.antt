@@ -16,8 +16,9 @@ use Rattle.texts.proofs.Bools.{both}
 use Rattle.texts.proofs.Puts.{put-fits, length-put, take-put, drop-put, mid-put}
 use Rattle.sheets.specs.Sheet.{Sheet, cell, cellText, cellOf, textOf, given}
 use Rattle.sheets.specs.Forms.{inn10, kpp, kbk, oktmo, office}
-use Rattle.sheets.specs.Facts.{generalOf, accountOf, codeOf, payerOf, formOf, fixed, bankingOf, partiesOf, classifiersOf, standingOf, basisOf, documentOf, dayOf, factsOf, Read}
-use Rattle.sheets.specs.Entries.{statusTexts, basisTexts, zeroTexts, filledAt, statusAt, basisAt, documentAt, dayAt, withAll}
+use Rattle.sheets.specs.Working.Facts.{generalOf, accountOf, codeOf, payerOf, formOf, fixed, bankingOf, partiesOf, classifiersOf, standingOf, basisOf, documentOf, dayOf, factsOf, Read}
+use Rattle.sheets.specs.Lists.{statusTexts, basisTexts, zeroTexts}
+use Rattle.sheets.specs.Working.Entries.{filledAt, statusAt, basisAt, documentAt, dayAt, withAll}
 use Rattle.sheets.specs.declared.facts.Standing.{Standing}
 use Rattle.sheets.specs.declared.facts.Basis.{Basis}
 use Rattle.sheets.specs.declared.facts.Document.{Document}

@@ -10,14 +10,14 @@ use lib.ListN.{length, getD, List·getD-append, List·getD-eq-default}
 use Rattle.texts.specs.Quoted.{Text, words}
 use Rattle.texts.specs.Texts.{every, any, are, among, same, between, valueOf, value, number, _isOneOf_}
 use Rattle.sheets.specs.Forms.{person, document, date}
-use Rattle.sheets.specs.Lists.{statuses, letterPairs, numbersOf}
-use Rattle.sheets.specs.Facts.{groupsBy, groupsOf, wantedBy, standingBy, standingOf, basisOf, documentOf, dayOf}
+use Rattle.sheets.specs.Lists.{statuses, letterPairs, numbersOf, statusTexts, basisTexts, zeroTexts}
+use Rattle.sheets.specs.Working.Facts.{groupsBy, groupsOf, wantedBy, standingBy, standingOf, basisOf, documentOf, dayOf}
 use Rattle.sheets.specs.declared.facts.Standing.{Standing}
 use Rattle.sheets.specs.declared.facts.Basis.{Basis}
 use Rattle.sheets.specs.declared.facts.Document.{Document}
 use Rattle.sheets.specs.declared.facts.Day.{Day}
 use Rattle.sheets.specs.declared.facts.Facts.{Facts}
-use Rattle.sheets.specs.Entries.{statusTexts, basisTexts, zeroTexts, rowOf, statusAt, basisAt, documentAt, dayAt}
+use Rattle.sheets.specs.Working.Entries.{rowOf, statusAt, basisAt, documentAt, dayAt}
 use Rattle.sheets.proofs.Ways.{standing-is}
 
 -- what a table of values holds at a place within it, and a list of texts past its end

@@ -6,7 +6,7 @@ use Rattle.texts.specs.Quoted.{Text, bytes}
 use Rattle.texts.specs.Texts.{every, among, between, valueOf, value, number, _begins_, _isOneOf_, _beginsOneOf_}
 use Rattle.texts.proofs.Codes.{is-one-of, begins-one-of, begins-this}
 use Rattle.sheets.specs.Lists.{bankA, accountsA, banksB, accountB, accountsB, account03100, account03212, statuses, customsGroup, treasuryGroup, courtsGroup, personalGroup, personTypes, numbersOf}
-use Rattle.sheets.specs.Facts.{isA, isB, groupsBy, groupsOf}
+use Rattle.sheets.specs.Working.Facts.{isA, isB, groupsBy, groupsOf}
 
 pub persons-are : (t : Text) → among (number 2 t) (numbersOf 2 personTypes) ≡ (t isOneOf personTypes)
 unfolding every number value valueOf

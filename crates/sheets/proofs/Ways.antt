@@ -15,7 +15,7 @@ use Rattle.texts.proofs.Arms.{AnyOf, arm, outside}
 use Rattle.sheets.specs.Sheet.{textOf}
 use Rattle.sheets.specs.Forms.{foreignCode, inn10, inn12, digits5, digits10, digits12, person, leap, monthDays, gregorian, date}
 use Rattle.sheets.specs.Lists.{account03100, account03212, statuses, personTypes, numbersOf}
-use Rattle.sheets.specs.Facts.{payerOf, isA, isB, accountOf, groupsBy, standingBy, standingOf, wantedBy, basisOf, documentOf, dayOf, bankingOf, partiesOf, classifiersOf, factsOf, Read}
+use Rattle.sheets.specs.Working.Facts.{payerOf, isA, isB, accountOf, groupsBy, standingBy, standingOf, wantedBy, basisOf, documentOf, dayOf, bankingOf, partiesOf, classifiersOf, factsOf, Read}
 use Rattle.sheets.specs.declared.forms.Wanted.{Wanted}
 use Rattle.sheets.specs.declared.forms.Wanted.the-variants.{Any, Inn, Ten, Twelve, Zero}
 use Rattle.sheets.specs.declared.facts.Groups.{Groups}

@@ -1,5 +1,4 @@
 pub mod Sheet
 pub mod Lists
 pub mod Forms
-pub mod Facts
-pub mod Entries
+pub mod Working

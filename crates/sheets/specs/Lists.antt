@@ -1,8 +1,9 @@
 -- The lists of document 01, each quoted once. Assumes nothing.
-use mathlib.Core.List.{List, map}
+use mathlib.Core.List.{List, _++_, map}
 use Prim.Native.Nat.{ℕ}
 use Prim.Native.String.{String}
-use Rattle.texts.specs.Quoted.{words}
+use lib.ListN.{length}
+use Rattle.texts.specs.Quoted.{Text, words}
 use Rattle.texts.specs.Texts.{number}
 
 -- class A: what 15 and 17 begin with
@@ -70,3 +71,23 @@ personTypes = "01 02 03 04 05 06 07 08 09 10 11 12 13 14 22 24 25 26 28 29 30"
 -- the numbers of a list of texts of n digits, which the code compares
 abbrev pub numbersOf : ℕ → String → List ℕ
 numbersOf n q = map (number n) (words q)
+
+-- completion's lists: "101: rule 10's order. 106: rule 15's order. 108 and 109: "0", "00""
+abbrev pub statusTexts : List Text
+statusTexts = words statuses
+
+abbrev pub zeroTexts : List Text
+zeroTexts = words "0 00"
+
+abbrev pub basisTexts : List Text
+basisTexts = zeroTexts ++ words letterPairs
+
+-- how many entries each list has
+abbrev pub statusCount : ℕ
+statusCount = length statusTexts
+
+abbrev pub basisCount : ℕ
+basisCount = length basisTexts
+
+abbrev pub zeroCount : ℕ
+zeroCount = length zeroTexts

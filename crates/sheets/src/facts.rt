@@ -3,7 +3,7 @@ ghost use mathlib.Core.Path.{_≡_};
 ghost use lib.ListN.{length};
 ghost use Rattle.texts.specs.Texts.{every};
 ghost use Rattle.sheets.specs.Sheet.{given};
-ghost use Rattle.sheets.specs.Facts.{generalOf, isA, isB, accountOf, codeOf, payerOf, formOf, groupsBy, standingBy, standingOf, basisOf, documentOf, dayOf, fixed, bankingOf, partiesOf, classifiersOf, Read};
+ghost use Rattle.sheets.specs.Working.Facts.{generalOf, isA, isB, accountOf, codeOf, payerOf, formOf, groupsBy, standingBy, standingOf, basisOf, documentOf, dayOf, fixed, bankingOf, partiesOf, classifiersOf, Read};
 use crate::forms::Status;
 use crate::forms::Wanted;
 use crate::forms::is_account;
@@ -27,13 +27,13 @@ use crate::forms::is_uin;
 use crate::forms::wanted_by;
 use crate::sheet::SHEET_SIZE;
 use crate::sheet::text;
-use texts::texts::equals;
-use texts::texts::is_among;
-use texts::texts::is_listed;
-use texts::texts::number_2;
-use texts::texts::number_3;
-use texts::texts::number_5;
-use texts::texts::part;
+use texts::comparisons::equals;
+use texts::comparisons::is_among;
+use texts::comparisons::is_listed;
+use texts::digits::number_2;
+use texts::digits::number_3;
+use texts::digits::number_5;
+use texts::parts::part;
 
 // 14, 15 and 17 have their forms (rules 1 to 3).
 pub struct General {

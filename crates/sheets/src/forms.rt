@@ -2,15 +2,15 @@
 ghost use mathlib.Core.Path.{_≡_};
 ghost use Rattle.texts.specs.Texts.{every, same};
 ghost use Rattle.sheets.specs.Forms.{bik, account, uin, code4, foreignCode, inn10, inn12, digits5, digits10, digits12, kpp, kbk, oktmo, office, letterPair, person, allowed, document, leap, monthDays, gregorian, date};
-ghost use Rattle.sheets.specs.Facts.{wantedBy};
-use texts::texts::equals;
-use texts::texts::has_digits;
-use texts::texts::has_digits_not_00;
-use texts::texts::has_digits_not_zero;
-use texts::texts::is_among;
-use texts::texts::number_2;
-use texts::texts::number_4;
-use texts::texts::part;
+ghost use Rattle.sheets.specs.Working.Facts.{wantedBy};
+use texts::comparisons::equals;
+use texts::comparisons::is_among;
+use texts::digits::has_digits;
+use texts::digits::has_digits_not_00;
+use texts::digits::has_digits_not_zero;
+use texts::digits::number_2;
+use texts::digits::number_4;
+use texts::parts::part;
 
 // The number of a status.
 pub struct Status(pub u8);

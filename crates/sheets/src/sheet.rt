@@ -3,10 +3,10 @@ ghost use mathlib.Core.Path.{_≡_};
 ghost use Prim.Native.Nat.{_+_};
 ghost use Rattle.texts.specs.Texts.{every, are, between};
 ghost use Rattle.sheets.specs.Sheet.{slotOf, fieldIn, cellText, cellOk, cellOf, textOf, slotOk, wellFormed};
-use texts::texts::all_are;
-use texts::texts::at;
-use texts::texts::part;
-use texts::texts::wide;
+use texts::comparisons::all_are;
+use texts::parts::at;
+use texts::parts::part;
+use texts::parts::wide;
 
 // "A sheet has 390 bytes, slot i at 26 × i".
 pub const CELL_SIZE: usize = 26;

@@ -1,6 +1,6 @@
 pub mod Bools
 pub mod Loops
-pub mod Parts
+pub mod Between
 pub mod Numerals
 pub mod Codes
 pub mod Puts

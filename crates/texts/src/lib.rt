@@ -1,5 +1,7 @@
 // Byte texts and lent buffers: what every layer above asks of them. Each function takes any arguments.
 pub mod answers;
 pub mod buffers;
+pub mod comparisons;
+pub mod digits;
 pub mod numbers;
-pub mod texts;
+pub mod parts;

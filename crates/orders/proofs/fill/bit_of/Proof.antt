@@ -1,5 +1,5 @@
 use borrow.Author.Needs.{needs}
-use Rattle.orders.proofs.Filling.{bit-blank, bit-given}
+use Rattle.orders.proofs.BlankSlots.{bit-blank, bit-given}
 use Rattle.orders.proofs.fill.bit_of.Statement.{statement}
 use Rattle.orders.proofs.fill.bit_of.Tie as tie
 

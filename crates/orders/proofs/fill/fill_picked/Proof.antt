@@ -1,5 +1,5 @@
 use borrow.Author.Needs.{needs}
-use Rattle.orders.proofs.Filling.{picked-filled}
+use Rattle.orders.proofs.BlankSlots.{picked-filled}
 use Rattle.orders.proofs.fill.fill_picked.Statement.{statement}
 use Rattle.orders.proofs.fill.fill_picked.Tie as tie
 

@@ -1,5 +1,5 @@
 use borrow.Author.Needs.{needs}
-use Rattle.orders.proofs.Filling.{fill-blank, fill-given}
+use Rattle.orders.proofs.BlankSlots.{fill-blank, fill-given}
 use Rattle.orders.proofs.fill.fill_slot.Statement.{statement}
 use Rattle.orders.proofs.fill.fill_slot.Tie as tie
 

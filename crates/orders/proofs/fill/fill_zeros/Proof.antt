@@ -1,5 +1,5 @@
 use borrow.Author.Needs.{needs}
-use Rattle.orders.proofs.Filling.{zeros-filled}
+use Rattle.orders.proofs.BlankSlots.{zeros-filled}
 use Rattle.orders.proofs.fill.fill_zeros.Statement.{statement}
 use Rattle.orders.proofs.fill.fill_zeros.Tie as tie
 

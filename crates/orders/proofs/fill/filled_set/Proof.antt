@@ -1,5 +1,5 @@
 use borrow.Author.Needs.{needs}
-use Rattle.orders.proofs.Filling.{set-is}
+use Rattle.orders.proofs.BlankSlots.{set-is}
 use Rattle.orders.proofs.fill.filled_set.Statement.{statement}
 use Rattle.orders.proofs.fill.filled_set.Tie as tie
 

@@ -9,10 +9,10 @@ use native.Mathlib.Omega.{arith}
 use borrow.Author.Needs.{needs}
 use Rattle.texts.specs.Texts.{blank}
 use Rattle.sheets.specs.Sheet.{Sheet, textOf}
-use Rattle.sheets.specs.Entries.{statusCount, basisCount, zeroCount}
+use Rattle.sheets.specs.Lists.{statusCount, basisCount, zeroCount}
 use Rattle.sheets.specs.declared.facts.Facts.{Facts}
-use Rattle.orders.specs.Search.{passesAt, width, Payment}
-use Rattle.orders.specs.Found.{foundOf}
+use Rattle.orders.specs.Working.Search.{passesAt, width, Payment}
+use Rattle.orders.specs.Working.Found.{foundOf}
 use Rattle.orders.specs.declared.search.Pick.{Pick}
 use Rattle.orders.specs.declared.search.Found.the-variants.{Place, Nothing}
 use Rattle.orders.proofs.Levels.{Picks, Left, left-none, turn, hit, all, one-passed, one-hit}

@@ -1,6 +1,6 @@
 use borrow.Author.Needs.{needs}
 use mathlib.Core.Path.{refl}
-use Rattle.sheets.specs.Entries.{basisTexts}
+use Rattle.sheets.specs.Lists.{basisTexts}
 use Rattle.sheets.proofs.Listed.{past-row, basis-zero, basis-pair}
 use Rattle.sheets.proofs.entries.basis_row.Statement.{statement}
 use Rattle.sheets.proofs.entries.basis_row.Tie as tie

@@ -1,7 +1,7 @@
 use borrow.Author.Needs.{needs}
 use mathlib.Core.Path.{refl}
 use Rattle.texts.specs.Texts.{every, valueOf, value, number}
-use Rattle.sheets.specs.Entries.{statusTexts}
+use Rattle.sheets.specs.Lists.{statusTexts}
 use Rattle.sheets.proofs.Listed.{past-row, status-made}
 use Rattle.sheets.proofs.entries.status_row.Statement.{statement}
 use Rattle.sheets.proofs.entries.status_row.Tie as tie

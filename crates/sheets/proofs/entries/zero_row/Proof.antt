@@ -1,6 +1,7 @@
 use borrow.Author.Needs.{needs}
 use mathlib.Core.Path.{refl}
-use Rattle.sheets.specs.Entries.{zeroTexts, rowOf}
+use Rattle.sheets.specs.Lists.{zeroTexts}
+use Rattle.sheets.specs.Working.Entries.{rowOf}
 use Rattle.sheets.proofs.Listed.{past-row, zero-made}
 use Rattle.sheets.proofs.entries.zero_row.Statement.{statement}
 use Rattle.sheets.proofs.entries.zero_row.Tie as tie

@@ -1,5 +1,5 @@
 use borrow.Author.Needs.{needs}
-use Rattle.sheets.specs.Facts.{bankingOf}
+use Rattle.sheets.specs.Working.Facts.{bankingOf}
 use Rattle.sheets.proofs.facts.banking_of.Statement.{statement}
 use Rattle.sheets.proofs.facts.banking_of.Tie as tie
 

@@ -1,5 +1,5 @@
 use borrow.Author.Needs.{needs}
-use Rattle.sheets.specs.Facts.{basisOf}
+use Rattle.sheets.specs.Working.Facts.{basisOf}
 use Rattle.sheets.proofs.facts.basis_of.Statement.{statement}
 use Rattle.sheets.proofs.facts.basis_of.Tie as tie
 

@@ -1,5 +1,5 @@
 use borrow.Author.Needs.{needs}
-use Rattle.sheets.specs.Facts.{classifiersOf}
+use Rattle.sheets.specs.Working.Facts.{classifiersOf}
 use Rattle.sheets.proofs.facts.classifiers_of.Statement.{statement}
 use Rattle.sheets.proofs.facts.classifiers_of.Tie as tie
 

@@ -1,5 +1,5 @@
 use borrow.Author.Needs.{needs}
-use Rattle.sheets.specs.Facts.{codeOf}
+use Rattle.sheets.specs.Working.Facts.{codeOf}
 use Rattle.sheets.proofs.facts.code_of.Statement.{statement}
 use Rattle.sheets.proofs.facts.code_of.Tie as tie
 

@@ -1,5 +1,5 @@
 use borrow.Author.Needs.{needs}
-use Rattle.sheets.specs.Facts.{dayOf}
+use Rattle.sheets.specs.Working.Facts.{dayOf}
 use Rattle.sheets.proofs.facts.day_of.Statement.{statement}
 use Rattle.sheets.proofs.facts.day_of.Tie as tie
 

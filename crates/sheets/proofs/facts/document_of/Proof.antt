@@ -1,5 +1,5 @@
 use borrow.Author.Needs.{needs}
-use Rattle.sheets.specs.Facts.{documentOf}
+use Rattle.sheets.specs.Working.Facts.{documentOf}
 use Rattle.sheets.proofs.facts.document_of.Statement.{statement}
 use Rattle.sheets.proofs.facts.document_of.Tie as tie
 

@@ -1,5 +1,5 @@
 use borrow.Author.Needs.{needs}
-use Rattle.sheets.specs.Facts.{formOf}
+use Rattle.sheets.specs.Working.Facts.{formOf}
 use Rattle.sheets.proofs.facts.form_of.Statement.{statement}
 use Rattle.sheets.proofs.facts.form_of.Tie as tie
 

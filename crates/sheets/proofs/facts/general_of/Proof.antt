@@ -1,5 +1,5 @@
 use borrow.Author.Needs.{needs}
-use Rattle.sheets.specs.Facts.{generalOf}
+use Rattle.sheets.specs.Working.Facts.{generalOf}
 use Rattle.sheets.proofs.facts.general_of.Statement.{statement}
 use Rattle.sheets.proofs.facts.general_of.Tie as tie
 

@@ -1,6 +1,6 @@
 use borrow.Author.Needs.{needs}
 use Rattle.texts.specs.Texts.{every, valueOf, value, number}
-use Rattle.sheets.specs.Facts.{groupsBy}
+use Rattle.sheets.specs.Working.Facts.{groupsBy}
 use Rattle.sheets.proofs.facts.groups_of.Statement.{statement}
 use Rattle.sheets.proofs.facts.groups_of.Tie as tie
 

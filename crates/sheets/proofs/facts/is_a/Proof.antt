@@ -1,6 +1,6 @@
 use borrow.Author.Needs.{needs}
 use Rattle.texts.specs.Texts.{every, valueOf, value, number}
-use Rattle.sheets.specs.Facts.{isA}
+use Rattle.sheets.specs.Working.Facts.{isA}
 use Rattle.sheets.proofs.facts.is_a.Statement.{statement}
 use Rattle.sheets.proofs.facts.is_a.Tie as tie
 

@@ -1,6 +1,6 @@
 use borrow.Author.Needs.{needs}
 use Rattle.texts.specs.Texts.{every, valueOf, value, number}
-use Rattle.sheets.specs.Facts.{isB}
+use Rattle.sheets.specs.Working.Facts.{isB}
 use Rattle.sheets.proofs.facts.is_b.Statement.{statement}
 use Rattle.sheets.proofs.facts.is_b.Tie as tie
 

@@ -1,5 +1,5 @@
 use borrow.Author.Needs.{needs}
-use Rattle.sheets.specs.Facts.{partiesOf}
+use Rattle.sheets.specs.Working.Facts.{partiesOf}
 use Rattle.sheets.proofs.facts.parties_of.Statement.{statement}
 use Rattle.sheets.proofs.facts.parties_of.Tie as tie
 

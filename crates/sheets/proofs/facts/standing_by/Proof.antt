@@ -1,6 +1,6 @@
 use borrow.Author.Needs.{needs}
 use Rattle.texts.specs.Texts.{every, valueOf, value, number}
-use Rattle.sheets.specs.Facts.{standingBy}
+use Rattle.sheets.specs.Working.Facts.{standingBy}
 use Rattle.sheets.proofs.facts.standing_by.Statement.{statement}
 use Rattle.sheets.proofs.facts.standing_by.Tie as tie
 

@@ -1,0 +1,81 @@
+-- Entries put into blank slots, and the set of those slots. Assumes nothing.
+use mathlib.Core.Path.{_≡_, refl, ap, sym, _∙_}
+use mathlib.Core.Bool.{Bool, true, false, cond}
+use mathlib.Core.List.{List, [], _∷_, map}
+use Prim.Native.Nat.{ℕ, _+_, _*_, _≤_}
+use native.Mathlib.Omega.{arith}
+use borrow.Author.Tests.{eq-eqb, ne-eqb}
+use lib.ListN.{length, getD, List·getD-map}
+use Rattle.texts.specs.Quoted.{Text}
+use Rattle.texts.specs.Texts.{blank}
+use Rattle.texts.specs.Buffers.{putAt}
+use Rattle.sheets.specs.Sheet.{cell, textOf}
+use Rattle.sheets.specs.Lists.{statusTexts, basisTexts, zeroTexts}
+use Rattle.sheets.specs.Working.Entries.{rowOf, filledAt}
+use Rattle.orders.specs.Fillings.{listOf, toFill}
+use Rattle.orders.specs.Working.Entering.{rowCell, filledWith, baseOf, pickedOf}
+use Rattle.orders.specs.Complete.{bits, setOf}
+
+-- fill_slot
+pub fill-blank : (s e t x r : List ℕ) (k w : ℕ) → t ≡ textOf s k → length t ≡ 0 → w ≡ k → x ≡ rowCell r → e ≡ putAt s (w * 26) x → e ≡ filledAt s k (rowCell r)
+unfolding filledAt
+fill-blank s e t x r k w p z q y h = cc (eq-eqb (length t) 0 z)
+
+pub fill-given : (s t x : List ℕ) (k : ℕ) → t ≡ textOf s k → (length t ≡ 0 → ⊥) → s ≡ filledAt s k x
+unfolding filledAt
+fill-given s t x k p z = cc (ne-eqb (length t) 0 z)
+
+-- a row is the list's cell
+row-cell : (texts : List Text) → map (λ (t : Text). rowCell (rowOf t)) texts ≡ map cell texts → (k : ℕ) → rowCell (rowOf (getD texts k [])) ≡ cell (getD texts k [])
+unfolding cell rowOf
+row-cell texts e k = sym (List·getD-map (λ (t : Text). rowCell (rowOf t)) texts k []) ∙ ap (λ (l : List (List ℕ)). getD l k (cell [])) e ∙ List·getD-map cell texts k []
+
+status-cell : (k : ℕ) → rowCell (rowOf (getD statusTexts k [])) ≡ cell (getD statusTexts k [])
+unfolding cell rowOf
+status-cell k = row-cell statusTexts refl k
+
+basis-cell : (k : ℕ) → rowCell (rowOf (getD basisTexts k [])) ≡ cell (getD basisTexts k [])
+unfolding cell rowOf
+basis-cell k = row-cell basisTexts refl k
+
+zero-cell : (k : ℕ) → rowCell (rowOf (getD zeroTexts k [])) ≡ cell (getD zeroTexts k [])
+unfolding cell rowOf
+zero-cell k = row-cell zeroTexts refl k
+
+-- fill_zeros
+pub zeros-filled : (s a b c d e f r : List ℕ) → r ≡ rowOf (getD zeroTexts 0 []) → a ≡ filledAt s 3 (rowCell r) → b ≡ filledAt a 4 (rowCell r)
+    → c ≡ filledAt b 7 (rowCell r) → d ≡ filledAt c 9 (rowCell r) → e ≡ filledAt d 10 (rowCell r) → f ≡ filledAt e 12 (rowCell r) → f ≡ baseOf s
+unfolding baseOf
+zeros-filled s a b c d e f r h ha hb hc hd he hf =
+    let z : rowCell r ≡ cell (getD zeroTexts 0 []) = ap rowCell h ∙ zero-cell 0 in
+    cc
+
+-- fill_picked
+pub picked-filled : (s a b c d q r t u : List ℕ) (i j k l : ℕ) → q ≡ rowOf (getD statusTexts i []) → a ≡ filledAt s 6 (rowCell q)
+    → r ≡ rowOf (getD basisTexts j []) → b ≡ filledAt a 11 (rowCell r) → t ≡ rowOf (getD zeroTexts k []) → c ≡ filledAt b 13 (rowCell t)
+    → u ≡ rowOf (getD zeroTexts l []) → d ≡ filledAt c 14 (rowCell u) → d ≡ pickedOf s (i ∷ j ∷ k ∷ l ∷ [])
+unfolding pickedOf
+picked-filled s a b c d q r t u i j k l hq ha hr hb ht hc hu hd =
+    let z1 : rowCell q ≡ cell (getD statusTexts i []) = ap rowCell hq ∙ status-cell i in
+    let z2 : rowCell r ≡ cell (getD basisTexts j []) = ap rowCell hr ∙ basis-cell j in
+    let z3 : rowCell t ≡ cell (getD zeroTexts k []) = ap rowCell ht ∙ zero-cell k in
+    let z4 : rowCell u ≡ cell (getD zeroTexts l []) = ap rowCell hu ∙ zero-cell l in
+    hd ∙ (λ m. filledAt (hc m) 14 (z4 m)) ∙ ap (λ (w : List ℕ). filledAt (filledAt w 13 (rowCell t)) 14 (cell (getD zeroTexts l []))) (hb ∙ ap (λ (w : List ℕ). filledAt w 11 (rowCell r)) ha)
+    ∙ (λ m. filledAt (filledAt (filledAt (filledAt s 6 (z1 m)) 11 (z2 m)) 13 (z3 m)) 14 (cell (getD zeroTexts l [])))
+
+-- bit_of, filled_set
+pub bit-blank : (s t : List ℕ) (k v : ℕ) → t ≡ textOf s k → length t ≡ 0 → v ≡ cond (blank (textOf s k)) v 0
+bit-blank s t k v e z = cc (eq-eqb (length t) 0 z)
+
+pub bit-given : (s t : List ℕ) (k v : ℕ) → t ≡ textOf s k → (length t ≡ 0 → ⊥) → 0 ≡ cond (blank (textOf s k)) v 0
+bit-given s t k v e z = cc (ne-eqb (length t) 0 z)
+
+module _ (s : List ℕ) (a b c d e f g h i j : ℕ)
+    (pa : (a ≡ cond (blank (textOf s 3)) 8 0) × (a ≤ 8)) (pb : (b ≡ cond (blank (textOf s 4)) 16 0) × (b ≤ 16))
+    (pc : (c ≡ cond (blank (textOf s 6)) 64 0) × (c ≤ 64)) (pd : (d ≡ cond (blank (textOf s 7)) 128 0) × (d ≤ 128))
+    (pe : (e ≡ cond (blank (textOf s 9)) 512 0) × (e ≤ 512)) (pf : (f ≡ cond (blank (textOf s 10)) 1024 0) × (f ≤ 1024))
+    (pg : (g ≡ cond (blank (textOf s 11)) 2048 0) × (g ≤ 2048)) (ph : (h ≡ cond (blank (textOf s 12)) 4096 0) × (h ≤ 4096))
+    (pi : (i ≡ cond (blank (textOf s 13)) 8192 0) × (i ≤ 8192)) (pj : (j ≡ cond (blank (textOf s 14)) 16384 0) × (j ≤ 16384)) where
+  pub set-is : a + b + c + d + e + f + g + h + i + j ≡ setOf s
+  unfolding setOf toFill listOf
+  set-is = omega (arith, pa .0, pb .0, pc .0, pd .0, pe .0, pf .0, pg .0, ph .0, pi .0, pj .0)

@@ -1,0 +1,4 @@
+-- How the code works: a reader of the promises needs none of this.
+pub mod Search
+pub mod Found
+pub mod Entering

@@ -1,8 +1,0 @@
-use borrow.Author.Needs.{needs}
-use Rattle.rules.specs.Tests.{holds}
-use Rattle.rules.proofs.fixed_outcomes.Statement.{statement}
-use Rattle.rules.proofs.fixed_outcomes.Tie as tie
-
-pub fixed-outcomes-spec : {M : Type 1} → statement M
-unfolding holds
-fixed-outcomes-spec = tie.close (tie.spec (λ c κs. search needs) (λ c κs. search needs) (λ c κs. search needs) (λ c κs. search needs) (λ c κs. search needs) (λ c κs. search needs) (λ c κs. search needs) (λ c κs. search needs) (λ c κs. search needs) (λ c κs. search needs) (λ c κs. search needs) (λ c. cc))

@@ -1,6 +1,0 @@
-use Rattle.rules.proofs.Judging.{budget-is}
-use Rattle.rules.proofs.is_budget.Statement.{statement}
-use Rattle.rules.proofs.is_budget.Tie as tie
-
-pub is-budget-spec : {M : Type 1} → statement M
-is-budget-spec = tie.close (tie.spec (λ c. λ s o. budget-is _ s o))

@@ -1,8 +1,0 @@
-use borrow.Author.Needs.{needs}
-use Rattle.rules.specs.Tests.{holds}
-use Rattle.rules.proofs.status_outcomes.Statement.{statement}
-use Rattle.rules.proofs.status_outcomes.Tie as tie
-
-pub status-outcomes-spec : {M : Type 1} → statement M
-unfolding holds
-status-outcomes-spec = tie.close (tie.spec (λ c κs. search needs) (λ c κs. search needs) (λ c κs. search needs) (λ c κs. search needs) (λ c κs. search needs) (λ c κs. search needs) (λ c κs. search needs) (λ c κs. search needs) (λ c. cc))

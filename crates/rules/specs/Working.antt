@@ -1,0 +1,3 @@
+-- How the code works: a reader of the promises needs none of this.
+pub mod Tests
+pub mod Groups

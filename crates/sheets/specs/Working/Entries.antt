@@ -1,0 +1,41 @@
+-- The entries that completion puts into the blank fields 101, 106, 108 and 109, a sheet with one put in, and the facts of such a sheet.
+-- Assumes nothing.
+use mathlib.Core.Bool.{Bool, cond}
+use mathlib.Core.List.{List, [], _∷_}
+use Prim.Native.Nat.{ℕ, _*_}
+use lib.ListN.{length, getD}
+use Rattle.texts.specs.Quoted.{Text}
+use Rattle.texts.specs.Texts.{blank}
+use Rattle.texts.specs.Buffers.{putAt}
+use Rattle.sheets.specs.Sheet.{Sheet, textOf}
+use Rattle.sheets.specs.Lists.{statusTexts, zeroTexts, basisTexts}
+use Rattle.sheets.specs.Working.Facts.{standingOf, basisOf, documentOf, dayOf}
+use Rattle.sheets.specs.declared.facts.Standing.{Standing}
+use Rattle.sheets.specs.declared.facts.Basis.{Basis}
+use Rattle.sheets.specs.declared.facts.Document.{Document}
+use Rattle.sheets.specs.declared.facts.Day.{Day}
+use Rattle.sheets.specs.declared.facts.Facts.{Facts}
+
+-- how the code keeps an entry: its length and two bytes
+unfoldable pub rowOf : Text → List ℕ
+rowOf t = length t ∷ getD t 0 0 ∷ getD t 1 0 ∷ []
+
+-- a sheet with the cell x in slot k, if that is blank
+unfoldable pub filledAt : Sheet → ℕ → List ℕ → Sheet
+filledAt s k x = cond (blank (textOf s k)) (putAt s (k * 26) x) s
+
+-- the facts of a field with entry k of its list, where the field is blank
+unfoldable pub statusAt : Facts → ℕ → Standing
+statusAt f k = cond (f .status .blank) (standingOf (getD statusTexts k [])) (f .status)
+
+unfoldable pub basisAt : Facts → ℕ → Basis
+basisAt f k = cond (f .basis .blank) (basisOf (getD basisTexts k [])) (f .basis)
+
+unfoldable pub documentAt : Facts → ℕ → Document
+documentAt f k = cond (f .document .blank) (documentOf (getD zeroTexts k [])) (f .document)
+
+unfoldable pub dayAt : Facts → ℕ → Day
+dayAt f k = cond (f .day .blank) (dayOf (getD zeroTexts k [])) (f .day)
+
+abbrev pub withAll : Facts → Standing → Basis → Document → Day → Facts
+withAll f a b c d = record { banking = f .banking; parties = f .parties; classifiers = f .classifiers; status = a; basis = b; document = c; day = d }
