@@ -82,7 +82,7 @@ enum {
 typedef struct {
     uint8_t number; /* 0, 1 or 8 */
     uint8_t field;  /* with 8: the field that the broken rule names */
-    uint8_t rule;   /* with 8: the first broken rule, 1 to 34 */
+    uint8_t rule;   /* with 8: the first broken rule, 1 to 35 */
     uint8_t class_; /* accepted: 'A', 'B' (budget payments) or 'O' (ordinary) */
 } kieselbrot_check_answer;
 

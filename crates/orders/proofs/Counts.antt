@@ -7,10 +7,10 @@ use native.Mathlib.Omega.{arith}
 use lib.ListN.{length}
 use Prim.Native.String.{String}
 use Rattle.texts.specs.Quoted.{bytes, words}
-use Rattle.texts.specs.Texts.{every, any, are, among, same, between, value, valueOf, number, _isOneOf_, _beginsOneOf_}
+use Rattle.texts.specs.Texts.{every, any, are, among, same, between, value, valueOf, number, weighted, _isOneOf_, _beginsOneOf_}
 use Rattle.texts.specs.Buffers.{put, putAt}
 use Rattle.sheets.specs.Sheet.{cell, slotOf, cellText, cellOf, textOf, _⟨_⟩, given}
-use Rattle.sheets.specs.Forms.{person, document, leap, monthDays, gregorian, date}
+use Rattle.sheets.specs.Forms.{person, document, snilsCheck, snils, pension, leap, monthDays, gregorian, date}
 use Rattle.rules.specs.Rules.{rules, testOf, fieldOf, keeps, keepsAll, firstNot}
 use Rattle.sheets.specs.Working.Entries.{filledAt}
 use Rattle.orders.specs.Fillings.{joined, mostFillings, Look, found, none, look, firstFilling}
@@ -39,7 +39,7 @@ hopeless = sheet "004525987 40102810845370000004 03212643000000014800  0 6730054
 
 -- what the search finds; to unfold it is to unfold all that it is computed by
 unfoldable picked : List ℕ → Look (List ℕ)
-unfolding blanked foreign hopeless sheet cell put putAt every any are among same between value valueOf number _isOneOf_ _beginsOneOf_ slotOf cellText cellOf textOf _⟨_⟩ person document leap monthDays gregorian date given rules testOf keeps keepsAll look filledAt passesAt places picks firstPick baseOf pickedOf
+unfolding blanked foreign hopeless sheet cell put putAt every any are among same between value valueOf number _isOneOf_ _beginsOneOf_ slotOf cellText cellOf textOf _⟨_⟩ person document snilsCheck snils pension weighted leap monthDays gregorian date given rules testOf keeps keepsAll look filledAt passesAt places picks firstPick baseOf pickedOf
 picked s = mapLook (pickedOf (baseOf s)) (firstPick (baseOf s))
 
 -- "count 1": S itself
@@ -63,6 +63,17 @@ fourth : firstFilling (sheet "004525987 40102810845370000004 0310064300000001480
     ≡ found 4 (sheet "004525987 40102810845370000004 03100643000000014800 0 7701569743 6730054024 06 770301001 772801001 18201061201010000510 0 00 10000000 00 00")
 unfolding picked
 fourth = first-is (sheet "004525987 40102810845370000004 03100643000000014800 0 7701569743 6730054024 06 770301001 772801001 18201061201010000510 0  10000000  00") refl
+
+-- R-1: S with status 24, 60 and 102 "0", and 109 blank: a pension number that can't exist breaks rule 35 with both entries of 109; with one
+-- that can, the first entry does
+noSnils : firstFilling (sheet "004525987 40102810845370000004 03100643000000014800 0 0 6730054024 24 0 772801001 18201061201010000510 0 0 0 14;12345678900 ") ≡ none 2
+unfolding picked
+noSnils = first-is (sheet "004525987 40102810845370000004 03100643000000014800 0 0 6730054024 24 0 772801001 18201061201010000510 0 0 0 14;12345678900 ") refl
+
+snils1 : firstFilling (sheet "004525987 40102810845370000004 03100643000000014800 0 0 6730054024 24 0 772801001 18201061201010000510 0 0 0 14;12345678964 ")
+    ≡ found 1 (sheet "004525987 40102810845370000004 03100643000000014800 0 0 6730054024 24 0 772801001 18201061201010000510 0 0 0 14;12345678964 0")
+unfolding picked
+snils1 = first-is (sheet "004525987 40102810845370000004 03100643000000014800 0 0 6730054024 24 0 772801001 18201061201010000510 0 0 0 14;12345678964 ") refl
 
 -- class B, with all that can be filled blank
 ofB : firstFilling (sheet "044525000  40204810000000000000   6730054024   772801001      ")

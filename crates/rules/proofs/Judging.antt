@@ -123,7 +123,7 @@ place g x t b d y =
     ∷ getD x 8 false ∷ getD d 0 false ∷ getD y 1 false ∷ getD t 1 false ∷ getD t 2 false
     ∷ getD t 3 false ∷ getD x 9 false ∷ getD t 4 false ∷ getD t 5 false ∷ getD d 1 false
     ∷ getD d 2 false ∷ getD t 6 false ∷ getD x 10 false ∷ getD b 1 false ∷ getD t 7 false
-    ∷ getD y 2 false ∷ getD d 3 false ∷ getD d 4 false ∷ getD y 3 false ∷ []
+    ∷ getD y 2 false ∷ getD d 3 false ∷ getD d 4 false ∷ getD y 3 false ∷ getD d 5 false ∷ []
 
 pub placed : (f : Facts) (g x t b d y : List Bool) → g ≡ generalOn f → x ≡ map (holds f) fixedRules → t ≡ map (holds f) statusRules → b ≡ map (holds f) basisRules → d ≡ map (holds f) documentRules → y ≡ map (holds f) dayRules → place g x t b d y ≡ outcomesOn f
 unfolding holds
@@ -169,7 +169,7 @@ counted-field s n k (r ∷ rs) c l =
 abbrev table : List ℕ
 table =
     0 ∷ 14 ∷ 15 ∷ 17 ∷ 101 ∷ 17 ∷ 0 ∷ 22 ∷ 60 ∷ 61 ∷ 101 ∷ 102 ∷ 103 ∷ 104 ∷ 105 ∷ 106 ∷ 107 ∷ 108 ∷ 109 ∷ 17 ∷ 17 ∷ 22 ∷ 22 ∷ 60 ∷ 60
-    ∷ 108 ∷ 108 ∷ 102 ∷ 104 ∷ 106 ∷ 107 ∷ 109 ∷ 108 ∷ 108 ∷ 109 ∷ []
+    ∷ 108 ∷ 108 ∷ 102 ∷ 104 ∷ 106 ∷ 107 ∷ 109 ∷ 108 ∷ 108 ∷ 109 ∷ 108 ∷ []
 
 table-field : (s : Sheet) (n : ℕ) → getD (0 ∷ fieldsOf s rules) n 0 ≡ fieldOf rules n s
 unfolding fieldOf fieldsOf rules

@@ -21,9 +21,9 @@ use Rattle.rules.specs.Examples.{Change, _≔_, accepted, broken, sheetW
 numbers : List ℕ
 numbers =
     1 ∷ 2 ∷ 3 ∷ 4 ∷ 5 ∷ 6 ∷ 7 ∷ 8 ∷ 9 ∷ 10 ∷ 11 ∷ 12 ∷ 13 ∷ 14 ∷ 15 ∷ 16 ∷ 17 ∷ 18 ∷ 19 ∷ 20 ∷ 21 ∷ 22 ∷ 23 ∷ 24 ∷ 25
-    ∷ 26 ∷ 27 ∷ 28 ∷ 29 ∷ 30 ∷ 31 ∷ 32 ∷ 33 ∷ 34 ∷ []
+    ∷ 26 ∷ 27 ∷ 28 ∷ 29 ∷ 30 ∷ 31 ∷ 32 ∷ 33 ∷ 34 ∷ 35 ∷ []
 
--- the rules are numbered 1 to 34, in turn
+-- the rules are numbered 1 to 35, in turn
 numbered : map (λ (r : Rule). r .number) rules ≡ numbers
 unfolding rules numbers
 numbered = refl
@@ -132,7 +132,8 @@ turns =
     ∷ turn ((109 ≔ "00") ∷ []) (broken 109 31) (31 ∷ 34 ∷ []) refl refl
     ∷ turn (customs ++ ((106 ≔ "ТД") ∷ (109 ≔ "00") ∷ [])) (broken 108 32) (32 ∷ 34 ∷ []) refl refl
     ∷ turn (customs ++ ((106 ≔ "00") ∷ [])) (broken 108 33) (33 ∷ 34 ∷ []) refl refl
-    ∷ turn (customs ++ ((109 ≔ "00") ∷ [])) (broken 109 34) (34 ∷ []) refl refl
+    ∷ turn (customs ++ ((108 ≔ "14;12345678900") ∷ (109 ≔ "00") ∷ [])) (broken 109 34) (34 ∷ 35 ∷ []) refl refl
+    ∷ turn ((108 ≔ "14;12345678900") ∷ []) (broken 108 35) (35 ∷ []) refl refl
     ∷ []
 
 -- Where a rule can't be broken with the one before it, the last that it can be broken with.

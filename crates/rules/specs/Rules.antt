@@ -1,4 +1,4 @@
--- Classes and rules 1 to 34 (document 01, "Rules"), judged knowing sheets only. Assumes nothing.
+-- Classes and rules 1 to 35 (document 01, "Rules"; rule 35 is R-1), judged knowing sheets only. Assumes nothing.
 use mathlib.Core.Bool.{Bool, true, not, cond, _&&_, _||_}
 use mathlib.Core.List.{List, [], _∷_, _++_, map}
 use Prim.Native.Nat.{ℕ}
@@ -6,7 +6,7 @@ use Prim.Native.String.{String}
 use lib.Dec.{eqb}
 use Rattle.texts.specs.Texts.{every, between, blank, _is_, _isOneOf_, _begins_, _beginsOneOf_}
 use Rattle.sheets.specs.Sheet.{Sheet, fieldIn, slotOf, given, _⟨_⟩}
-use Rattle.sheets.specs.Forms.{_⇒_, bik, account, uin, code4, foreignCode, inn10, inn12, inn, digits5, digits10, digits12, kpp, kbk, oktmo, office, letterPair, person, document, date}
+use Rattle.sheets.specs.Forms.{_⇒_, bik, account, uin, code4, foreignCode, inn10, inn12, inn, digits5, digits10, digits12, kpp, kbk, oktmo, office, letterPair, person, document, pension, date}
 use Rattle.sheets.specs.Lists.{bankA, accountsA, banksB, accountB, accountsB, account03100, account03212, statuses, customsGroup, treasuryGroup, courtsGroup, personalGroup, wantInn, wantTen, wantTwelve, wantZero}
 use Rattle.rules.specs.declared.class.Class.{Class}
 use Rattle.rules.specs.declared.class.Class.the-variants.{A, B, O}
@@ -149,6 +149,9 @@ rule33 s = s ⟨ 106 ⟩ is "00" ⇒ s ⟨ 108 ⟩ is "00"
 abbrev pub rule34 : Sheet → Bool
 rule34 s = (s ⟨ 109 ⟩ is "00" ⇒ s ⟨ 106 ⟩ is "00") && (s ⟨ 106 ⟩ is "00" ⇒ s ⟨ 109 ⟩ is "00")
 
+abbrev pub rule35 : Sheet → Bool
+rule35 s = pension (s ⟨ 108 ⟩)
+
 -- ---- the rules as data: number, "the field in brackets", test
 
 pub record Rule : Type 0 where
@@ -199,6 +202,7 @@ special =
     ∷ rule 32 108 rule32
     ∷ rule 33 108 rule33
     ∷ rule 34 109 rule34
+    ∷ rule 35 108 rule35
     ∷ []
 
 abbrev pub forBudget : Rule → Rule
@@ -211,7 +215,7 @@ rules = general ++ map forBudget special
 abbrev pub order : List ℕ
 order =
     1 ∷ 2 ∷ 3 ∷ 4 ∷ 5 ∷ 6 ∷ 7 ∷ 8 ∷ 9 ∷ 10 ∷ 11 ∷ 12 ∷ 13 ∷ 14 ∷ 15 ∷ 16 ∷ 17 ∷ 18 ∷ 19 ∷ 20 ∷ 21 ∷ 22 ∷ 23 ∷ 24 ∷ 25
-    ∷ 26 ∷ 27 ∷ 28 ∷ 29 ∷ 30 ∷ 31 ∷ 32 ∷ 33 ∷ 34 ∷ []
+    ∷ 26 ∷ 27 ∷ 28 ∷ 29 ∷ 30 ∷ 31 ∷ 32 ∷ 33 ∷ 34 ∷ 35 ∷ []
 
 -- the test and the field of the rule with a number
 unfoldable pub testOf : List Rule → ℕ → Sheet → Bool

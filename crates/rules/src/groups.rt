@@ -77,7 +77,7 @@ pub(crate) fn basis_outcomes(f: Facts) -> [bool; 2]
     [rules::keeps15(f), rules::keeps29(f)]
 }
 
-pub(crate) fn document_outcomes(f: Facts) -> [bool; 5]
+pub(crate) fn document_outcomes(f: Facts) -> [bool; 6]
     ensures { λ r. ⌜ r ≡ map (holds f) documentRules ⌝ }
 {
     [
@@ -86,6 +86,7 @@ pub(crate) fn document_outcomes(f: Facts) -> [bool; 5]
         rules::keeps26(f),
         rules::keeps32(f),
         rules::keeps33(f),
+        rules::keeps35(f),
     ]
 }
 

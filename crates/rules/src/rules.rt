@@ -2,7 +2,7 @@
 ghost use mathlib.Core.Path.{_≡_};
 ghost use Rattle.sheets.specs.Sheet.{given};
 ghost use Rattle.rules.specs.Rules.{firstBlank, needed, rules, fieldOf};
-ghost use Rattle.rules.specs.Working.Tests.{suits, on1, on2, on3, on4, on5, on6, on7, on8, on9, on10, on11, on12, on13, on14, on15, on16, on17, on18, on19, on20, on21, on22, on23, on24, on25, on26, on27, on28, on29, on30, on31, on32, on33, on34};
+ghost use Rattle.rules.specs.Working.Tests.{suits, on1, on2, on3, on4, on5, on6, on7, on8, on9, on10, on11, on12, on13, on14, on15, on16, on17, on18, on19, on20, on21, on22, on23, on24, on25, on26, on27, on28, on29, on30, on31, on32, on33, on34, on35};
 use crate::class::is_ordinary;
 use sheets::facts::Facts;
 use sheets::facts::Payer;
@@ -17,7 +17,7 @@ use texts::parts::wide;
 pub struct Rule(pub u8);
 
 // "The field in brackets", by the rule's number; rule 6 names the first blank one.
-const RULE_FIELDS: [u8; 35] = [
+const RULE_FIELDS: [u8; 36] = [
     0,
     14,
     15,
@@ -53,6 +53,7 @@ const RULE_FIELDS: [u8; 35] = [
     108,
     108,
     109,
+    108,
 ];
 
 const NEEDED: [u8; 12] = [3, 4, 5, 6, 7, 8, 9, 10, 11, 12, 13, 14];
@@ -280,6 +281,12 @@ pub(crate) fn keeps34(f: Facts) -> bool
     ensures { λ r. ⌜ r ≡ on34 f ⌝ }
 {
     (!f.day.zeros | f.basis.zeros) & (!f.basis.zeros | f.day.zeros)
+}
+
+pub(crate) fn keeps35(f: Facts) -> bool
+    ensures { λ r. ⌜ r ≡ on35 f ⌝ }
+{
+    f.document.pension
 }
 
 // The field of the first blank one of some slots, 0 where none is.

@@ -9,7 +9,7 @@ use lib.Dec.{leb, ltb, eqb}
 use lib.ListN.{length, getD, List·getD-append, List·getD-eq-default}
 use Rattle.texts.specs.Quoted.{Text, words}
 use Rattle.texts.specs.Texts.{every, any, are, among, same, between, valueOf, value, number, _isOneOf_}
-use Rattle.sheets.specs.Forms.{person, document, date}
+use Rattle.sheets.specs.Forms.{person, document, pension, date}
 use Rattle.sheets.specs.Lists.{statuses, letterPairs, numbersOf, statusTexts, basisTexts, zeroTexts}
 use Rattle.sheets.specs.Working.Facts.{groupsBy, groupsOf, wantedBy, standingBy, standingOf, basisOf, documentOf, dayOf}
 use Rattle.sheets.specs.declared.facts.Standing.{Standing}
@@ -62,8 +62,8 @@ basis-entry (suc (suc (suc (suc (suc (suc (suc (suc (suc (suc zero)))))))))) = r
 basis-entry (suc (suc (suc (suc (suc (suc (suc (suc (suc (suc (suc zero))))))))))) = refl
 basis-entry (suc (suc (suc (suc (suc (suc (suc (suc (suc (suc (suc (suc k)))))))))))) = past-12 (suc (suc (suc (suc (suc (suc (suc (suc (suc (suc (suc (suc k)))))))))))) (omega arith)
 
-pub document-entry : (k : ℕ) → record { blank = leb 2 k; fit = ltb k 2; person = false; zero = eqb k 0; zeros = eqb k 1 } ≡ documentOf (getD zeroTexts k [])
-unfolding documentOf document person same _isOneOf_ any every between
+pub document-entry : (k : ℕ) → record { blank = leb 2 k; fit = ltb k 2; person = false; pension = true; zero = eqb k 0; zeros = eqb k 1 } ≡ documentOf (getD zeroTexts k [])
+unfolding documentOf document person pension same _isOneOf_ any every between
 document-entry zero = refl
 document-entry (suc zero) = refl
 document-entry (suc (suc k)) =

@@ -1,19 +1,19 @@
 -- What the ways through the functions come to: facts of plain values, of which `search` finds the premises. Assumes nothing.
 use mathlib.Core.Path.{_≡_, refl, ap, sym, _∙_}
-use mathlib.Core.Bool.{Bool, true, false, _&&_}
+use mathlib.Core.Bool.{Bool, true, false, not, cond, _&&_, _||_}
 use mathlib.Core.List.{List, [], _∷_}
 use mathlib.Core.Logic.{_⊎_, inl, inr, ⊎-elim}
-use Prim.Native.Nat.{ℕ, _≤_, _<_}
-use native.Mathlib.Decide.{ℕ-discrete}
+use Prim.Native.Nat.{ℕ, _%_, _≤_, _<_}
+use native.Mathlib.Decide.{ℕ-discrete, decLt}
 use native.Mathlib.Omega.{arith}
-use borrow.Author.Tests.{eq-eqb, ne-eqb}
-use lib.Dec.{eqb, leb}
+use borrow.Author.Tests.{eq-eqb, ne-eqb, lt-ltb, le-ltb, le-leb, lt-leb, not-true, not-false}
+use lib.Dec.{eqb, leb, ltb}
 use lib.ListN.{length}
 use Rattle.texts.specs.Quoted.{Text, bytes}
-use Rattle.texts.specs.Texts.{every, any, are, among, between, same, valueOf, value, number, _is_}
+use Rattle.texts.specs.Texts.{every, any, are, among, between, same, startsWith, digits, valueOf, value, number, _is_}
 use Rattle.texts.proofs.Arms.{AnyOf, arm, outside}
 use Rattle.sheets.specs.Sheet.{textOf}
-use Rattle.sheets.specs.Forms.{foreignCode, inn10, inn12, digits5, digits10, digits12, person, leap, monthDays, gregorian, date}
+use Rattle.sheets.specs.Forms.{foreignCode, inn10, inn12, digits5, digits10, digits12, person, snilsBound, snilsCheck, snils, pension, leap, monthDays, gregorian, date}
 use Rattle.sheets.specs.Lists.{account03100, account03212, statuses, personTypes, numbersOf}
 use Rattle.sheets.specs.Working.Facts.{payerOf, isA, isB, accountOf, groupsBy, standingBy, standingOf, wantedBy, basisOf, documentOf, dayOf, bankingOf, partiesOf, classifiersOf, factsOf, Read}
 use Rattle.sheets.specs.declared.forms.Wanted.{Wanted}
@@ -35,6 +35,37 @@ pub person-is : (t u v : Text) (n : ℕ) (p q : Bool) → u ≡ between t 0 2 �
     → v ≡ between t 2 3 → q ≡ same v (59 ∷ []) → ((p && q) && leb 4 (length t)) ≡ person t
 unfolding person
 person-is t u v n p q e f g h i = cc (persons-are (between t 0 2))
+
+-- snils_check
+pub two-digits : (s : ℕ) → s % 101 % 100 ≡ cond (eqb (s % 101) 100) 0 (s % 101)
+two-digits s =
+    elim (ℕ-discrete (s % 101) 100) [
+      | yes e ↦ simp (eq-eqb (s % 101) 100 e) (omega (arith, e))
+      | no n ↦ simp (ne-eqb (s % 101) 100 n) (omega (arith, n))
+    ]
+
+-- is_snils
+not-above : (a b : ℕ) → leb b a ≡ not (ltb a b)
+not-above a b = elim (decLt a b) [ yes h ↦ simp (lt-ltb a b h, lt-leb b a h) | no h ↦ let k : b ≤ a = omega arith in simp (le-ltb a b k, le-leb b a k) ]
+
+module _ (t : Text) (b : Bool) (e : b ≡ digits 11 t) where
+  pub snils-other : not b ≡ true → false ≡ snils t
+  unfolding snils
+  snils-other h = cc (not-true b h)
+
+  pub snils-these : (u v : Text) (n m k c : ℕ) → not b ≡ false → u ≡ between t 0 9 → n ≡ number 9 u → v ≡ between t 9 11 → m ≡ number 2 v → k ≡ m → c ≡ snilsCheck u → (leb n snilsBound || eqb k c) ≡ snils t
+  unfolding snils
+  snils-these u v n m k c h eu en ev em ek ec = cc (not-false b h, not-above snilsBound n)
+
+-- is_pension
+module _ (t : Text) (b : Bool) (e : b ≡ startsWith t (49 ∷ 52 ∷ 59 ∷ [])) where
+  pub pension-other : not b ≡ true → true ≡ pension t
+  unfolding pension
+  pension-other h = cc (not-true b h)
+
+  pub pension-these : (u : Text) (r : Bool) → not b ≡ false → u ≡ between t 3 25 → r ≡ snils u → r ≡ pension t
+  unfolding pension
+  pension-these u r h eu er = cc (not-false b h)
 
 -- month_days
 pub month-30 : (m y : ℕ) → AnyOf m 4 (6 ∷ 9 ∷ 11 ∷ []) → 30 ≡ monthDays m y

@@ -1,11 +1,11 @@
 -- The forms of texts that several rules ask for. Assumes nothing.
 use mathlib.Core.Bool.{Bool, not, cond, _&&_, _||_}
-use mathlib.Core.List.{[], _∷_}
+use mathlib.Core.List.{List, [], _∷_}
 use Prim.Native.Nat.{ℕ, _%_}
-use lib.Dec.{leb, eqb}
+use lib.Dec.{leb, ltb, eqb}
 use lib.ListN.{length}
 use Rattle.texts.specs.Quoted.{Text}
-use Rattle.texts.specs.Texts.{every, among, between, _is_, _isOneOf_, digits, digitsNotZero, digitsNot00, number}
+use Rattle.texts.specs.Texts.{every, among, between, _is_, _isOneOf_, _begins_, digits, digitsNotZero, digitsNot00, number, weighted}
 use Rattle.sheets.specs.Lists.{letterPairs, personTypes}
 
 infixr 25 _⇒_
@@ -78,6 +78,26 @@ allowed b = ((leb 33 b && leb b 126) || (leb 192 b && leb b 255)) && not (eqb b 
 -- rule 17 of a text: "1 to 15 bytes, each ..; if the third is ";", it must be a person identifier"
 unfoldable pub document : Text → Bool
 document t = ((leb 1 (length t) && leb (length t) 15) && every allowed t) && (between t 2 3 is ";" ⇒ person t)
+
+-- a pension number (R-1): "exactly 11 digits ..; where the first nine digits read as a number above 1001998, the last two must equal the
+-- sum of the nine digits times 9, 8, down to 1, modulo 101, with 100 written 00"
+abbrev pub snilsBound : ℕ
+snilsBound = 1001998
+
+abbrev pub snilsWeights : List ℕ
+snilsWeights = 9 ∷ 8 ∷ 7 ∷ 6 ∷ 5 ∷ 4 ∷ 3 ∷ 2 ∷ 1 ∷ []
+
+unfoldable pub snilsCheck : Text → ℕ
+snilsCheck t = cond (eqb (weighted snilsWeights t % 101) 100) 0 (weighted snilsWeights t % 101)
+
+unfoldable pub snils : Text → Bool
+snils t =
+    digits 11 t
+    && (ltb snilsBound (number 9 (between t 0 9)) ⇒ eqb (number 2 (between t 9 11)) (snilsCheck (between t 0 9)))
+
+-- rule 35 of a text: "an identifier of type 14 has exactly 11 digits after the ";" .."
+unfoldable pub pension : Text → Bool
+pension t = t begins "14;" ⇒ snils (between t 3 25)
 
 -- 109: "DD.MM.YYYY, a Gregorian date of the years 1900 to 2099"
 unfoldable pub leap : ℕ → Bool

@@ -88,6 +88,7 @@ fn document_entry(k: usize) -> Document
         blank: ZERO_COUNT <= k,
         fit: k < ZERO_COUNT,
         person: false,
+        pension: true,
         zero: k == 0,
         zeros: k == 1,
     }

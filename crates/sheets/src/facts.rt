@@ -22,6 +22,7 @@ use crate::forms::is_kpp;
 use crate::forms::is_letter_pair;
 use crate::forms::is_office;
 use crate::forms::is_oktmo;
+use crate::forms::is_pension;
 use crate::forms::is_person;
 use crate::forms::is_uin;
 use crate::forms::wanted_by;
@@ -102,11 +103,12 @@ pub struct Basis {
     pub letters: bool,
 }
 
-// 108: blank, as rule 17 has it, a person identifier, "0", "00".
+// 108: blank, as rule 17 has it, a person identifier, as rule 35 has it, "0", "00".
 pub struct Document {
     pub blank: bool,
     pub fit: bool,
     pub person: bool,
+    pub pension: bool,
     pub zero: bool,
     pub zeros: bool,
 }
@@ -333,6 +335,7 @@ fn document_of(t: &[u8]) -> Document
         blank: t.len() == 0,
         fit: is_document(t),
         person: is_person(t),
+        pension: is_pension(t),
         zero: equals(t, b"0"),
         zeros: equals(t, b"00"),
     }

@@ -1,8 +1,9 @@
 // The forms of texts that several rules ask for.
 ghost use mathlib.Core.Path.{_≡_};
 ghost use Rattle.texts.specs.Texts.{every, same};
-ghost use Rattle.sheets.specs.Forms.{bik, account, uin, code4, foreignCode, inn10, inn12, digits5, digits10, digits12, kpp, kbk, oktmo, office, letterPair, person, allowed, document, leap, monthDays, gregorian, date};
+ghost use Rattle.sheets.specs.Forms.{bik, account, uin, code4, foreignCode, inn10, inn12, digits5, digits10, digits12, kpp, kbk, oktmo, office, letterPair, person, allowed, document, snilsCheck, snils, pension, leap, monthDays, gregorian, date};
 ghost use Rattle.sheets.specs.Working.Facts.{wantedBy};
+use texts::comparisons::begins_with;
 use texts::comparisons::equals;
 use texts::comparisons::is_among;
 use texts::digits::has_digits;
@@ -10,7 +11,10 @@ use texts::digits::has_digits_not_00;
 use texts::digits::has_digits_not_zero;
 use texts::digits::number_2;
 use texts::digits::number_4;
+use texts::digits::number_9;
+use texts::digits::weighted_sum;
 use texts::parts::part;
+use texts::parts::wide;
 
 // The number of a status.
 pub struct Status(pub u8);
@@ -199,6 +203,36 @@ pub(crate) fn is_document(t: &[u8]) -> bool
 {
     let sized = (1 <= t.len()) & (t.len() <= 15);
     (sized & all_allowed(t)) & (!equals(part(t, 2, 3), b";") | is_person(t))
+}
+
+const SNILS_WEIGHTS: [u8; 9] = [9, 8, 7, 6, 5, 4, 3, 2, 1];
+
+// The two last digits of a pension number, by its first nine; 100 is written 00.
+fn snils_check(t: &[u8]) -> usize
+    ensures { λ r. ⌜ r ≡ snilsCheck (now (t .entry)) ⌝ }
+{
+    weighted_sum(&SNILS_WEIGHTS, t) % 101 % 100
+}
+
+fn is_snils(t: &[u8]) -> bool
+    ensures { λ r. ⌜ r ≡ snils (now (t .entry)) ⌝ }
+{
+    if !has_digits(t, 11) {
+        return false;
+    }
+    let nine = part(t, 0, 9);
+    let low = number_9(nine) <= 1001998;
+    low | (wide(number_2(part(t, 9, 11))) == snils_check(nine))
+}
+
+// Rule 35 of a text. One that is no identifier of type 14 pays one comparison.
+pub(crate) fn is_pension(t: &[u8]) -> bool
+    ensures { λ r. ⌜ r ≡ pension (now (t .entry)) ⌝ }
+{
+    if !begins_with(t, b"14;") {
+        return true;
+    }
+    is_snils(part(t, 3, 25))
 }
 
 fn is_leap(y: usize) -> bool

@@ -1,15 +1,19 @@
 -- Texts of digits and their numbers. Assumes nothing.
-use mathlib.Core.Path.{_≡_, refl, ap, sym, _∙_}
+use mathlib.Core.Path.{_≡_, refl, ap, sym, _∙_, subst}
 use mathlib.Core.Bool.{Bool, true, false, not, cond, _&&_, _||_}
 use mathlib.Core.List.{List, [], _∷_, map}
-use Prim.Native.Nat.{ℕ, suc, _+_, _-_, _*_, _^_, _≤_, _<_}
+use Prim.Native.Nat.{ℕ, zero, suc, _+_, _-_, _*_, _^_, _≤_, _<_}
 use native.Mathlib.Omega.{arith}
 use borrow.Author.Tests.{eqb-true, eqb-false, eq-eqb, ne-eqb, le-leb, lt-leb, leb-true, not-true, not-false}
 use borrow.Author.Needs.{needs}
 use lib.Dec.{eqb, leb}
-use lib.ListN.{length, getD}
+use lib.ListN.{length, getD, take, drop, drop-of-length-le}
+use lib.Pow.{pow-add}
+use native.Mathlib.Nat.{mul-le-mul}
+use lib.Seq.{drop-cons, drop-nil}
+use native.Mathlib.Numerals.{add-one}
 use Rattle.texts.proofs.Bools.{both}
-use Rattle.texts.specs.Texts.{every, any, are, among, same, between, startsWith, digit, digits, digitsNotZero, digitsNot00, valueOf, value, number}
+use Rattle.texts.specs.Texts.{every, any, are, among, same, between, startsWith, digit, digits, digitsNotZero, digitsNot00, valueOf, value, number, weighted}
 
 -- ---- the digit tests of the code
 
@@ -54,76 +58,100 @@ pub value-low : (b : ℕ) → b < 48 → 0 ≡ valueOf b
 unfolding valueOf
 value-low b h = simp (lt-leb 48 b h)
 
--- ---- the number of a text of two, four or five digits, by its bytes
+-- ---- value_of: what the digits up to i make, and what is left from i
 
-sized : (n : ℕ) (t : List ℕ) (b : Bool) → b ≡ digits n t → not b ≡ false → length t ≡ n
-sized n t b e h = eqb-true (length t) n (both (eqb (length t) n) (every digit t) (sym e ∙ not-false b h) .0)
+ten-more : (i : ℕ) → 10 ^ (i + 1) ≡ 10 ^ i * 10
+ten-more i = pow-add 10 i 1
 
-value-2 : (t : List ℕ) → length t ≡ 2 → valueOf (getD t 0 0) * 10 + valueOf (getD t 1 0) ≡ value 0 t
+ten-up : (i k : ℕ) → 10 ^ i ≤ 10 ^ (i + k)
+ten-up i zero =
+    let e : i + 0 ≡ i = omega arith in
+    rw e (omega arith)
+ten-up i (suc k) =
+    let e : i + suc k ≡ i + k + 1 = omega arith in
+    rw (e, ten-more (i + k)) (omega (arith, ten-up i k))
+
+-- so many digits fit 64 bits
+ten-most : (i : ℕ) → i ≤ 17 → 10 ^ i ≤ 10 ^ 17
+ten-most i h =
+    let e : i + (17 - i) ≡ 17 = omega arith in
+    subst (λ (k : ℕ). 10 ^ i ≤ 10 ^ k) e (ten-up i (17 - i))
+
+module _ (t : List ℕ) (i n : ℕ) (s : length t ≤ 18) (l : n < 10 ^ i) (h : i < length t) where
+  pub value-shifts : n * 10 < 2 ^ 64
+  value-shifts = omega (arith, ten-most i (omega arith))
+
+  pub value-adds : (m : ℕ) → m ≤ 9 → n * 10 + m < 2 ^ 64
+  value-adds m k = omega (arith, ten-most i (omega arith))
+
+  pub value-more : (x m : ℕ) → value 0 t ≡ value n (drop i t) → (x ≡ valueOf (getD t i 0)) × (x ≤ 9) → m ≡ x
+      → (value 0 t ≡ value (n * 10 + m) (drop (i + 1) t)) × (n * 10 + m < 10 ^ (i + 1))
+  unfolding value
+  value-more x m e v w =
+      let f = w ∙ v .0 in
+      let b = v .1 in
+      (e ∙ rw (add-one, drop-cons t i 0) (ap (λ (k : ℕ). value (n * 10 + k) (drop (suc i) t)) (sym f)), rw (ten-more i) (omega arith))
+
+pub value-done : (t : List ℕ) (i n : ℕ) → value 0 t ≡ value n (drop i t) → n < 10 ^ i → i ≤ length t → length t ≤ i → (n ≡ value 0 t) × (n < 10 ^ length t)
 unfolding value
-value-2 [] h = absurd (omega arith)
-value-2 (a ∷ []) h = absurd (omega arith)
-value-2 (a ∷ b ∷ []) h = omega arith
-value-2 (a ∷ b ∷ c ∷ t) h = absurd (omega arith)
+value-done t i n e l h k =
+    let f : i ≡ length t = omega arith in
+    (sym (e ∙ rw (drop-of-length-le t k)), subst (λ (j : ℕ). n < 10 ^ j) f l)
 
-value-3 : (t : List ℕ) → length t ≡ 3 → (valueOf (getD t 0 0) * 10 + valueOf (getD t 1 0)) * 10 + valueOf (getD t 2 0) ≡ value 0 t
-unfolding value
-value-3 [] h = absurd (omega arith)
-value-3 (a ∷ []) h = absurd (omega arith)
-value-3 (a ∷ b ∷ []) h = absurd (omega arith)
-value-3 (a ∷ b ∷ c ∷ []) h = omega arith
-value-3 (a ∷ b ∷ c ∷ d ∷ t) h = absurd (omega arith)
+-- ---- number_2 and the like
 
-value-4 : (t : List ℕ) → length t ≡ 4 → (valueOf (getD t 0 0) * 10 + valueOf (getD t 1 0)) * 100 + (valueOf (getD t 2 0) * 10 + valueOf (getD t 3 0)) ≡ value 0 t
-unfolding value
-value-4 [] h = absurd (omega arith)
-value-4 (a ∷ []) h = absurd (omega arith)
-value-4 (a ∷ b ∷ []) h = absurd (omega arith)
-value-4 (a ∷ b ∷ c ∷ []) h = absurd (omega arith)
-value-4 (a ∷ b ∷ c ∷ d ∷ []) h = omega arith
-value-4 (a ∷ b ∷ c ∷ d ∷ e ∷ t) h = absurd (omega arith)
+module _ (t : List ℕ) (n : ℕ) (b : Bool) (e : b ≡ digits n t) (h : not b ≡ false) where
+  pub digits-sized : length t ≡ n
+  digits-sized = eqb-true (length t) n (both (eqb (length t) n) (every digit t) (sym e ∙ not-false b h) .0)
 
-value-5 : (t : List ℕ) → length t ≡ 5 → ((valueOf (getD t 0 0) * 10 + valueOf (getD t 1 0)) * 100 + (valueOf (getD t 2 0) * 10 + valueOf (getD t 3 0))) * 10 + valueOf (getD t 4 0) ≡ value 0 t
-unfolding value
-value-5 [] h = absurd (omega arith)
-value-5 (a ∷ []) h = absurd (omega arith)
-value-5 (a ∷ b ∷ []) h = absurd (omega arith)
-value-5 (a ∷ b ∷ c ∷ []) h = absurd (omega arith)
-value-5 (a ∷ b ∷ c ∷ d ∷ []) h = absurd (omega arith)
-value-5 (a ∷ b ∷ c ∷ d ∷ e ∷ []) h = omega arith
-value-5 (a ∷ b ∷ c ∷ d ∷ e ∷ f ∷ t) h = absurd (omega arith)
+  pub digits-short : n ≤ 18 → length t ≤ 18
+  digits-short k = omega (arith, digits-sized)
 
-module _ (t : List ℕ) (v : Bool) (a b x y : ℕ) (xa : a ≡ getD t 0 0) (yb : b ≡ getD t 1 0) (vx : (x ≡ valueOf a) × (x ≤ 9)) (vy : (y ≡ valueOf b) × (y ≤ 9)) where
-  pub number-2-is : v ≡ digits 2 t → not v ≡ false → x * 10 + y ≡ number 2 t
-  number-2-is e h =
-      let p = vx .0 in
-      let q = vy .0 in
-      number-this t 2 v e (x * 10 + y) h (cc (value-2 t (sized 2 t v e h)))
+  pub number-is : (r : ℕ) → (r ≡ value 0 t) × (r < 10 ^ length t) → r ≡ number n t
+  number-is r v = number-this t n b e r h (v .0)
 
-  pub number-3-is : (k c z m : ℕ) → k ≡ x * 10 + y → c ≡ getD t 2 0 → (z ≡ valueOf c) × (z ≤ 9) → m ≡ z → v ≡ digits 3 t → not v ≡ false → k * 10 + m ≡ number 3 t
-  number-3-is k c z m wk zc vz wz e h =
-      let p = vx .0 in
-      let q = vy .0 in
-      let r = vz .0 in
-      number-this t 3 v e (k * 10 + m) h (cc (value-3 t (sized 3 t v e h)))
+  pub number-below : (r : ℕ) → (r ≡ value 0 t) × (r < 10 ^ length t) → r < 10 ^ n
+  number-below r v = subst (λ (j : ℕ). r < 10 ^ j) digits-sized (v .1)
 
-  module _ (c d z u k l : ℕ) (zc : c ≡ getD t 2 0) (ud : d ≡ getD t 3 0) (vz : (z ≡ valueOf c) × (z ≤ 9)) (vu : (u ≡ valueOf d) × (u ≤ 9)) (wk : k ≡ x * 10 + y) (wl : l ≡ z * 10 + u) where
-    pub number-4-is : v ≡ digits 4 t → not v ≡ false → k * 100 + l ≡ number 4 t
-    number-4-is e h =
-        let p = vx .0 in
-        let q = vy .0 in
-        let r = vz .0 in
-        let s = vu .0 in
-        number-this t 4 v e (k * 100 + l) h (cc (value-4 t (sized 4 t v e h)))
+-- ---- weigh
 
-    pub number-5-is : (f w m : ℕ) → f ≡ getD t 4 0 → (w ≡ valueOf f) × (w ≤ 9) → m ≡ w → v ≡ digits 5 t → not v ≡ false → (k * 100 + l) * 10 + m ≡ number 5 t
-    number-5-is f w m ef vw ew e h =
-        let p = vx .0 in
-        let q = vy .0 in
-        let r = vz .0 in
-        let s = vu .0 in
-        let o = vw .0 in
-        number-this t 5 v e ((k * 100 + l) * 10 + m) h (cc (value-5 t (sized 5 t v e h)))
+pub weigh-fits : (w y : ℕ) → w ≤ 255 → y ≤ 9 → w * y ≤ 2295
+weigh-fits w y h k = mul-le-mul h k
+
+-- ---- weighted_sum: the sum up to i, and what is left from i
+
+take-short : (n : ℕ) (l : List ℕ) → length (take n l) ≤ n
+take-short zero l = omega arith
+take-short (suc n) [] = omega arith
+take-short (suc n) (x ∷ xs) = omega (arith, take-short n xs)
+
+pub weights-short : (w l : List ℕ) → w ≡ between l 0 25 → length w ≤ 25
+unfolding between
+weights-short w l e = rw e (take-short 25 l)
+
+weighted-none : (ws : List ℕ) → weighted ws [] ≡ 0
+unfolding weighted
+weighted-none [] = refl
+weighted-none (w ∷ ws) = refl
+
+weighted-step : (ws t : List ℕ) (i : ℕ) → i < length ws → weighted (drop i ws) (drop i t) ≡ getD ws i 0 * valueOf (getD t i 0) + weighted (drop (suc i) ws) (drop (suc i) t)
+unfolding weighted valueOf
+weighted-step [] t i h = absurd (omega arith)
+weighted-step (w ∷ ws) [] zero h = omega (arith, weighted-none ws)
+weighted-step (w ∷ ws) (x ∷ xs) zero h = refl
+weighted-step (w ∷ ws) [] (suc i) h = ap (weighted (drop i ws)) (sym (drop-nil i)) ∙ weighted-step ws [] i (omega arith)
+weighted-step (w ∷ ws) (x ∷ xs) (suc i) h = weighted-step ws xs i (omega arith)
+
+module _ (ws t : List ℕ) (i s : ℕ) (e : weighted ws t ≡ s + weighted (drop i ws) (drop i t)) where
+  pub weighted-more : (b y : ℕ) → i < length ws → b ≡ getD t i 0 → y ≡ getD ws i 0 * valueOf b → weighted ws t ≡ s + y + weighted (drop (i + 1) ws) (drop (i + 1) t)
+  weighted-more b y h eb ey =
+      let f : y ≡ getD ws i 0 * valueOf (getD t i 0) = ey ∙ ap (λ (k : ℕ). getD ws i 0 * valueOf k) eb in
+      let g = weighted-step ws t i h in
+      rw add-one (omega arith)
+
+  pub weighted-done : length ws ≤ i → s ≡ weighted ws t
+  unfolding weighted
+  weighted-done h = sym (e ∙ rw (drop-of-length-le ws h) (omega arith))
 
 pub ruleset numerals =
-    (needs, digits-other, digits-these, zero-other, zero-these, 00-other, 00-these, number-other, value-in, value-high, value-low, number-2-is, number-3-is, number-4-is, number-5-is)
+    (needs, digits-other, digits-these, zero-other, zero-these, 00-other, 00-these, number-other, value-in, value-high, value-low, digits-short, number-is, number-below)

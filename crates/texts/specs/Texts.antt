@@ -87,3 +87,9 @@ value a (x ∷ xs) = value (a * 10 + valueOf x) xs
 -- the number that n digits are; 10 ^ n, which is none of those, where the text is not n digits
 unfoldable pub number : ℕ → Text → ℕ
 number n t = cond (digits n t) (value 0 t) (10 ^ n)
+
+-- the sum of a text's digits, each times its weight
+unfoldable pub weighted : List ℕ → Text → ℕ
+weighted [] t = 0
+weighted (w ∷ ws) [] = 0
+weighted (w ∷ ws) (x ∷ xs) = w * valueOf x + weighted ws xs

@@ -19,7 +19,7 @@ pub fn equals(t: &[u8], u: &[u8]) -> bool
     good
 }
 
-pub(crate) fn begins_with(t: &[u8], u: &[u8]) -> bool
+pub fn begins_with(t: &[u8], u: &[u8]) -> bool
     ensures { λ r. ⌜ r ≡ startsWith (now (t .entry)) (now (u .entry)) ⌝ }
 {
     equals(part(t, 0, u.len()), u)

@@ -1,10 +1,12 @@
 // Texts of digits, and the numbers that they are.
 ghost use mathlib.Core.Path.{_≡_};
-ghost use Prim.Native.Nat.{_≤_};
-ghost use Rattle.texts.specs.Texts.{every, digit, digits, digitsNotZero, digitsNot00, valueOf, number};
+ghost use Prim.Native.Nat.{_*_, _≤_, _<_, _^_};
+ghost use lib.ListN.{length};
+ghost use Rattle.texts.specs.Texts.{every, digit, digits, digitsNotZero, digitsNot00, valueOf, value, number, weighted, between};
 use crate::comparisons::all_are;
 use crate::comparisons::begins_with;
 use crate::parts::at;
+use crate::parts::part;
 use crate::parts::wide;
 
 fn is_digit(b: u8) -> bool
@@ -63,14 +65,28 @@ fn digit_value(b: u8) -> u8
     0
 }
 
-// The number of two, three, four or five digits; a power of ten where the text is not so many digits.
+// The number that the digits of a short text make.
+fn value_of(t: &[u8]) -> usize
+    requires { ⌜ length (now t) ≤ 18 ⌝ }
+    ensures { λ r. ⌜ (r ≡ value 0 (now (t .entry))) × (r < 10 ^ length (now (t .entry))) ⌝ }
+{
+    let mut n: usize = 0;
+    let mut i = 0;
+    while i < t.len() {
+        n = n * 10 + wide(digit_value(t[i]));
+        i += 1;
+    }
+    n
+}
+
+// The number of so many digits; a power of ten where the text is not so many.
 pub fn number_2(t: &[u8]) -> u8
     ensures { λ r. ⌜ r ≡ number 2 (now (t .entry)) ⌝ }
 {
     if !has_digits(t, 2) {
         return 100;
     }
-    digit_value(at(t, 0)) * 10 + digit_value(at(t, 1))
+    value_of(t) as u8
 }
 
 pub fn number_3(t: &[u8]) -> usize
@@ -79,8 +95,7 @@ pub fn number_3(t: &[u8]) -> usize
     if !has_digits(t, 3) {
         return 1000;
     }
-    let high = digit_value(at(t, 0)) * 10 + digit_value(at(t, 1));
-    wide(high) * 10 + wide(digit_value(at(t, 2)))
+    value_of(t)
 }
 
 pub fn number_4(t: &[u8]) -> usize
@@ -89,9 +104,7 @@ pub fn number_4(t: &[u8]) -> usize
     if !has_digits(t, 4) {
         return 10000;
     }
-    let high = digit_value(at(t, 0)) * 10 + digit_value(at(t, 1));
-    let low = digit_value(at(t, 2)) * 10 + digit_value(at(t, 3));
-    wide(high) * 100 + wide(low)
+    value_of(t)
 }
 
 pub fn number_5(t: &[u8]) -> usize
@@ -100,7 +113,35 @@ pub fn number_5(t: &[u8]) -> usize
     if !has_digits(t, 5) {
         return 100000;
     }
-    let high = digit_value(at(t, 0)) * 10 + digit_value(at(t, 1));
-    let low = digit_value(at(t, 2)) * 10 + digit_value(at(t, 3));
-    (wide(high) * 100 + wide(low)) * 10 + wide(digit_value(at(t, 4)))
+    value_of(t)
+}
+
+pub fn number_9(t: &[u8]) -> usize
+    ensures { λ r. ⌜ r ≡ number 9 (now (t .entry)) ⌝ }
+{
+    if !has_digits(t, 9) {
+        return 1000000000;
+    }
+    value_of(t)
+}
+
+// A digit times its weight.
+fn weigh(weight: u8, b: u8) -> usize
+    ensures { λ r. ⌜ (r ≡ weight * valueOf b) × (r ≤ 2295) ⌝ }
+{
+    wide(weight) * wide(digit_value(b))
+}
+
+// The sum of a text's digits, each times its weight; 25 weights count, as many as a text has bytes.
+pub fn weighted_sum(weights: &[u8], t: &[u8]) -> usize
+    ensures { λ r. ⌜ r ≡ weighted (between (now (weights .entry)) 0 25) (now (t .entry)) ⌝ }
+{
+    let w = part(weights, 0, 25);
+    let mut sum: usize = 0;
+    let mut i = 0;
+    while i < w.len() {
+        sum += weigh(w[i], at(t, i));
+        i += 1;
+    }
+    sum
 }

@@ -104,9 +104,78 @@ fn document_bytes(random: &mut Random, text: &mut Text, length: usize) {
     }
 }
 
+/// The greatest nine digits that rule 35 takes with any last two.
+pub const SNILS_BOUND: u32 = 1_001_998;
+
+/// What rule 35's weighted sum of nine digits leaves modulo 101.
+#[must_use]
+pub fn snils_remainder(nine: &[u8]) -> u32 {
+    let weighted = |(digit, weight): (&u8, u32)| u32::from(digit - b'0') * weight;
+    nine.iter().zip((1..=9).rev()).map(weighted).sum::<u32>() % 101
+}
+
+/// Nine digits: near the bound, by what their sum leaves, or any.
+fn nine(random: &mut Random) -> Text {
+    let edge = random.below(4) as u32;
+    match random.below(8) {
+        0 => Text::new(format!("{:09}", SNILS_BOUND + 2 - edge).as_bytes()),
+        1 => Text::new(format!("{:09}", random.below(1_001_999)).as_bytes()),
+        2 | 3 => {
+            let wanted = random.pick(&[0, 1, 9, 10, 99, 100]);
+            loop {
+                let text = digits(random, 9);
+                if snils_remainder(&text) == wanted {
+                    break text;
+                }
+            }
+        }
+        _ => digits(random, 9),
+    }
+}
+
+/// An identifier of type 14 with a pension number that rule 35 keeps.
+pub fn snils(random: &mut Random) -> Text {
+    let nine = nine(random);
+    let last = snils_remainder(&nine) % 100;
+    snils_of(&nine, last)
+}
+
+/// The same, and any last two digits, one more than the right ones, or another number of digits.
+fn near_snils(random: &mut Random) -> Text {
+    let nine = nine(random);
+    let right = snils_remainder(&nine) % 100;
+    let mut text = match random.below(4) {
+        0 => snils_of(&nine, (right + 1) % 100),
+        _ => snils_of(&nine, random.below(100) as u32),
+    };
+    match random.below(8) {
+        0 => text.push(b'0'),
+        1 => text = Text::new(&text[..text.len() - 1]),
+        2 => {
+            let place = 3 + random.below(11);
+            text.bytes_mut()[place] = random.pick(b"/:A;");
+        }
+        _ => {}
+    }
+    text
+}
+
+fn snils_of(nine: &Text, last: u32) -> Text {
+    let mut text = Text::new(b"14;");
+    let two = format!("{last:02}");
+    nine.iter()
+        .chain(two.as_bytes())
+        .for_each(|&digit| text.push(digit));
+    text
+}
+
 /// A person identifier of field 108.
 pub fn person(random: &mut Random) -> Text {
-    let mut text = Text::new(random.pick(&PERSONS).as_bytes());
+    let kind = random.pick(&PERSONS);
+    if kind == "14" || random.percent(10) {
+        return snils(random);
+    }
+    let mut text = Text::new(kind.as_bytes());
     text.push(b';');
     let length = 4 + random.below(12);
     document_bytes(random, &mut text, length);
@@ -282,6 +351,7 @@ pub fn text_for(random: &mut Random, field: u8) -> Text {
         106 if random.percent(50) => pair(random),
         106 => near_pair(random),
         108 if random.percent(40) => person(random),
+        108 if random.percent(20) => near_snils(random),
         108 => near_document(random),
         109 if random.percent(40) => date(random),
         _ => near_date(random),

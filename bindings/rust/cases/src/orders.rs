@@ -250,7 +250,7 @@ pub fn class_b(random: &mut Random) -> Texts {
     with_forms(random, &forms)
 }
 
-/// Forms that keep rules 21 to 34.
+/// Forms that keep rules 21 to 35.
 fn kept_forms(random: &mut Random, account: Account, status: &'static str) -> Forms {
     let customs = matches!(status, "06" | "07" | "16" | "17" | "28" | "30" | "32");
     let code = match (status, account) {

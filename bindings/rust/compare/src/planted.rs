@@ -1,6 +1,6 @@
 //! Differences planted on purpose: each must be found.
 
-use cases::{slot_of, Texts};
+use cases::{slot_of, snils_remainder, Texts};
 use kieselbrot::{Class, Completed, Message, Posted, Refusal};
 
 use crate::library::{Library, Reference};
@@ -18,6 +18,10 @@ pub enum Planted {
     Hyphen,
     /// The last byte of a sheet is not looked at.
     LastPad,
+    /// Rule 35 does not ask at the bound's neighbour: 1001999 is not above it.
+    Bound,
+    /// Rule 35 refuses a remainder of 100, which is not written 00.
+    Leaves100,
     /// A lower revision is stored: the last arrival wins.
     LastArrival,
     /// An equal revision with another text is stored.
@@ -39,12 +43,14 @@ pub enum Planted {
 }
 
 /// All of them.
-pub const PLANTS: [Planted; 14] = [
+pub const PLANTS: [Planted; 16] = [
     Planted::Century,
     Planted::Status01,
     Planted::Without03252,
     Planted::Hyphen,
     Planted::LastPad,
+    Planted::Bound,
+    Planted::Leaves100,
     Planted::LastArrival,
     Planted::ClashStored,
     Planted::RevisionFirst,
@@ -62,21 +68,32 @@ impl Planted {
         let mut seen = sheet.to_vec();
         let slot = |field| 26 * slot_of(field)..26 * (slot_of(field) + 1);
         match self {
+            _ if sheet.len() != 390 => {}
             Self::Century if text(sheet, 109) == b"29.02.1900" => seen[slot(109)][2] = b'8',
             Self::Without03252 if text(sheet, 17).starts_with(b"03252") => {
                 seen[slot(17)][5] = b'3';
             }
-            Self::Hyphen if sheet.len() == 390 => {
+            Self::Hyphen => {
                 let hyphens = seen[slot(108)].iter_mut().filter(|byte| **byte == b'-');
                 hyphens
                     .skip(usize::from(sheet[slot(108)][0] == b'-'))
                     .for_each(|byte| *byte = b'+');
             }
-            Self::LastPad if sheet.len() == 390 && text(sheet, 109).len() < 25 => seen[389] = 0,
+            Self::Bound if text(sheet, 108).starts_with(b"14;001001999") => {
+                seen[slot(108)][12] = b'8';
+            }
+            Self::Leaves100 if leaves_100(text(sheet, 108)) => seen[slot(108)][14] = b'1',
+            Self::LastPad if text(sheet, 109).len() < 25 => seen[389] = 0,
             _ => {}
         }
         seen
     }
+}
+
+/// An identifier of type 14 whose nine digits leave 100.
+fn leaves_100(text: &[u8]) -> bool {
+    let nine = text.strip_prefix(b"14;").and_then(|digits| digits.get(..9));
+    nine.is_some_and(|nine| nine.iter().all(u8::is_ascii_digit) && snils_remainder(nine) == 100)
 }
 
 /// A field's text, or nothing if there is no such place.

@@ -19,7 +19,28 @@ pub struct Reached {
     counts: BTreeMap<usize, u64>,
     hopeless: BTreeMap<usize, u64>,
     sets: BTreeMap<u16, u64>,
+    pensions: BTreeMap<(Side, bool), u64>,
 }
+
+/// What the first nine of a pension number's eleven digits are to rule 35.
+#[derive(Clone, Copy, Debug, PartialEq, Eq, PartialOrd, Ord)]
+enum Side {
+    Below,
+    AtTheBound,
+    JustAbove,
+    Leaves0,
+    Leaves100,
+    Above,
+}
+
+const SIDES: [Side; 6] = [
+    Side::Below,
+    Side::AtTheBound,
+    Side::JustAbove,
+    Side::Leaves0,
+    Side::Leaves100,
+    Side::Above,
+];
 
 /// What an accepted sheet had: a listed text of a field, by its place in the list.
 #[derive(Clone, Copy, Debug, PartialEq, Eq, PartialOrd, Ord)]
@@ -42,9 +63,9 @@ const ANSWERS: [(&str, &[u8]); 7] = [
 ];
 
 /// The field that each rule names; rule 6 names twelve.
-const FIELD_OF_RULE: [u8; 34] = [
+const FIELD_OF_RULE: [u8; 35] = [
     14, 15, 17, 101, 17, 0, 22, 60, 61, 101, 102, 103, 104, 105, 106, 107, 108, 109, 17, 17, 22,
-    22, 60, 60, 108, 108, 102, 104, 106, 107, 109, 108, 108, 109,
+    22, 60, 60, 108, 108, 102, 104, 106, 107, 109, 108, 108, 109, 108,
 ];
 
 /// The fields that rule 6 names.
@@ -75,6 +96,7 @@ impl Reached {
     /// A verdict.
     pub fn check(&mut self, sheet: &[u8], answer: Result<Class, Refusal>) {
         self.answer("check", answer);
+        self.pension(sheet, answer);
         let Ok(class) = answer else { return };
         self.accept(class, Accepted::Class);
         if class != Class::O {
@@ -82,15 +104,40 @@ impl Reached {
         }
     }
 
+    /// A budget payment whose last rule is 35, with eleven digits behind `14;`.
+    fn pension(&mut self, sheet: &[u8], answer: Result<Class, Refusal>) {
+        let kept = match answer {
+            Ok(Class::A | Class::B) => true,
+            Err(Refusal::Broken { rule: 35, .. }) => false,
+            _ => return,
+        };
+        let Some(digits) = text_of(sheet, 108).strip_prefix(b"14;") else {
+            return;
+        };
+        if digits.len() != 11 || !digits.iter().all(u8::is_ascii_digit) {
+            return;
+        }
+        let nine = &digits[..9];
+        let number = nine
+            .iter()
+            .fold(0, |number, digit| number * 10 + u32::from(digit - b'0'));
+        let side = match (number, cases::snils_remainder(nine)) {
+            (cases::SNILS_BOUND, _) => Side::AtTheBound,
+            (0..cases::SNILS_BOUND, _) => Side::Below,
+            (1_001_999, _) => Side::JustAbove,
+            (_, 0) => Side::Leaves0,
+            (_, 100) => Side::Leaves100,
+            _ => Side::Above,
+        };
+        *self.pensions.entry((side, kept)).or_default() += 1;
+    }
+
     fn accept(&mut self, class: Class, what: Accepted) {
         *self.accepted.entry((class, what)).or_default() += 1;
     }
 
     fn accept_texts(&mut self, class: Class, sheet: &[u8]) {
-        let text = |field| {
-            let slot = &sheet[26 * cases::slot_of(field)..];
-            &slot[1..][..usize::from(slot[0])]
-        };
+        let text = |field| text_of(sheet, field);
         let place = |list: &[&str], text: &[u8]| {
             list.iter()
                 .position(|entry| text.starts_with(entry.as_bytes()))
@@ -144,6 +191,7 @@ impl Reached {
         add(&mut self.counts, &other.counts);
         add(&mut self.hopeless, &other.hopeless);
         add(&mut self.sets, &other.sets);
+        add(&mut self.pensions, &other.pensions);
         for (sum, more) in self.standings.iter_mut().zip(other.standings) {
             *sum += more;
         }
@@ -163,6 +211,17 @@ impl Reached {
             list.push(((*standing).into(), reached));
         }
         self.list_accepted(&mut list);
+        for side in SIDES {
+            let reached = |kept| get(&self.pensions, (side, kept));
+            list.push((format!("a pension number: {side:?}, kept"), reached(true)));
+            // At and below the bound every pension number of eleven digits keeps rule 35.
+            if side > Side::AtTheBound {
+                list.push((
+                    format!("a pension number: {side:?}, broken"),
+                    reached(false),
+                ));
+            }
+        }
         for count in COUNTS {
             list.push((format!("count {count}"), get(&self.counts, count)));
         }
@@ -225,6 +284,12 @@ impl Reached {
             .chain(strange)
             .collect()
     }
+}
+
+/// The text of a field of a well-formed sheet.
+fn text_of(sheet: &[u8], field: u8) -> &[u8] {
+    let slot = &sheet[26 * cases::slot_of(field)..];
+    &slot[1..][..usize::from(slot[0])]
 }
 
 impl fmt::Display for Reached {

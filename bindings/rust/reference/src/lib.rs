@@ -2,8 +2,9 @@
 //! completion, the message writer and the report of one program.
 //!
 //! This is a second implementation, written from the paper "Budget payment
-//! orders under 107n: draft, check and completion" alone. Doc comments quote
-//! the sentence of the paper they follow.
+//! orders under 107n: draft, check and completion" and its change requests
+//! alone. Doc comments quote the sentence of the paper or the request they
+//! follow. Of the requests it has R-1 (pension numbers).
 //!
 //! Every public function is total, and "Refusals change no buffer".
 

@@ -66,6 +66,13 @@ pub(crate) const BASES: [&[u8]; 12] = [
     b"\xCA\xDD",
 ];
 
+/// The greatest nine digits of a pension number that rule 35 takes with any last
+/// two: "a number above 1001998".
+const SNILS_UNCHECKED_MAX: u32 = 1_001_998;
+
+/// Rule 35's weights: "the nine digits times 9, 8, down to 1".
+const SNILS_WEIGHTS: [u32; 9] = [9, 8, 7, 6, 5, 4, 3, 2, 1];
+
 /// The number of a rule.
 #[derive(Clone, Copy)]
 struct Rule(u8);
@@ -192,17 +199,20 @@ impl Basis {
 
 /// The forms of field 108 (rule 17), as far as later rules tell them apart.
 #[derive(Clone, Copy, PartialEq, Eq)]
-enum Document {
+enum Document<'a> {
     Zero,
     DoubleZero,
+    /// A person identifier of type 14, with what stands after its ";".
+    Snils(&'a [u8]),
+    /// A person identifier of another type.
     Person,
     Other,
 }
 
-impl Document {
+impl<'a> Document<'a> {
     /// Rule 17: "1 to 15 bytes, each 33 to 126 or 192 to 255 and not 45 (the
     /// hyphen). If the third is ";", it must be a person identifier".
-    fn parse(text: &[u8]) -> Option<Self> {
+    fn parse(text: &'a [u8]) -> Option<Self> {
         let allowed = |byte: &u8| matches!(byte, 33..=44 | 46..=126 | 192..=255);
         if !(1..=15).contains(&text.len()) || !text.iter().all(allowed) {
             return None;
@@ -210,7 +220,9 @@ impl Document {
         match text {
             ZERO => Some(Self::Zero),
             DOUBLE_ZERO => Some(Self::DoubleZero),
-            [_, _, b';', ..] => is_person_identifier(text).then_some(Self::Person),
+            [_, _, b';', ..] if !is_person_identifier(text) => None,
+            [b'1', b'4', b';', snils @ ..] => Some(Self::Snils(snils)),
+            [_, _, b';', ..] => Some(Self::Person),
             _ => Some(Self::Other),
         }
     }
@@ -226,6 +238,18 @@ fn is_person_identifier(text: &[u8]) -> bool {
         number(&[first, second]),
         Some(1..=14 | 22 | 24..=26 | 28..=30)
     )
+}
+
+/// Rule 35: "exactly 11 digits after the ";". Where the first nine digits read as
+/// a number above 1001998, the last two must equal the sum of the nine digits
+/// times 9, 8, down to 1, modulo 101, with 100 written 00".
+fn is_snils(text: &[u8]) -> bool {
+    if !is_digits(text, 11) {
+        return false;
+    }
+    let (nine, last_two) = text.split_at(9);
+    number(nine).is_some_and(|value| value <= SNILS_UNCHECKED_MAX)
+        || number(last_two) == Some(weighted_sum(nine, &SNILS_WEIGHTS) % 101 % 100)
 }
 
 /// The forms of field 109 (rule 18).
@@ -306,6 +330,15 @@ fn number(digits: &[u8]) -> Option<u32> {
     })
 }
 
+/// The sum of the digits, each times its weight.
+fn weighted_sum(digits: &[u8], weights: &[u32]) -> u32 {
+    digits
+        .iter()
+        .zip(weights)
+        .map(|(digit, weight)| u32::from(digit - b'0') * weight)
+        .sum()
+}
+
 /// Refusal 8, naming the field in brackets and the rule.
 const fn broken(field: Field, Rule(rule): Rule) -> Refusal {
     Refusal::Broken {
@@ -333,7 +366,7 @@ pub fn check(sheet: &[u8]) -> Result<Class, Refusal> {
     judge(&Sheet::parse(sheet).ok_or(Refusal::Malformed)?)
 }
 
-/// Rules 1 to 34.
+/// Rules 1 to 35: "Acceptance and completion count 35 among the rules".
 pub(crate) fn judge(sheet: &Sheet<'_>) -> Result<Class, Refusal> {
     let class = classify(sheet)?;
     if class == Class::O {
@@ -382,7 +415,7 @@ fn is_class_b(bik: &[u8], account: &[u8]) -> bool {
             || (marked && begins_with_any(account, &CLASS_B_MARKED_ACCOUNTS)))
 }
 
-/// What rules 5 to 18 find out about a budget payment for rules 19 to 34.
+/// What rules 5 to 18 find out about a budget payment for rules 19 to 35.
 struct Order<'a> {
     class: Class,
     account: &'a [u8],
@@ -393,7 +426,7 @@ struct Order<'a> {
     kbk: &'a [u8],
     basis: Basis,
     customs_office: &'a [u8],
-    document: Document,
+    document: Document<'a>,
     date: Date,
 }
 
@@ -461,7 +494,7 @@ impl<'a> Order<'a> {
         })
     }
 
-    /// Rules 19 to 34: what the fields demand of one another.
+    /// Rules 19 to 35: what the fields demand of one another.
     fn relations(&self) -> Result<(), Refusal> {
         let class_a = self.class == Class::A;
         let treasury = self.account.starts_with(TREASURY);
@@ -531,14 +564,15 @@ impl<'a> Order<'a> {
             (self.date == Date::DoubleZero) == (self.basis == Basis::DoubleZero),
             Field::Date,
             Rule(34),
-        )
+        )?;
+        require(self.keeps_snils(), Field::Document, Rule(35))
     }
 
     /// Rule 25: "a person identifier; or "0" with a 12-digit INN in 60 or a UIN
     /// in 22".
     fn names_person(&self) -> bool {
         match self.document {
-            Document::Person => true,
+            Document::Snils(_) | Document::Person => true,
             Document::Zero => self.payer == Payer::Inn12 || self.code == Code::Uin,
             Document::DoubleZero | Document::Other => false,
         }
@@ -553,6 +587,15 @@ impl<'a> Order<'a> {
             Payer::Foreign => !zero,
             Payer::Inn10 => !zero || self.status == Status(1),
             Payer::Inn12 => zero,
+        }
+    }
+
+    /// Rule 35, "tested after 34": "an identifier of type 14 has exactly 11
+    /// digits after the ";"", and what [`is_snils`] asks of them.
+    fn keeps_snils(&self) -> bool {
+        match self.document {
+            Document::Snils(snils) => is_snils(snils),
+            Document::Zero | Document::DoubleZero | Document::Person | Document::Other => true,
         }
     }
 }

@@ -19,7 +19,7 @@ abbrev pub basisRules : List ℕ
 basisRules = 15 ∷ 29 ∷ []
 
 abbrev pub documentRules : List ℕ
-documentRules = 17 ∷ 25 ∷ 26 ∷ 32 ∷ 33 ∷ []
+documentRules = 17 ∷ 25 ∷ 26 ∷ 32 ∷ 33 ∷ 35 ∷ []
 
 abbrev pub dayRules : List ℕ
 dayRules = 6 ∷ 18 ∷ 31 ∷ 34 ∷ []
@@ -41,7 +41,7 @@ reads =
     ∷ inClass (6 ∷ []) ∷ inClass (3 ∷ 6 ∷ []) ∷ inClass (3 ∷ []) ∷ inClass (4 ∷ 6 ∷ []) ∷ inClass (3 ∷ 4 ∷ 6 ∷ [])
     ∷ inClass (3 ∷ 4 ∷ 6 ∷ 13 ∷ []) ∷ inClass (6 ∷ 13 ∷ []) ∷ inClass (4 ∷ 6 ∷ 7 ∷ []) ∷ inClass (9 ∷ []) ∷ inClass (6 ∷ 11 ∷ [])
     ∷ inClass (6 ∷ 12 ∷ []) ∷ inClass (6 ∷ 14 ∷ []) ∷ inClass (11 ∷ 13 ∷ []) ∷ inClass (11 ∷ 13 ∷ []) ∷ inClass (11 ∷ 14 ∷ [])
-    ∷ []
+    ∷ inClass (13 ∷ []) ∷ []
 
 abbrev pub readsOf : ℕ → List ℕ
 readsOf n = getD reads n []

@@ -134,6 +134,9 @@ on33 f = f .basis .zeros ⇒ f .document .zeros
 abbrev pub on34 : Facts → Bool
 on34 f = (f .day .zeros ⇒ f .basis .zeros) && (f .basis .zeros ⇒ f .day .zeros)
 
+abbrev pub on35 : Facts → Bool
+on35 f = f .document .pension
+
 -- the outcomes by the rules' numbers, from 0 on, which is no rule's: of the rules for every sheet, and of all
 abbrev pub generalOn : Facts → List Bool
 generalOn f = true ∷ on1 f ∷ on2 f ∷ on3 f ∷ on4 f ∷ []
@@ -142,7 +145,7 @@ abbrev pub specialOn : Facts → List Bool
 specialOn f =
     on5 f ∷ on6 f ∷ on7 f ∷ on8 f ∷ on9 f ∷ on10 f ∷ on11 f ∷ on12 f ∷ on13 f ∷ on14 f ∷ on15 f ∷ on16 f ∷ on17 f ∷ on18 f ∷ on19 f
     ∷ on20 f ∷ on21 f ∷ on22 f ∷ on23 f ∷ on24 f ∷ on25 f ∷ on26 f ∷ on27 f ∷ on28 f ∷ on29 f ∷ on30 f ∷ on31 f ∷ on32 f ∷ on33 f
-    ∷ on34 f ∷ []
+    ∷ on34 f ∷ on35 f ∷ []
 
 abbrev pub outcomesOn : Facts → List Bool
 outcomesOn f = generalOn f ++ specialOn f

@@ -9,7 +9,7 @@ use lib.ListN.{length}
 use Rattle.texts.specs.Quoted.{Text, bytes}
 use Rattle.texts.specs.Texts.{every, among, between, blank, _is_, _isOneOf_, _begins_, _beginsOneOf_, number}
 use Rattle.sheets.specs.Sheet.{sheetSize, textOf, Sheet, given}
-use Rattle.sheets.specs.Forms.{bik, account, uin, code4, foreignCode, inn10, inn12, digits5, digits10, digits12, kpp, kbk, oktmo, office, letterPair, person, document, date}
+use Rattle.sheets.specs.Forms.{bik, account, uin, code4, foreignCode, inn10, inn12, digits5, digits10, digits12, kpp, kbk, oktmo, office, letterPair, person, document, pension, date}
 use Rattle.sheets.specs.Lists.{bankA, accountsA, banksB, accountB, accountsB, account03100, account03212, statuses, customsGroup, treasuryGroup, courtsGroup, personalGroup, wantInn, wantTen, wantTwelve, wantZero, numbersOf}
 use Rattle.sheets.specs.declared.forms.Wanted.{Wanted}
 use Rattle.sheets.specs.declared.forms.Wanted.the-variants.{Any, Inn, Ten, Twelve, Zero}
@@ -116,7 +116,7 @@ unfoldable pub basisOf : Text → Basis
 basisOf t = record { blank = blank t; zero = t is "0"; zeros = t is "00"; letters = letterPair t }
 
 unfoldable pub documentOf : Text → Document
-documentOf t = record { blank = blank t; fit = document t; person = person t; zero = t is "0"; zeros = t is "00" }
+documentOf t = record { blank = blank t; fit = document t; person = person t; pension = pension t; zero = t is "0"; zeros = t is "00" }
 
 unfoldable pub dayOf : Text → Day
 dayOf t = record { blank = blank t; zero = t is "0"; zeros = t is "00"; date = date t }

@@ -5,4 +5,4 @@ use Rattle.sheets.proofs.facts.document_of.Tie as tie
 
 pub document-of-spec : {M : Type 1} → statement M
 unfolding documentOf
-document-of-spec = tie.close (tie.spec (λ c κs. search needs) (λ c κs. search needs) (λ c. search needs) (λ c κs. search needs) (λ c. search needs) (λ c κs. search needs) (λ c. cc))
+document-of-spec = tie.close (tie.spec (λ c κs. search needs) (λ c κs. search needs) (λ c κs. search needs) (λ c. search needs) (λ c κs. search needs) (λ c. search needs) (λ c κs. search needs) (λ c. cc))

@@ -9,6 +9,7 @@ pub fn all() -> Vec<Example> {
     [
         short(),
         completions(),
+        pensions(),
         broken(),
         ordinary(),
         postings(),
@@ -77,6 +78,21 @@ fn completions() -> Vec<Example> {
             "17 03212643000000014800, also 60 0, 102 0: 10, count 1,056",
             &zeros(instead),
         ),
+    ]
+}
+
+/// a pension number that rule 35 refuses, and one that it keeps, with 109 blank.
+fn pensions() -> Vec<Example> {
+    let pension = |name, number: &[u8]| {
+        let texts = Texts::s().with(101, b"24").with(60, b"0").with(102, b"0");
+        report(name, &order(&texts.with(108, number).without(&[109])))
+    };
+    vec![
+        pension(
+            "108 14;12345678900, 109 blank: 10, count 2",
+            b"14;12345678900",
+        ),
+        pension("108 14;12345678964, 109 blank: count 1", b"14;12345678964"),
     ]
 }
 
@@ -333,6 +349,22 @@ mod tests {
             "17 03212643000000014800, also 60 0, 102 0: 10, count 1,056",
             8,
             "end 10 1056",
+        );
+    }
+
+    #[test]
+    fn pension_numbers() {
+        ends("108 14;12345678900, 109 blank: 10, count 2", 14, "end 10 2");
+        shows(
+            "108 14;12345678964, 109 blank: count 1",
+            14,
+            "end ok 1\n",
+            &[
+                ("60 7701569743", b"60 0"),
+                ("101 01", b"101 24"),
+                ("102 770301001", b"102 0"),
+                ("108 0", b"108 14;12345678964"),
+            ],
         );
     }
 
