@@ -252,7 +252,7 @@ module _ (d m : List ℕ) (h : (k : ℕ) → Fits w8 (getD m k 0)) (b : Bool) (e
         pub post-clash : st ≡ Clash → Posts d m (posted.Refused (record { 0 = 6 })) d
         post-clash q = let p = post-read d m Clash formed (found .0) (sym q ∙ stood) in post _ d (p .0) (p .1)
 
--- ---- draft_sheet: the cells of the first n slots stand in what was there before
+-- ---- put_sheet: the cells of the first n slots stand in what was there before
 
 module _ (d s : List ℕ) (l : length d ≡ draftSize) (z : length s ≡ sheetSize) where
   pub cells-none : s ≡ put s 0 (cells d 0)

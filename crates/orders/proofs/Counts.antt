@@ -1,4 +1,4 @@
--- Document 01's completion examples, of the definition: a filling's place is computed. Assumes nothing.
+-- Document 01's completion examples and R-1's, of the definition: a filling's place is computed. Assumes nothing.
 use mathlib.Core.Path.{_≡_, refl, ap, _∙_}
 use mathlib.Core.Bool.{Bool, true, false}
 use mathlib.Core.List.{List, [], _∷_, map}
@@ -52,7 +52,7 @@ pub later : firstFilling foreign ≡ found 97 (sheet "004525987 4010281084537000
 unfolding picked
 later = first-is foreign refl
 
--- with 17 03222643000000014800, and 60, 102 and 104 blank too: 01, 03 and 04 keep no rule, 05 does
+-- with 17 03222643000000014800, and 60, 102 and 104 blank too: with 01, 03 and 04 no filling keeps all rules, with 05 the first does
 fifth : firstFilling (sheet "004525987 40102810845370000004 03222643000000014800   6730054024   772801001      ")
     ≡ found 145 (sheet "004525987 40102810845370000004 03222643000000014800 0 0 6730054024 05 0 772801001 0 0 0 0 0 0")
 unfolding picked
@@ -65,7 +65,7 @@ unfolding picked
 fourth = first-is (sheet "004525987 40102810845370000004 03100643000000014800 0 7701569743 6730054024 06 770301001 772801001 18201061201010000510 0  10000000  00") refl
 
 -- R-1: S with status 24, 60 and 102 "0", and 109 blank: a pension number that can't exist breaks rule 35 with both entries of 109; with one
--- that can, the first entry does
+-- that can, the first entry keeps all rules
 noSnils : firstFilling (sheet "004525987 40102810845370000004 03100643000000014800 0 0 6730054024 24 0 772801001 18201061201010000510 0 0 0 14;12345678900 ") ≡ none 2
 unfolding picked
 noSnils = first-is (sheet "004525987 40102810845370000004 03100643000000014800 0 0 6730054024 24 0 772801001 18201061201010000510 0 0 0 14;12345678900 ") refl

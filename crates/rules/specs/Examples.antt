@@ -1,4 +1,4 @@
--- Document 01's starred examples as one table, shown true of the definitions by one computation; what specs/Pinned.antt shares with it.
+-- Document 01's starred examples as one table, shown true of the definitions by one computation; what Pinned and R1 share with it.
 -- Assumes nothing.
 use mathlib.Core.Path.{_≡_, refl}
 use mathlib.Core.List.{List, [], _∷_, _++_, map}

@@ -1,7 +1,7 @@
 -- What the rules say of many more sheets than document 01's examples, so that no rule, field, list or limit can be changed in definition
 -- and code together: the numbers of the rules and the order of testing; each rule as the first broken one; each class and status accepted;
--- of each rule texts that keep it and texts that break it, every entry of its lists and both sides of its limits. All of it is shown true
--- of the definitions by computation. Assumes nothing.
+-- of each rule texts that keep it and texts that break it, every entry of its lists and both sides of its limits (of rule 35 in R1). All of it is
+-- shown true of the definitions by computation. Assumes nothing.
 use mathlib.Core.Path.{_≡_, refl}
 use mathlib.Core.Bool.{Bool, true, false, cond}
 use mathlib.Core.List.{List, [], _∷_, _++_, map}
@@ -327,9 +327,9 @@ rules1to18 =
     ∷ sheet ((109 ≔ "29.02.2024") ∷ []) (broken 109 31) refl
     ∷ []
 
-rules19to34 : List Line
+rules19to35 : List Line
 unfolding answer varied inB to03212 to03222 uin customs
-rules19to34 =
+rules19to35 =
     -- 19, 20: class A alone
     break 19 (to03222 ∷ []) 101 "01 04 06 07 13 16 17 28 30 32" refl
     ∷ keep 19 (to03222 ∷ []) 101 "03 05 08 15 19 20 23 24 27 29 31 33" refl
@@ -419,6 +419,8 @@ rules19to34 =
     ∷ break 34 ((109 ≔ "00") ∷ []) 106 "0 УВ ИЛ ПБ ТГ ТБ ТД ПВ ИН ПК КЭ" refl
     ∷ keep 34 ((106 ≔ "0") ∷ []) 109 "0 01.01.2024" refl
     ∷ keep 34 ((106 ≔ "ТД") ∷ []) 109 "0 01.01.2024" refl
+    ∷ break 35 ((108 ≔ "14;12345678900") ∷ []) 101 "01 03 04 05 06 07 08 13 15 16 17 19 20 23 24 27 28 29 30 31 32 33" refl
+    ∷ keep 35 ((108 ≔ "14;12345678964") ∷ []) 101 "01 03 04 05 06 07 08 13 15 16 17 19 20 23 24 27 28 29 30 31 32 33" refl
     ∷ []
 
 -- ---- "Bytes in hexadecimal: У D3, В C2, И C8, Л CB, П CF, Б C1, Т D2, Г C3, Д C4, Н CD, К CA, Э DD"
@@ -456,4 +458,5 @@ rulesOfB =
     ∷ break 32 inB 106 "ТД" refl
     ∷ break 33 inB 106 "00" refl
     ∷ break 34 inB 109 "00" refl
+    ∷ break 35 inB 108 "14;12345678900" refl
     ∷ []

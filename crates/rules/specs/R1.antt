@@ -17,6 +17,7 @@ table =
     ∷ (personal "14;00100199800", accepted "A")
     ∷ (personal "14;00100199899", accepted "A")
     ∷ (personal "14;00000000000", accepted "A")
+    ∷ (personal "14;00000000099", accepted "A")
     ∷ (personal "14;00100199965", accepted "A")
     ∷ (personal "14;92000010000", accepted "A")
     -- a sum that leaves 0, one that leaves 1: two digits
@@ -34,13 +35,23 @@ table =
     ∷ (personal "14;001001998000", broken 108 35)
     ∷ (personal "14;1122334459A", broken 108 35)
     ∷ (personal "14;1", broken 108 35)
-    -- its length and bytes break 17 first
+    -- nothing behind the ";", and 16 bytes, break 17 first
     ∷ (personal "14;", broken 108 17)
     ∷ (personal "14;1122334459500", broken 108 17)
-    -- other types, and texts that are no identifier
+    -- other types
     ∷ (personal "13;12345678900", accepted "A")
     ∷ (personal "01;1", accepted "A")
-    -- every status, class B too; class O is not asked
+    -- each digit has its weight: one digit, or two where the number must be above the bound
+    ∷ (personal "14;10000000009", accepted "A")
+    ∷ (personal "14;01000000008", accepted "A")
+    ∷ (personal "14;00200000014", accepted "A")
+    ∷ (personal "14;10010000015", accepted "A")
+    ∷ (personal "14;10001000014", accepted "A")
+    ∷ (personal "14;10000100013", accepted "A")
+    ∷ (personal "14;10000010012", accepted "A")
+    ∷ (personal "14;10000001011", accepted "A")
+    ∷ (personal "14;10000000110", accepted "A")
+    -- status 01 too, which asks for no identifier, and a text that is none; class B; class O is not asked
     ∷ ((108 ≔ "14;12345678900") ∷ [], broken 108 35)
     ∷ ((108 ≔ "14;12345678964") ∷ [], accepted "A")
     ∷ ((108 ≔ "14123456789") ∷ [], accepted "A")

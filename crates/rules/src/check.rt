@@ -99,15 +99,14 @@ fn first_broken(outcomes: &[bool], order: &[u8]) -> Rule
     Rule(0)
 }
 
-// What a crate above asks of a sheet's facts, in words of the sheet: the first broken one of some rules for every sheet, and whether
-// it is a budget payment.
+// What completion asks of a sheet's facts, in words of the sheet: the first broken one of rules 1 to 3.
 pub fn broken_basic(f: Facts) -> Rule
     ensures { λ r. ⌜ ((s : Sheet) → Read f s → r .0 ≡ firstBroken s (1 ∷ 2 ∷ 3 ∷ [])) ⌝ }
 {
     first_broken(&general_outcomes(f), &BASIC)
 }
 
-// Those of all rules, at their numbers.
+// The outcomes of all rules, at their numbers.
 fn outcomes(f: Facts) -> [bool; 36]
     ensures { λ r. ⌜ r ≡ outcomesOn f ⌝ }
 {

@@ -1,4 +1,4 @@
-// The rules of budget payment orders, over sheets (document 01, "Rules").
+// The rules of budget payment orders, over sheets (document 01, "Rules", and R-1).
 pub mod check;
 pub mod class;
 pub mod groups;

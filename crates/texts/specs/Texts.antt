@@ -88,7 +88,7 @@ value a (x ∷ xs) = value (a * 10 + valueOf x) xs
 unfoldable pub number : ℕ → Text → ℕ
 number n t = cond (digits n t) (value 0 t) (10 ^ n)
 
--- the sum of a text's digits, each times its weight
+-- the sum of a text's digits, each times its weight, as far as there are both; what is no digit counts 0
 unfoldable pub weighted : List ℕ → Text → ℕ
 weighted [] t = 0
 weighted (w ∷ ws) [] = 0

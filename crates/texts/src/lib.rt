@@ -1,4 +1,4 @@
-// Byte texts and lent buffers: what every layer above asks of them. Each function takes any arguments.
+// Byte texts and lent buffers: what every layer above asks of them. Each public function takes any arguments.
 pub mod answers;
 pub mod buffers;
 pub mod comparisons;
