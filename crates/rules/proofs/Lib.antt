@@ -3,3 +3,4 @@ pub mod First
 pub mod Means
 pub mod Judging
 pub mod Reading
+pub mod Requests

@@ -58,7 +58,7 @@ is-malformed Malformed e = refl
 is-malformed (Broken f r) e = cc
 is-malformed (Accepted k) e = cc
 
-order-numbered : every numbered order ≡ true
+pub order-numbered : every numbered order ≡ true
 unfolding every
 order-numbered = refl
 

@@ -78,7 +78,7 @@ on-23 s =
     ∙ (λ i. (a i ⇒ inn p) && ((b i ⇒ inn10 p) && ((c i ⇒ inn12 p) && (d i ⇒ p is "0"))))
 
 -- the outcomes of rules, and of those for classes A and B, which ask nothing of any other sheet
-testsOf : Sheet → List Rule → List Bool
+unfoldable pub testsOf : Sheet → List Rule → List Bool
 testsOf s rs = map (λ (r : Rule). r .test s) rs
 
 special-on : (s : Sheet) → specialOn (factsOf s) ≡ testsOf s special
@@ -128,16 +128,20 @@ counted-test s n k (r ∷ rs) c l =
     let q = both (eqb (r .number) k) (counted (suc k) rs) c in
     rw (eqb-true (r .number) k (q .0)) (counted-step true n k (testOf rs n s) (r .test s) (testsOf s rs) (eqb n k) refl l (λ j. counted-test s n (suc k) rs (q .1) j))
 
-none-at : (s : Sheet) → keeps s 0 ≡ true
+pub none-at : (s : Sheet) → keeps s 0 ≡ true
 unfolding keeps testOf rules
 none-at s = refl
+
+-- the test of the rule with a number stands at its place
+pub tests-at : (s : Sheet) (n : ℕ) (rs : List Rule) → counted 1 rs ≡ true → testOf rs (suc n) s ≡ getD (testsOf s rs) n true
+tests-at s n rs c =
+    let z : suc n - 1 ≡ n = omega arith in
+    counted-test s (suc n) 1 rs c (omega arith) ∙ rw z
 
 keeps-at : (s : Sheet) (n : ℕ) → keeps s n ≡ getD (true ∷ testsOf s rules) n true
 unfolding keeps
 keeps-at s zero = none-at s
-keeps-at s (suc n) =
-    let z : suc n - 1 ≡ n = omega arith in
-    counted-test s (suc n) 1 rules rules-counted (omega arith) ∙ rw z
+keeps-at s (suc n) = tests-at s n rules rules-counted
 
 general-is : (s : Sheet) → true ∷ testsOf s rules ≡ generalOn (factsOf s) ++ testsOf s (map forBudget special)
 unfolding testsOf rules factsOf bankingOf generalOf accountOf standingOf slotOf _⟨_⟩

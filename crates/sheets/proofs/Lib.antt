@@ -4,3 +4,4 @@ pub mod Tables
 pub mod Ways
 pub mod Listed
 pub mod Frames
+pub mod Kpps

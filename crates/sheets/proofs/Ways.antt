@@ -8,12 +8,12 @@ use native.Mathlib.Decide.{ℕ-discrete, decLt}
 use native.Mathlib.Omega.{arith}
 use borrow.Author.Tests.{eq-eqb, ne-eqb, lt-ltb, le-ltb, le-leb, lt-leb, not-true, not-false}
 use lib.Dec.{eqb, leb, ltb}
-use lib.ListN.{length}
+use lib.ListN.{length, getD}
 use Rattle.texts.specs.Quoted.{Text, bytes}
 use Rattle.texts.specs.Texts.{every, any, are, among, between, same, startsWith, digits, valueOf, value, number, _is_}
 use Rattle.texts.proofs.Arms.{AnyOf, arm, outside}
 use Rattle.sheets.specs.Sheet.{textOf}
-use Rattle.sheets.specs.Forms.{foreignCode, inn10, inn12, digits5, digits10, digits12, person, snilsBound, snilsCheck, snils, pension, leap, monthDays, gregorian, date}
+use Rattle.sheets.specs.Forms.{foreignCode, inn10, inn12, digits5, digits10, digits12, digitOrCapital, kpp, person, snilsBound, snilsCheck, snils, pension, leap, monthDays, gregorian, date}
 use Rattle.sheets.specs.Lists.{account03100, account03212, statuses, personTypes, numbersOf}
 use Rattle.sheets.specs.Working.Facts.{payerOf, isA, isB, accountOf, groupsBy, standingBy, standingOf, wantedBy, basisOf, documentOf, dayOf, bankingOf, partiesOf, classifiersOf, factsOf, Read}
 use Rattle.sheets.specs.declared.forms.Wanted.{Wanted}
@@ -35,6 +35,14 @@ pub person-is : (t u v : Text) (n : ℕ) (p q : Bool) → u ≡ between t 0 2 �
     → v ≡ between t 2 3 → q ≡ same v (59 ∷ []) → ((p && q) && leb 4 (length t)) ≡ person t
 unfolding person
 person-is t u v n p q e f g h i = cc (persons-are (between t 0 2))
+
+-- is_kpp
+pub kpp-other : (t : Text) → (length t ≡ 9 → ⊥) → false ≡ kpp t
+kpp-other t e = simp (ne-eqb (length t) 9 e)
+
+pub kpp-these : (t u v : Text) (a b : ℕ) (x y p q z : Bool) → length t ≡ 9 → a ≡ getD t 4 0 → x ≡ digitOrCapital a → b ≡ getD t 5 0 → y ≡ digitOrCapital b
+    → u ≡ between t 0 4 → p ≡ digits 4 u → v ≡ between t 6 9 → q ≡ digits 3 v → z ≡ startsWith t (48 ∷ 48 ∷ []) → (not z && (p && ((x && y) && q))) ≡ kpp t
+kpp-these t u v a b x y p q z l ea ex eb ey eu ep ev eq ez = cc (eq-eqb (length t) 9 l)
 
 -- snils_check
 pub two-digits : (s : ℕ) → s % 101 % 100 ≡ cond (eqb (s % 101) 100) 0 (s % 101)

@@ -3,9 +3,9 @@ use mathlib.Core.Bool.{Bool, not, cond, _&&_, _||_}
 use mathlib.Core.List.{List, [], _∷_}
 use Prim.Native.Nat.{ℕ, _%_}
 use lib.Dec.{leb, ltb, eqb}
-use lib.ListN.{length}
+use lib.ListN.{length, getD}
 use Rattle.texts.specs.Quoted.{Text}
-use Rattle.texts.specs.Texts.{every, among, between, _is_, _isOneOf_, _begins_, digits, digitsNotZero, digitsNot00, number, weighted}
+use Rattle.texts.specs.Texts.{every, among, between, _is_, _isOneOf_, _begins_, digit, digits, digitsNotZero, digitsNot00, number, weighted}
 use Rattle.sheets.specs.Lists.{letterPairs, personTypes}
 
 infixr 25 _⇒_
@@ -50,9 +50,14 @@ digits10 t = digits 10 t
 abbrev pub digits12 : Text → Bool
 digits12 t = digits 12 t
 
--- 102, 103: "nine digits not beginning 00"
+-- 102, 103: "nine digits not beginning 00"; of the places 5 and 6, counted from 1: "A" to "Z" there besides digits (R-2)
+abbrev pub digitOrCapital : ℕ → Bool
+digitOrCapital b = digit b || (leb 65 b && leb b 90)
+
 abbrev pub kpp : Text → Bool
-kpp t = digitsNot00 9 t
+kpp t =
+    (eqb (length t) 9 && not (t begins "00"))
+    && (digits 4 (between t 0 4) && ((digitOrCapital (getD t 4 0) && digitOrCapital (getD t 5 0)) && digits 3 (between t 6 9)))
 
 -- 104: "20 digits not all zero"; 105: "8 digits not all zero"; 107: "8 digits"
 abbrev pub kbk : Text → Bool

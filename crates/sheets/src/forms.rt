@@ -1,7 +1,7 @@
 // The forms of texts that several rules ask for.
 ghost use mathlib.Core.Path.{_≡_};
 ghost use Rattle.texts.specs.Texts.{every, same};
-ghost use Rattle.sheets.specs.Forms.{bik, account, uin, code4, foreignCode, inn10, inn12, digits5, digits10, digits12, kpp, kbk, oktmo, office, letterPair, person, allowed, document, snilsCheck, snils, pension, leap, monthDays, gregorian, date};
+ghost use Rattle.sheets.specs.Forms.{bik, account, uin, code4, foreignCode, inn10, inn12, digits5, digits10, digits12, digitOrCapital, kpp, kbk, oktmo, office, letterPair, person, allowed, document, snilsCheck, snils, pension, leap, monthDays, gregorian, date};
 ghost use Rattle.sheets.specs.Working.Facts.{wantedBy};
 use texts::comparisons::begins_with;
 use texts::comparisons::equals;
@@ -13,6 +13,7 @@ use texts::digits::number_2;
 use texts::digits::number_4;
 use texts::digits::number_9;
 use texts::digits::weighted_sum;
+use texts::parts::at;
 use texts::parts::part;
 use texts::parts::wide;
 
@@ -128,10 +129,25 @@ pub(crate) fn is_digits12(t: &[u8]) -> bool
     has_digits(t, 12)
 }
 
+fn is_digit_or_capital(b: u8) -> bool
+    ensures { λ r. ⌜ r ≡ digitOrCapital b ⌝ }
+{
+    ((48 <= b) & (b <= 57)) | ((65 <= b) & (b <= 90))
+}
+
+// Most have no letter, and are told by their nine digits.
 pub fn is_kpp(t: &[u8]) -> bool
     ensures { λ r. ⌜ r ≡ kpp (now (t .entry)) ⌝ }
 {
-    has_digits_not_00(t, 9)
+    if has_digits(t, 9) {
+        return !begins_with(t, b"00");
+    }
+    if t.len() != 9 {
+        return false;
+    }
+    let middle = is_digit_or_capital(at(t, 4)) & is_digit_or_capital(at(t, 5));
+    let sides = has_digits(part(t, 0, 4), 4) & (middle & has_digits(part(t, 6, 9), 3));
+    !begins_with(t, b"00") & sides
 }
 
 pub(crate) fn is_kbk(t: &[u8]) -> bool

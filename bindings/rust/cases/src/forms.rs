@@ -82,6 +82,35 @@ pub fn registered(random: &mut Random, width: usize) -> Text {
     digits_after(random, begin, width)
 }
 
+/// A KPP: nine digits not beginning 00, letters at places 5 and 6 now and then.
+pub fn kpp(random: &mut Random) -> Text {
+    let mut text = registered(random, 9);
+    for place in [4, 5] {
+        if random.percent(8) {
+            let letter = random.below(26) as u8;
+            text.bytes_mut()[place] = random.pick(&[b'A', b'Z', b'A' + letter]);
+        }
+    }
+    text
+}
+
+/// A KPP or nearly one: a neighbour of the ranges at places 5 and 6, or a letter elsewhere.
+fn near_kpp(random: &mut Random) -> Text {
+    const NEIGHBOURS: &[u8] = b"/09:@AZ[`az\x7F\xC0\xC1\xDF";
+    let mut text = match random.below(3) {
+        0 => near_digits(random, 9),
+        _ => kpp(random),
+    };
+    if random.percent(50) && text.len() == 9 {
+        let place = match random.below(3) {
+            0 => random.below(9),
+            _ => 4 + random.below(2),
+        };
+        text.bytes_mut()[place] = random.pick(NEIGHBOURS);
+    }
+    text
+}
+
 /// A UIN: 20 or 25 digits.
 pub fn uin(random: &mut Random) -> Text {
     let width = random.pick(&[20, 25]);
@@ -345,7 +374,7 @@ pub fn text_for(random: &mut Random, field: u8) -> Text {
             let width = random.pick(&[2, 2, 2, 3]);
             near_digits(random, width)
         }
-        102 | 103 => near_digits(random, 9),
+        102 | 103 => near_kpp(random),
         104 => near_digits(random, 20),
         105 | 107 => near_digits(random, 8),
         106 if random.percent(50) => pair(random),

@@ -111,9 +111,9 @@ pub fn with_forms(random: &mut Random, forms: &Forms) -> Texts {
     texts.set(60, payer(random, forms.payer));
     texts.set(61, forms::registered(random, 10));
     texts.set(101, Text::new(forms.status.unwrap_or_default().as_bytes()));
-    texts.set(103, forms::registered(random, 9));
+    texts.set(103, forms::kpp(random));
     let optional: [(u8, bool, Wide); 4] = [
-        (102, forms.kpp, |random| forms::registered(random, 9)),
+        (102, forms.kpp, forms::kpp),
         (104, forms.kbk, |random| forms::nonzero(random, 20)),
         (105, forms.oktmo, |random| forms::nonzero(random, 8)),
         (107, forms.office, |random| forms::digits(random, 8)),

@@ -18,6 +18,8 @@ pub enum Planted {
     Hyphen,
     /// The last byte of a sheet is not looked at.
     LastPad,
+    /// Rules 11 and 12 take "@" for a letter at place 5.
+    At,
     /// Rule 35 does not ask at the bound's neighbour: 1001999 is not above it.
     Bound,
     /// Rule 35 refuses a remainder of 100, which is not written 00.
@@ -43,12 +45,13 @@ pub enum Planted {
 }
 
 /// All of them.
-pub const PLANTS: [Planted; 16] = [
+pub const PLANTS: [Planted; 17] = [
     Planted::Century,
     Planted::Status01,
     Planted::Without03252,
     Planted::Hyphen,
     Planted::LastPad,
+    Planted::At,
     Planted::Bound,
     Planted::Leaves100,
     Planted::LastArrival,
@@ -79,6 +82,11 @@ impl Planted {
                     .skip(usize::from(sheet[slot(108)][0] == b'-'))
                     .for_each(|byte| *byte = b'+');
             }
+            Self::At => [102, 103].into_iter().for_each(|field| {
+                if text(sheet, field).get(4) == Some(&b'@') {
+                    seen[slot(field)][5] = b'A';
+                }
+            }),
             Self::Bound if text(sheet, 108).starts_with(b"14;001001999") => {
                 seen[slot(108)][12] = b'8';
             }

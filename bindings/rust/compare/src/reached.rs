@@ -20,6 +20,7 @@ pub struct Reached {
     hopeless: BTreeMap<usize, u64>,
     sets: BTreeMap<u16, u64>,
     pensions: BTreeMap<(Side, bool), u64>,
+    letters: BTreeMap<(u8, Letters, bool), u64>,
 }
 
 /// What the first nine of a pension number's eleven digits are to rule 35.
@@ -40,6 +41,24 @@ const SIDES: [Side; 6] = [
     Side::Leaves0,
     Side::Leaves100,
     Side::Above,
+];
+
+/// Which of places 5 and 6 of a KPP have a letter, or what stands beside the ranges there.
+#[derive(Clone, Copy, Debug, PartialEq, Eq, PartialOrd, Ord)]
+enum Letters {
+    Fifth,
+    Sixth,
+    Both,
+    Beside,
+    Elsewhere,
+}
+
+const LETTERS: [(Letters, bool); 5] = [
+    (Letters::Fifth, true),
+    (Letters::Sixth, true),
+    (Letters::Both, true),
+    (Letters::Beside, false),
+    (Letters::Elsewhere, false),
 ];
 
 /// What an accepted sheet had: a listed text of a field, by its place in the list.
@@ -97,6 +116,7 @@ impl Reached {
     pub fn check(&mut self, sheet: &[u8], answer: Result<Class, Refusal>) {
         self.answer("check", answer);
         self.pension(sheet, answer);
+        self.letters(sheet, answer);
         let Ok(class) = answer else { return };
         self.accept(class, Accepted::Class);
         if class != Class::O {
@@ -130,6 +150,38 @@ impl Reached {
             _ => Side::Above,
         };
         *self.pensions.entry((side, kept)).or_default() += 1;
+    }
+
+    /// A KPP of nine places with letters, or what stands beside digits and letters, that was kept or named.
+    fn letters(&mut self, sheet: &[u8], answer: Result<Class, Refusal>) {
+        for field in [102, 103] {
+            let kept = match answer {
+                Ok(Class::A | Class::B) => true,
+                Err(Refusal::Broken {
+                    field: named,
+                    rule: 11 | 12,
+                }) if named == field => false,
+                _ => continue,
+            };
+            let &[a, b, c, d, fifth, sixth, e, f, g] = text_of(sheet, field) else {
+                continue;
+            };
+            let letter = |byte: u8| byte.is_ascii_uppercase();
+            let beside = |byte: u8| b"/:@[".contains(&byte);
+            let what = if [a, b, c, d, e, f, g].into_iter().any(letter) {
+                Letters::Elsewhere
+            } else if beside(fifth) || beside(sixth) {
+                Letters::Beside
+            } else {
+                match (letter(fifth), letter(sixth)) {
+                    (true, true) => Letters::Both,
+                    (true, false) => Letters::Fifth,
+                    (false, true) => Letters::Sixth,
+                    (false, false) => continue,
+                }
+            };
+            *self.letters.entry((field, what, kept)).or_default() += 1;
+        }
     }
 
     fn accept(&mut self, class: Class, what: Accepted) {
@@ -192,6 +244,7 @@ impl Reached {
         add(&mut self.hopeless, &other.hopeless);
         add(&mut self.sets, &other.sets);
         add(&mut self.pensions, &other.pensions);
+        add(&mut self.letters, &other.letters);
         for (sum, more) in self.standings.iter_mut().zip(other.standings) {
             *sum += more;
         }
@@ -211,6 +264,12 @@ impl Reached {
             list.push(((*standing).into(), reached));
         }
         self.list_accepted(&mut list);
+        for field in [102, 103] {
+            for (what, kept) in LETTERS {
+                let reached = get(&self.letters, (field, what, kept));
+                list.push((format!("{field} with letters: {what:?}"), reached));
+            }
+        }
         for side in SIDES {
             let reached = |kept| get(&self.pensions, (side, kept));
             list.push((format!("a pension number: {side:?}, kept"), reached(true)));

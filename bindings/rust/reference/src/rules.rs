@@ -316,9 +316,24 @@ fn is_nonzero(text: &[u8], width: usize) -> bool {
     is_digits(text, width) && !all_zero(text)
 }
 
-/// So many digits not beginning 00, as in an INN or a KPP.
+/// So many digits not beginning 00, as in an INN.
 fn is_registered(text: &[u8], width: usize) -> bool {
     is_digits(text, width) && !text.starts_with(DOUBLE_ZERO)
+}
+
+/// A KPP: nine digits not beginning 00, but at places 5 and 6 rules 11 and 12
+/// "accept "A" to "Z" there besides digits, and digits alone elsewhere".
+fn is_kpp(text: &[u8]) -> bool {
+    if text.len() != 9 {
+        return false;
+    }
+    let (office, rest) = text.split_at(4);
+    let (reason, serial) = rest.split_at(2);
+    is_registered(office, 4)
+        && reason
+            .iter()
+            .all(|byte| byte.is_ascii_digit() || byte.is_ascii_uppercase())
+        && is_digits(serial, 3)
 }
 
 /// The number written by a few digits.
@@ -454,12 +469,12 @@ impl<'a> Order<'a> {
         )?;
         let status = Status::parse(sheet[Field::Status]).ok_or(broken(Field::Status, Rule(10)))?;
         require(
-            payer_kpp == ZERO || is_registered(payer_kpp, 9),
+            payer_kpp == ZERO || is_kpp(payer_kpp),
             Field::PayerKpp,
             Rule(11),
         )?;
         require(
-            is_registered(sheet[Field::RecipientKpp], 9),
+            is_kpp(sheet[Field::RecipientKpp]),
             Field::RecipientKpp,
             Rule(12),
         )?;
@@ -579,7 +594,7 @@ impl<'a> Order<'a> {
     }
 
     /// Rule 27: "60 of 12 digits: "0"; of 5: not "0"; of 10: not "0" unless
-    /// status 01".
+    /// status 01". By rule 11 "a KPP other than "0" has this form", [`is_kpp`].
     fn keeps_payer_kpp(&self) -> bool {
         let zero = self.payer_kpp == ZERO;
         match self.payer {

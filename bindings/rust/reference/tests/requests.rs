@@ -422,3 +422,130 @@ fn r1_completion() {
     let blank = Texts::s().blank(&[101, 106, 108, 109]);
     blank.completes_to(&Texts::s(), 1);
 }
+
+/// The two KPP fields with the rule of their form.
+const KPP_RULES: [(u8, u8); 2] = [(102, 11), (103, 12)];
+
+/// "Rules 11 and 12 accept "A" to "Z" there besides digits, and digits alone
+/// elsewhere": each byte at each place.
+#[test]
+fn r2_every_byte_at_every_place() {
+    for (field, rule) in KPP_RULES {
+        for place in 1..=9 {
+            for byte in 0..=u8::MAX {
+                let mut kpp = *b"770301001";
+                kpp[place - 1] = byte;
+                let order = Texts::s().with(field, kpp);
+                let allowed: &[u8] = match place {
+                    5 | 6 => b"0123456789ABCDEFGHIJKLMNOPQRSTUVWXYZ",
+                    _ => b"0123456789",
+                };
+                if allowed.contains(&byte) {
+                    order.accepted();
+                } else {
+                    order.broken(field, rule);
+                }
+            }
+        }
+    }
+}
+
+/// Each of "places 5 and 6" is a digit or a letter by itself.
+#[test]
+fn r2_every_pair_at_places_5_and_6() {
+    let bytes: Vec<u8> = (b'0'..=b'9').chain(b'A'..=b'Z').collect();
+    for &fifth in &bytes {
+        for &sixth in &bytes {
+            let kpp = [b'7', b'7', b'0', b'3', fifth, sixth, b'0', b'0', b'1'];
+            Texts::s().with(102, kpp).with(103, kpp).accepted();
+        }
+    }
+}
+
+/// Still nine places, not beginning 00.
+#[test]
+fn r2_the_rest_of_the_form_stays() {
+    for (field, rule) in KPP_RULES {
+        for kpp in ["7703AZ00", "7703AZ0011", "AZ", "A", "00", "000000000"] {
+            Texts::s().with(field, kpp).broken(field, rule);
+        }
+        for kpp in ["0003AZ001", "000301001", "0000AZ000"] {
+            Texts::s().with(field, kpp).broken(field, rule);
+        }
+        for kpp in ["0103AZ001", "1003AZ001", "0100AZ000", "0100ZA000"] {
+            Texts::s().with(field, kpp).accepted();
+        }
+    }
+    Texts::s().with(102, "0").accepted();
+    Texts::s().with(103, "0").broken(103, 12);
+    Texts::s().with(103, "").broken(103, 6);
+}
+
+/// Field 102 is tested ahead of 103, with letters as without.
+#[test]
+fn r2_order() {
+    let order = Texts::s().with(102, "7703az001").with(103, "7703az001");
+    order.broken(102, 11);
+    order.clone().with(101, "02").broken(101, 10);
+    order.clone().with(102, "7703AZ001").broken(103, 12);
+    order.with(102, "0").broken(103, 12);
+}
+
+/// "Every sheet accepted before is still accepted", here one for each status, and
+/// each with letters in the KPPs it has.
+#[test]
+fn r2_every_status() {
+    for status in STATUSES {
+        let order = Texts::of_status(status);
+        order.accepted();
+        let order = order.with(103, "7728AZ001");
+        order.accepted();
+        if order.0[slot(102)] != b"0" {
+            order.with(102, "7703ZA001").accepted();
+        }
+    }
+}
+
+/// "In rule 27 a KPP other than "0" has this form."
+#[test]
+fn r2_rule_27() {
+    let order = Texts::s().with(101, "08");
+    for kpp in ["770301001", "7703AZ001"] {
+        // "60 of 12 digits: "0"".
+        let person = order.clone().with(60, "781023456779");
+        person.clone().with(102, "0").accepted();
+        person.with(102, kpp).broken(102, 27);
+        // "Of 5: not "0"".
+        let foreign = order.clone().with(60, "12345");
+        foreign.clone().with(102, "0").broken(102, 27);
+        foreign.with(102, kpp).accepted();
+        // "Of 10: not "0" unless status 01".
+        order.clone().with(102, "0").broken(102, 27);
+        order.clone().with(102, kpp).accepted();
+        Texts::s().with(102, "0").accepted();
+        Texts::s().with(102, kpp).accepted();
+        // With 60 "0" it demands nothing.
+        order.clone().with(60, "0").with(102, kpp).accepted();
+    }
+}
+
+/// Class B has the same rules 11 and 12, class O none.
+#[test]
+fn r2_every_class() {
+    let letters = |texts: Texts, kpp| texts.with(102, kpp).with(103, kpp);
+    assert_eq!(letters(Texts::class_b(), "7703AZ001").check(), Ok(Class::B));
+    letters(Texts::class_b(), "7703az001").broken(102, 11);
+    assert_eq!(letters(Texts::class_o(), "7703az001").check(), Ok(Class::O));
+}
+
+/// Completion takes the rules as they now are; a blank 102 still gets "0".
+#[test]
+fn r2_completion() {
+    let filling = Texts::s().with(102, "7703AZ001").with(103, "7728AZ001");
+    let blanks = [22, 101, 105, 106, 107, 108, 109];
+    filling.clone().blank(&blanks).completes_to(&filling, 1);
+    let wrong = filling.clone().with(103, "7728aZ001");
+    wrong.blank(&blanks).cannot_be_completed(1056);
+    let filling = filling.with(102, "0");
+    filling.clone().blank(&[102]).completes_to(&filling, 1);
+}

@@ -1,0 +1,79 @@
+-- R-2: letters in a KPP. What stays, as a statement (proofs/Requests.antt proves it); and the answers that change, with their neighbours,
+-- shown true of the definitions by one computation. Assumes nothing.
+use mathlib.Core.Path.{_≡_, refl}
+use mathlib.Core.Bool.{Bool, _||_}
+use mathlib.Core.List.{List, [], _∷_, _++_, map}
+use Prim.Native.Nat.{ℕ}
+use Prim.Native.String.{String}
+use Rattle.texts.specs.Quoted.{Text, words}
+use Rattle.texts.specs.Texts.{_is_, digitsNot00}
+use Rattle.texts.specs.Answers.{Answer, success}
+use Rattle.sheets.specs.Sheet.{Sheet, _⟨_⟩}
+use Rattle.rules.specs.Rules.{Rule, general, special, forBudget, order}
+use Rattle.rules.specs.Verdicts.{checked}
+use Rattle.rules.specs.Before.{replaced, testsBy, checkedBy}
+use Rattle.rules.specs.Examples.{Change, _≔_, accepted, broken, sheetWith, answer}
+
+-- before: rules 11 and 12 with "nine digits not beginning 00", the others as they stand
+abbrev pub kppBefore : Text → Bool
+kppBefore t = digitsNot00 9 t
+
+abbrev pub rule11Before : Sheet → Bool
+rule11Before s = s ⟨ 102 ⟩ is "0" || kppBefore (s ⟨ 102 ⟩)
+
+abbrev pub rule12Before : Sheet → Bool
+rule12Before s = kppBefore (s ⟨ 103 ⟩)
+
+unfoldable pub rulesBefore : List Rule
+rulesBefore = general ++ map forBudget (map (replaced 11 rule11Before) (map (replaced 12 rule12Before) special))
+
+-- "Every sheet accepted before is still accepted", with the same class
+abbrev pub StillAccepted : Type 0
+StillAccepted = (s : Sheet) (c : List ℕ) → checkedBy rulesBefore order s ≡ success c → checked s ≡ success c
+
+-- what was accepted before and what was not, so that the statement speaks of something
+was : List Change → Answer
+was cs = checkedBy rulesBefore order (sheetWith cs)
+
+beforehand :
+    map was (
+    []
+    ∷ ((102 ≔ "0") ∷ [])
+    ∷ ((102 ≔ "010000000") ∷ (103 ≔ "999999999") ∷ [])
+    ∷ ((102 ≔ "7703AZ001") ∷ [])
+    ∷ ((103 ≔ "7703A1001") ∷ [])
+    ∷ ((102 ≔ "003010010") ∷ [])
+    ∷ ((101 ≔ "02") ∷ (102 ≔ "7703AZ001") ∷ [])
+    ∷ ((15 ≔ "") ∷ (101 ≔ "") ∷ (102 ≔ "7703AZ001") ∷ [])
+    ∷ []
+    )
+    ≡ accepted "A" ∷ accepted "A" ∷ accepted "A" ∷ broken 102 11 ∷ broken 103 12 ∷ broken 102 11 ∷ broken 101 10 ∷ accepted "O" ∷ []
+unfolding answer was rulesBefore checkedBy testsBy
+beforehand = refl
+
+-- ---- the table: S with each text of a line in 102, and in 103
+
+inField : ℕ → String → List (List Change)
+inField f q = map (λ (t : Text). (f, t) ∷ []) (words q)
+
+kept : String
+kept = "7703AZ001 7703A1001 77030Z001 0103AA001 770300001 7703ZZ999"
+
+refused : String
+refused = "770A01001 770301A01 7703az001 7703@[001 7703:@001 7703/0001 7703[0001 77030`001 00AA01001 7703AA01 7703AA0011 7703ББ001 7703А0001 77030Я001"
+
+table : List (List Change × Answer)
+table =
+    map (λ (d : List Change). (d, accepted "A")) (inField 102 kept ++ inField 103 kept)
+    ++ (map (λ (d : List Change). (d, broken 102 11)) (inField 102 refused) ++ map (λ (d : List Change). (d, broken 103 12)) (inField 103 refused))
+    -- "0" in 102 alone; rule 27 asks only whether 102 is "0"
+    ++ (((102 ≔ "0") ∷ [], accepted "A")
+    ∷ ((103 ≔ "0") ∷ [], broken 103 12)
+    ∷ ((101 ≔ "17") ∷ (60 ≔ "781023456779") ∷ (107 ≔ "10000000") ∷ (102 ≔ "7703AZ001") ∷ [], broken 102 27)
+    ∷ ((101 ≔ "08") ∷ (102 ≔ "7703AZ001") ∷ [], accepted "A")
+    ∷ ((101 ≔ "08") ∷ (60 ≔ "12345") ∷ (102 ≔ "7703AZ001") ∷ [], accepted "A")
+    ∷ [])
+
+changed : map (λ (e : List Change × Answer). answer (e .0)) table ≡ map (λ (e : List Change × Answer). e .1) table
+unfolding answer table inField kept refused
+changed = refl
