@@ -109,6 +109,21 @@ static void refuse(uint8_t *draft)
            "a short output");
 }
 
+/* An INN that is one digit off, on a draft of its own: no filling keeps the rules. */
+static void mistype(const uint8_t *draft)
+{
+    uint8_t sheet[KIESELBROT_SHEET_SIZE];
+    uint8_t mistyped[KIESELBROT_DRAFT_SIZE];
+    memcpy(mistyped, draft, sizeof mistyped);
+
+    const struct arrival one_off = {60, 2, "7701569744", 0};
+    expect(send_message(mistyped, &one_off).number == KIESELBROT_OK, "an INN one digit off");
+
+    const kieselbrot_complete_answer none =
+        kieselbrot_complete(mistyped, sizeof mistyped, sheet, sizeof sheet);
+    expect(none.number == KIESELBROT_NO_FILLING && none.count == 1056, "its completion");
+}
+
 int main(void)
 {
     uint8_t draft[KIESELBROT_DRAFT_SIZE];
@@ -122,6 +137,7 @@ int main(void)
         expect(posted.number == KIESELBROT_OK && posted.standing == order[i].standing, "posting");
     }
     refuse(draft);
+    mistype(draft);
 
     const kieselbrot_complete_answer completed =
         kieselbrot_complete(draft, sizeof draft, sheet, sizeof sheet);

@@ -95,7 +95,7 @@ fn run(input: &[u8]) {
 }
 
 fn main() {
-    let mut buffer = [0u8; 262144];
+    let mut buffer = [0u8; 524288];
     let n = io::read_full(STDIN_FILENO, &mut buffer);
     run(&buffer[..n]);
 }

@@ -10,10 +10,11 @@ use Rattle.texts.specs.Quoted.{bytes, words}
 use Rattle.texts.specs.Texts.{every, any, are, among, same, between, value, valueOf, number, weighted, _isOneOf_, _beginsOneOf_}
 use Rattle.texts.specs.Buffers.{put, putAt}
 use Rattle.sheets.specs.Sheet.{cell, slotOf, cellText, cellOf, textOf, _⟨_⟩, given}
-use Rattle.sheets.specs.Forms.{person, document, snilsCheck, snils, pension, leap, monthDays, gregorian, date}
-use Rattle.rules.specs.Rules.{rules, testOf, fieldOf, keeps, keepsAll, firstNot}
+use Rattle.sheets.specs.Forms.{checkDigit, person, document, snilsCheck, snils, pension, leap, monthDays, gregorian, date}
+use Rattle.rules.specs.Rules.{rules, order, testOf, fieldOf, keeps, keepsAll, firstNot}
+use Rattle.rules.specs.R4.{rulesBefore}
 use Rattle.sheets.specs.Working.Entries.{filledAt}
-use Rattle.orders.specs.Fillings.{joined, mostFillings, Look, found, none, look, firstFilling}
+use Rattle.orders.specs.Fillings.{joined, mostFillings, listOf, toFill, choices, fillings, Look, found, none, look, firstFilling}
 use Rattle.orders.specs.Working.Search.{passesAt, places, picks, firstPick}
 use Rattle.orders.specs.Working.Entering.{baseOf, pickedOf}
 use Rattle.orders.specs.Complete.{budgetPayment, sheetTests}
@@ -39,7 +40,7 @@ hopeless = sheet "004525987 40102810845370000004 03212643000000014800  0 6730054
 
 -- what the search finds; to unfold it is to unfold all that it is computed by
 unfoldable picked : List ℕ → Look (List ℕ)
-unfolding blanked foreign hopeless sheet cell put putAt every any are among same between value valueOf number _isOneOf_ _beginsOneOf_ slotOf cellText cellOf textOf _⟨_⟩ person document snilsCheck snils pension weighted leap monthDays gregorian date given rules testOf keeps keepsAll look filledAt passesAt places picks firstPick baseOf pickedOf
+unfolding blanked foreign hopeless sheet cell put putAt every any are among same between value valueOf number _isOneOf_ _beginsOneOf_ slotOf cellText cellOf textOf _⟨_⟩ person document snilsCheck snils pension checkDigit weighted leap monthDays gregorian date given rules testOf keeps keepsAll look filledAt passesAt places picks firstPick baseOf pickedOf
 picked s = mapLook (pickedOf (baseOf s)) (firstPick (baseOf s))
 
 -- "count 1": S itself
@@ -74,6 +75,23 @@ snils1 : firstFilling (sheet "004525987 40102810845370000004 0310064300000001480
     ≡ found 1 (sheet "004525987 40102810845370000004 03100643000000014800 0 0 6730054024 24 0 772801001 18201061201010000510 0 0 0 14;12345678964 0")
 unfolding picked
 snils1 = first-is (sheet "004525987 40102810845370000004 03100643000000014800 0 0 6730054024 24 0 772801001 18201061201010000510 0 0 0 14;12345678964 ") refl
+
+-- R-4: S with 101 blank and a wrong check digit in 60: none of the 22 statuses keeps rule 8; by the rules before, the first of them did
+offDraft : List ℕ
+offDraft = sheet "004525987 40102810845370000004 03100643000000014800 0 7722222222 6730054024  770301001 772801001 18201061201010000510 0 0 0 0 0"
+
+noInn : firstFilling offDraft ≡ none 22
+unfolding picked offDraft
+noInn = first-is offDraft refl
+
+inn1Before : look (λ (f : List ℕ). every (λ (n : ℕ). testOf rulesBefore n f) order) 0 (fillings offDraft) ≡ found 1 (sheet "004525987 40102810845370000004 03100643000000014800 0 7722222222 6730054024 01 770301001 772801001 18201061201010000510 0 0 0 0 0")
+unfolding picked offDraft rulesBefore fillings choices toFill listOf
+inn1Before = refl
+
+inn1 : firstFilling (sheet "004525987 40102810845370000004 03100643000000014800 0 7701569743 6730054024  770301001 772801001 18201061201010000510 0 0 0 0 0")
+    ≡ found 1 (sheet "004525987 40102810845370000004 03100643000000014800 0 7701569743 6730054024 01 770301001 772801001 18201061201010000510 0 0 0 0 0")
+unfolding picked
+inn1 = first-is (sheet "004525987 40102810845370000004 03100643000000014800 0 7701569743 6730054024  770301001 772801001 18201061201010000510 0 0 0 0 0") refl
 
 -- class B, with all that can be filled blank
 ofB : firstFilling (sheet "044525000  40204810000000000000   6730054024   772801001      ")

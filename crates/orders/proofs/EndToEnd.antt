@@ -11,7 +11,7 @@ use Rattle.texts.specs.Texts.{every, any, are, among, same, between, value, val
 use Rattle.texts.specs.Answers.{success}
 use Rattle.texts.specs.Buffers.{put}
 use Rattle.sheets.specs.Sheet.{slots, slotOf, cell, cellText, cellOk, cellOf, textOf, slotOk, _⟨_⟩, given}
-use Rattle.sheets.specs.Forms.{person, document, snilsCheck, snils, pension, leap, monthDays, gregorian, date}
+use Rattle.sheets.specs.Forms.{checkDigit, person, document, snilsCheck, snils, pension, leap, monthDays, gregorian, date}
 use Rattle.rules.specs.Rules.{classOf, firstBlank, rules, testOf, fieldOf, keeps, firstNot}
 use Rattle.rules.specs.Verdicts.{checkTests, checked}
 use Rattle.drafts.specs.Message.{messageText, readTests, headBytes, messageOf}
@@ -116,7 +116,7 @@ computed :
     × (setOf foreign ≡ 31816)
     × (tally (toFill foreign) slots ≡ 7)
     × (checked filling ≡ success (bytes "A"))
-unfolding order zeros draft blanks filling foreign sheet postedAll messageOf headBytes messageText readTests every any are among same between value valueOf number _isOneOf_ _beginsOneOf_ put slotOf cell cellText cellOk cellOf textOf slotOk _⟨_⟩ given person document snilsCheck snils pension weighted leap monthDays gregorian date slotIn slotCell slotText slotBytes slotWith slotFormed slotsFormed draftFormed freshDraft slotComparison comparisonOf postTests stored postedTo cells draftSheet classOf firstBlank rules testOf fieldOf keeps firstNot checkTests checked listOf toFill setOf budgetPayment
+unfolding order zeros draft blanks filling foreign sheet postedAll messageOf headBytes messageText readTests every any are among same between value valueOf number _isOneOf_ _beginsOneOf_ put slotOf cell cellText cellOk cellOf textOf slotOk _⟨_⟩ given person document snilsCheck snils pension checkDigit weighted leap monthDays gregorian date slotIn slotCell slotText slotBytes slotWith slotFormed slotsFormed draftFormed freshDraft slotComparison comparisonOf postTests stored postedTo cells draftSheet classOf firstBlank rules testOf fieldOf keeps firstNot checkTests checked listOf toFill setOf budgetPayment
 computed = (refl, refl, refl, refl, refl, refl, refl, refl)
 
 -- the draft that the messages leave is a budget payment, and completing it fills 22, 101 and 105 to 109

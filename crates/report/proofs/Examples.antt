@@ -8,7 +8,7 @@ use Rattle.texts.specs.Quoted.{Text, bytes}
 use Rattle.texts.specs.Texts.{every, any, are, among, same, between, value, valueOf, number, weighted, _isOneOf_, _beginsOneOf_}
 use Rattle.texts.specs.Buffers.{put}
 use Rattle.sheets.specs.Sheet.{slotOf, cell, cellText, cellOk, cellOf, textOf, _⟨_⟩, given}
-use Rattle.sheets.specs.Forms.{person, document, snilsCheck, snils, pension, leap, monthDays, gregorian, date}
+use Rattle.sheets.specs.Forms.{checkDigit, person, document, snilsCheck, snils, pension, leap, monthDays, gregorian, date}
 use Rattle.rules.specs.Rules.{rules, fieldOf, testOf, keeps, keepsAll, firstNot}
 use Rattle.drafts.specs.Message.{messageText, readTests, readingOf, headBytes, messageOf}
 use Rattle.drafts.specs.Draft.{slotIn, slotCell, slotText, slotBytes, slotWith, slotFormed, slotsFormed, draftFormed, freshDraft, slotComparison, comparisonOf, postTests, postingOf, stored, postedTo, cells, draftSheet}
@@ -101,5 +101,5 @@ wholeOutput =
     ∷ [])
 
 whole : reportOf wholeInput ≡ wholeOutput
-unfolding wholeInput wholeOutput feeds messageOf headBytes every any are among same between value valueOf number _isOneOf_ _beginsOneOf_ put slotOf cell cellText cellOk cellOf textOf _⟨_⟩ given person document snilsCheck snils pension weighted leap monthDays gregorian date rules fieldOf testOf keeps keepsAll firstNot listOf toFill choices look fillings firstFilling setOf messageText readTests readingOf slotIn slotCell slotText slotBytes slotWith slotFormed slotsFormed draftFormed freshDraft slotComparison comparisonOf postTests postingOf stored postedTo cells draftSheet sheetTests completeTests completing completed pieceOf endsStream pieces messagesOf decimalIn decimal item messageLine fieldLine fieldLines endLines ending reportFrom reportOf
+unfolding wholeInput wholeOutput feeds messageOf headBytes every any are among same between value valueOf number _isOneOf_ _beginsOneOf_ put slotOf cell cellText cellOk cellOf textOf _⟨_⟩ given person document snilsCheck snils pension checkDigit weighted leap monthDays gregorian date rules fieldOf testOf keeps keepsAll firstNot listOf toFill choices look fillings firstFilling setOf messageText readTests readingOf slotIn slotCell slotText slotBytes slotWith slotFormed slotsFormed draftFormed freshDraft slotComparison comparisonOf postTests postingOf stored postedTo cells draftSheet sheetTests completeTests completing completed pieceOf endsStream pieces messagesOf decimalIn decimal item messageLine fieldLine fieldLines endLines ending reportFrom reportOf
 whole = refl

@@ -28,6 +28,6 @@ unfoldable pub checkedBy : List Rule → List ℕ → Sheet → Answer
 checkedBy rs ns s = answerBy (testsBy rs ns s) (className (classOf s))
 
 -- by the rules and in the order of now it is `checked`
-now : (s : Sheet) → checkedBy rules order s ≡ checked s
+pub now : (s : Sheet) → checkedBy rules order s ≡ checked s
 unfolding checkedBy testsBy checked checkTests keeps
 now s = refl

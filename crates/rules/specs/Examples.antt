@@ -9,7 +9,7 @@ use Rattle.texts.specs.Quoted.{Text, bytes}
 use Rattle.texts.specs.Texts.{every, any, same, between, are, among, valueOf, value, number, weighted, _isOneOf_, _beginsOneOf_}
 use Rattle.texts.specs.Answers.{Answer, success, refusal}
 use Rattle.sheets.specs.Sheet.{slotOf, cell, cellText, cellOk, cellOf, textOf, slotOk, _⟨_⟩, given}
-use Rattle.sheets.specs.Forms.{person, document, snilsCheck, snils, pension, leap, monthDays, gregorian, date}
+use Rattle.sheets.specs.Forms.{checkDigit, person, document, snilsCheck, snils, pension, leap, monthDays, gregorian, date}
 use Rattle.rules.specs.Rules.{classOf, firstBlank, rules, testOf, fieldOf, keeps, firstNot}
 use Rattle.rules.specs.Verdicts.{checkTests, checked}
 
@@ -58,7 +58,7 @@ unfoldable pub sheetWith : List Change → List ℕ
 sheetWith cs = sheetOf (changed s cs)
 
 unfoldable pub answer : List Change → Answer
-unfolding _≔_ changed sheetOf s accepted broken every any same between are among valueOf value number _isOneOf_ _beginsOneOf_ slotOf cell cellText cellOk cellOf textOf slotOk _⟨_⟩ person document leap monthDays gregorian snilsCheck snils pension date classOf given firstBlank rules testOf fieldOf keeps firstNot checkTests checked sheetWith weighted
+unfolding _≔_ changed sheetOf s accepted broken every any same between are among valueOf value number _isOneOf_ _beginsOneOf_ slotOf cell cellText cellOk cellOf textOf slotOk _⟨_⟩ person document leap monthDays gregorian snilsCheck snils pension date checkDigit classOf given firstBlank rules testOf fieldOf keeps firstNot checkTests checked sheetWith weighted
 answer cs = checked (sheetWith cs)
 
 -- "Differences from S", and the answer

@@ -5,4 +5,5 @@ pub mod Pinned
 pub mod Before
 pub mod R1
 pub mod R2
+pub mod R4
 pub mod Working

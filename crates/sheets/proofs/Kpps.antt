@@ -10,11 +10,8 @@ use lib.ListN.{length, getD, take, drop, length-drop}
 use lib.Seq.{length-take-le}
 use Rattle.texts.specs.Quoted.{Text}
 use Rattle.texts.specs.Texts.{every, between, startsWith, digit, digits, digitsNot00, _begins_}
-use Rattle.texts.proofs.Bools.{both}
+use Rattle.texts.proofs.Bools.{both, and2}
 use Rattle.sheets.specs.Forms.{digitOrCapital, kpp}
-
-and2 : (x y : Bool) → x ≡ true → y ≡ true → (x && y) ≡ true
-and2 x y e f = rw (e, f)
 
 module _ (p : ℕ → Bool) where
   every-take : (n : ℕ) (l : List ℕ) → every p l ≡ true → every p (take n l) ≡ true

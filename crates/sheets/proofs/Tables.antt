@@ -1,5 +1,5 @@
 -- The numbers of the paper's quoted lists against their texts, each by one computation. Assumes nothing.
-use mathlib.Core.Path.{_≡_, refl}
+use mathlib.Core.Path.{_≡_, refl, ap}
 use mathlib.Core.Bool.{Bool, _&&_, _||_}
 use lib.Dec.{eqb}
 use Rattle.texts.specs.Quoted.{Text, bytes}
@@ -28,12 +28,9 @@ groups-are t =
     let g = is-one-of 2 t "31" refl in
     λ i. record { customs = a i; treasury = b i; courts = c i; personal = d i; is01 = e i; is13 = f i; is31 = g i }
 
-pub a-is : (bank account : Text) → isA (number 5 (between bank 0 5)) (number 5 (between account 0 5)) ≡ (bank begins bankA && account beginsOneOf accountsA)
+pub a-is : (bank : Bool) (account : Text) → isA bank (number 5 (between account 0 5)) ≡ (bank && account beginsOneOf accountsA)
 unfolding isA every number value valueOf
-a-is bank account =
-    let p = begins-this 5 bank bankA refl in
-    let q = begins-one-of 5 account accountsA refl in
-    λ i. p i && q i
+a-is bank account = ap (λ (q : Bool). bank && q) (begins-one-of 5 account accountsA refl)
 
 pub b-is : (bik account : Text) (four : Bool) → isB (number 3 (between bik 6 9)) (number 5 (between account 0 5)) four ≡ (between bik 6 9 isOneOf banksB && (account begins accountB || (account beginsOneOf accountsB && four)))
 unfolding isB every number value valueOf

@@ -3,18 +3,20 @@ use mathlib.Core.Path.{_≡_, refl, ap, sym, _∙_}
 use mathlib.Core.Bool.{Bool, true, false, not, cond, _&&_, _||_}
 use mathlib.Core.List.{List, [], _∷_}
 use mathlib.Core.Logic.{_⊎_, inl, inr, ⊎-elim}
-use Prim.Native.Nat.{ℕ, _%_, _≤_, _<_}
+use Prim.Native.Nat.{ℕ, _+_, _-_, _%_, _≤_, _<_}
 use native.Mathlib.Decide.{ℕ-discrete, decLt}
 use native.Mathlib.Omega.{arith}
 use borrow.Author.Tests.{eq-eqb, ne-eqb, lt-ltb, le-ltb, le-leb, lt-leb, not-true, not-false}
 use lib.Dec.{eqb, leb, ltb}
-use lib.ListN.{length, getD}
+use lib.ListN.{length, getD, take, drop}
 use Rattle.texts.specs.Quoted.{Text, bytes}
-use Rattle.texts.specs.Texts.{every, any, are, among, between, same, startsWith, digits, valueOf, value, number, _is_}
+use Rattle.texts.specs.Texts.{every, any, are, among, between, same, startsWith, digits, valueOf, value, number, weighted, _is_, _begins_}
+use Rattle.texts.proofs.Bools.{both}
+use Rattle.texts.proofs.Codes.{same-true}
 use Rattle.texts.proofs.Arms.{AnyOf, arm, outside}
-use Rattle.sheets.specs.Sheet.{textOf}
-use Rattle.sheets.specs.Forms.{foreignCode, inn10, inn12, digits5, digits10, digits12, digitOrCapital, kpp, person, snilsBound, snilsCheck, snils, pension, leap, monthDays, gregorian, date}
-use Rattle.sheets.specs.Lists.{account03100, account03212, statuses, personTypes, numbersOf}
+use Rattle.sheets.specs.Sheet.{cellText, textOf}
+use Rattle.sheets.specs.Forms.{foreignCode, weights10, checkDigit, inn10, inn12, digits5, digits10, digits12, digitOrCapital, kpp, person, document, snilsBound, snilsCheck, snils, pension, leap, monthDays, gregorian, date}
+use Rattle.sheets.specs.Lists.{bankA, banksB, accountB, accountsB, account03100, account03212, statuses, personTypes, numbersOf, zeroTexts}
 use Rattle.sheets.specs.Working.Facts.{payerOf, isA, isB, accountOf, groupsBy, standingBy, standingOf, wantedBy, basisOf, documentOf, dayOf, bankingOf, partiesOf, classifiersOf, factsOf, Read}
 use Rattle.sheets.specs.declared.forms.Wanted.{Wanted}
 use Rattle.sheets.specs.declared.forms.Wanted.the-variants.{Any, Inn, Ten, Twelve, Zero}
@@ -43,6 +45,20 @@ kpp-other t e = simp (ne-eqb (length t) 9 e)
 pub kpp-these : (t u v : Text) (a b : ℕ) (x y p q z : Bool) → length t ≡ 9 → a ≡ getD t 4 0 → x ≡ digitOrCapital a → b ≡ getD t 5 0 → y ≡ digitOrCapital b
     → u ≡ between t 0 4 → p ≡ digits 4 u → v ≡ between t 6 9 → q ≡ digits 3 v → z ≡ startsWith t (48 ∷ 48 ∷ []) → (not z && (p && ((x && y) && q))) ≡ kpp t
 kpp-these t u v a b x y p q z l ea ex eb ey eu ep ev eq ez = cc (eq-eqb (length t) 9 l)
+
+-- has_check_digit
+pub check-digit-is : (ws t u : List ℕ) (b v k s : ℕ) → u ≡ between ws 0 25 → b ≡ getD t (length u) 0 → v ≡ valueOf b → k ≡ v
+    → s ≡ weighted (between ws 0 25) t → eqb k (s % 11 % 10) ≡ checkDigit (between ws 0 25) t
+unfolding checkDigit
+check-digit-is ws t u b v k s eu eb ev ek es = cc
+
+-- is_inn10, is_inn12
+module _ (a b : Bool) (e : b ≡ a) where
+  pub inn-other : (c : Bool) → not b ≡ true → false ≡ (a && c)
+  inn-other c h = cc (not-true b h)
+
+  pub inn-these : (c d : Bool) → not b ≡ false → d ≡ c → d ≡ (a && c)
+  inn-these c d h f = cc (not-false b h)
 
 -- snils_check
 pub two-digits : (s : ℕ) → s % 101 % 100 ≡ cond (eqb (s % 101) 100) 0 (s % 101)
@@ -139,14 +155,49 @@ pub standing-is : (t : Text) (n : ℕ) (r : Standing) → n ≡ number 2 t → r
 unfolding standingBy standingOf
 standing-is t n r e f = cc (statuses-are t, groups-are t)
 
+-- is_b: the least account of class B is 40204
+and-none : (x : Bool) → false ≡ (x && false)
+and-none true = refl
+and-none false = refl
+
+pub b-low : (bank account : ℕ) (four : Bool) → account < 40204 → false ≡ isB bank account four
+unfolding isB among any are every number value valueOf
+b-low bank account four h =
+    simp (ne-eqb 40204 account (λ e. omega arith), ne-eqb 40503 account (λ e. omega arith), ne-eqb 40603 account (λ e. omega arith), ne-eqb 40703 account (λ e. omega arith))
+    (and-none (among bank (numbersOf 3 banksB)))
+
+pub b-is-all : (bik account x v : Text) (m o : ℕ) (p q f : Bool) → x ≡ between bik 6 9 → o ≡ number 3 x → p ≡ among o (numbersOf 3 banksB)
+    → v ≡ between account 13 14 → f ≡ same v (52 ∷ []) → q ≡ among m (numbersOf 5 accountsB)
+    → (p && (eqb (number 5 (bytes accountB)) m || (q && f))) ≡ isB (number 3 (between bik 6 9)) m (between account 13 14 is "4")
+unfolding isB
+b-is-all bik account x v m o p q f e1 e2 e3 e4 e5 e6 = cc
+
 -- account_of
-pub account-is : (bik bank account u v w x z : Text) (m n o : ℕ) (a b h f : Bool) → u ≡ between account 0 5 → m ≡ number 5 u
-    → v ≡ between account 13 14 → f ≡ same v (52 ∷ []) → w ≡ between bank 0 5 → n ≡ number 5 w → a ≡ isA n m
-    → x ≡ between bik 6 9 → o ≡ number 3 x → b ≡ isB o m f → z ≡ between account 5 8 → h ≡ same z (54 ∷ 52 ∷ 51 ∷ [])
+pub account-is : (bik bank account u z : Text) (m : ℕ) (k a b h : Bool) → u ≡ between account 0 5 → m ≡ number 5 u
+    → k ≡ (bank begins bankA) → a ≡ isA k m
+    → b ≡ isB (number 3 (between bik 6 9)) m (between account 13 14 is "4") → z ≡ between account 5 8 → h ≡ same z (54 ∷ 52 ∷ 51 ∷ [])
     → record { a = a; b = b; home = h; to03100 = eqb (number 5 (bytes account03100)) m; to03212 = eqb (number 5 (bytes account03212)) m } ≡ accountOf bik bank account
 unfolding accountOf
-account-is bik bank account u v w x z m n o a b h f e1 e2 e3 e4 e5 e6 e7 e8 e9 e10 e11 e12 =
-    cc (a-is bank account, b-is bik account (between account 13 14 is "4"), to03100-is account, to03212-is account)
+account-is bik bank account u z m k a b h e1 e2 e3 e4 e5 e6 e7 =
+    cc (a-is (bank begins bankA) account, b-is bik account (between account 13 14 is "4"), to03100-is account, to03212-is account)
+
+-- cell_text
+pub cell-text-is : (c : List ℕ) (b n : ℕ) → b ≡ getD c 0 0 → n ≡ b → take (1 + n - 1) (drop 1 c) ≡ cellText c
+unfolding cellText between
+cell-text-is c b n eb en = ap (λ (k : ℕ). take (1 + k - 1) (drop 1 c)) (en ∙ eb)
+
+pub cell-text-past : (c u : List ℕ) (b n : ℕ) → b ≡ getD c 0 0 → n ≡ b → u ≡ between c 1 (1 + n) → u ≡ cellText c
+unfolding cellText
+cell-text-past c u b n eb en eu = eu ∙ ap (λ (k : ℕ). between c 1 (1 + k)) (en ∙ eb)
+
+-- document_of
+pub document-zero : (t : Text) (b : Bool) (r : Document) → b ≡ same t (48 ∷ []) → b ≡ true → r ≡ documentOf (getD zeroTexts 0 []) → r ≡ documentOf t
+document-zero t b r e h er = er ∙ ap documentOf (sym (same-true t (48 ∷ []) (sym e ∙ h)))
+
+pub document-is : (t : Text) (a b c d e : Bool) → a ≡ document t → b ≡ person t → c ≡ pension t → d ≡ same t (48 ∷ []) → e ≡ same t (48 ∷ 48 ∷ [])
+    → record { blank = eqb (length t) 0; fit = a; person = b; pension = c; zero = d; zeros = e } ≡ documentOf t
+unfolding documentOf
+document-is t a b c d e ha hb hc hd he = λ i. record { blank = eqb (length t) 0; fit = ha i; person = hb i; pension = hc i; zero = hd i; zeros = he i }
 
 -- facts_of
 pub facts-other : (s : List ℕ) (r : Facts) → (length s ≡ 390 → ⊥) → length s ≡ 390 → Read r s
@@ -163,6 +214,10 @@ facts-is s h d r a b c y t u v w eh ed er et ea eu eb ev ec ew ey l =
     let fc : c ≡ documentOf (textOf s 13) = ec ∙ ap documentOf ev in
     let fy : y ≡ dayOf (textOf s 14) = ey ∙ ap dayOf ew in
     record { size = l; facts = λ i. record { banking = eh i; parties = ed i; classifiers = er i; status = fa i; basis = fb i; document = fc i; day = fy i } }
+
+-- has_ten
+pub inn-ten : (t : Text) (b : Bool) → b ≡ inn10 t → b ≡ true → true ≡ digits10 t
+inn-ten t b e h = let q = both (digits10 t && not (t begins "00")) (checkDigit weights10 t) (sym e ∙ h) in sym (both (digits10 t) _ (q .0) .0)
 
 -- payer_of
 pub payer-is : (t : Text) (a b c d e f g : Bool) → a ≡ (t is "0") → b ≡ foreignCode t → c ≡ inn10 t → d ≡ inn12 t → e ≡ digits5 t → f ≡ digits10 t → g ≡ digits12 t

@@ -5,7 +5,7 @@ use Prim.Native.Nat.{ℕ, _%_}
 use lib.Dec.{leb, ltb, eqb}
 use lib.ListN.{length, getD}
 use Rattle.texts.specs.Quoted.{Text}
-use Rattle.texts.specs.Texts.{every, among, between, _is_, _isOneOf_, _begins_, digit, digits, digitsNotZero, digitsNot00, number, weighted}
+use Rattle.texts.specs.Texts.{every, among, between, _is_, _isOneOf_, _begins_, digit, digits, digitsNotZero, digitsNot00, valueOf, number, weighted}
 use Rattle.sheets.specs.Lists.{letterPairs, personTypes}
 
 infixr 25 _⇒_
@@ -31,11 +31,26 @@ code4 t = digitsNotZero 4 t
 abbrev pub foreignCode : Text → Bool
 foreignCode t = digitsNotZero 5 t
 
+-- the check digits of an INN (R-4): "weights 2 4 10 3 5 9 4 6 8 over the first nine, sum modulo 11 modulo 10, is the tenth"; "weights
+-- 7 2 4 10 3 5 9 4 6 8 give the eleventh, then 3 7 2 4 10 3 5 9 4 6 8 give the twelfth"
+abbrev pub weights10 : List ℕ
+weights10 = 2 ∷ 4 ∷ 10 ∷ 3 ∷ 5 ∷ 9 ∷ 4 ∷ 6 ∷ 8 ∷ []
+
+abbrev pub weights11 : List ℕ
+weights11 = 7 ∷ 2 ∷ 4 ∷ 10 ∷ 3 ∷ 5 ∷ 9 ∷ 4 ∷ 6 ∷ 8 ∷ []
+
+abbrev pub weights12 : List ℕ
+weights12 = 3 ∷ 7 ∷ 2 ∷ 4 ∷ 10 ∷ 3 ∷ 5 ∷ 9 ∷ 4 ∷ 6 ∷ 8 ∷ []
+
+-- the digit behind those that have a weight is the one that they give
+unfoldable pub checkDigit : List ℕ → Text → Bool
+checkDigit ws t = eqb (valueOf (getD t (length ws) 0)) (weighted ws t % 11 % 10)
+
 abbrev pub inn10 : Text → Bool
-inn10 t = digitsNot00 10 t
+inn10 t = digitsNot00 10 t && checkDigit weights10 t
 
 abbrev pub inn12 : Text → Bool
-inn12 t = digitsNot00 12 t
+inn12 t = digitsNot00 12 t && (checkDigit weights11 t && checkDigit weights12 t)
 
 abbrev pub inn : Text → Bool
 inn t = inn10 t || inn12 t

@@ -81,7 +81,7 @@ fn basis_entry(k: usize) -> Basis
     }
 }
 
-fn document_entry(k: usize) -> Document
+pub(crate) fn document_entry(k: usize) -> Document
     ensures { λ r. ⌜ r ≡ documentOf (getD zeroTexts k []) ⌝ }
 {
     Document {

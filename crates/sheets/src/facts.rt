@@ -1,9 +1,11 @@
 // What the rules ask of a sheet, found once: each field's text is read into a few facts, and a rule is a test of facts.
 ghost use mathlib.Core.Path.{_≡_};
 ghost use lib.ListN.{length};
-ghost use Rattle.texts.specs.Texts.{every};
+ghost use Rattle.texts.specs.Texts.{every, between, number, _is_};
 ghost use Rattle.sheets.specs.Sheet.{given};
+ghost use Rattle.sheets.specs.Forms.{inn10, digits10};
 ghost use Rattle.sheets.specs.Working.Facts.{generalOf, isA, isB, accountOf, codeOf, payerOf, formOf, groupsBy, standingBy, standingOf, basisOf, documentOf, dayOf, fixed, bankingOf, partiesOf, classifiersOf, Read};
+use crate::entries::document_entry;
 use crate::forms::Status;
 use crate::forms::Wanted;
 use crate::forms::is_account;
@@ -28,6 +30,7 @@ use crate::forms::is_uin;
 use crate::forms::wanted_by;
 use crate::sheet::SHEET_SIZE;
 use crate::sheet::text;
+use texts::comparisons::begins_with;
 use texts::comparisons::equals;
 use texts::comparisons::is_among;
 use texts::comparisons::is_listed;
@@ -155,7 +158,7 @@ pub struct Facts {
     pub day: Day,
 }
 
-const ACCOUNTS_A: [usize; 12] = [
+const ACCOUNTS_A: [u32; 12] = [
     03100,
     03212,
     03222,
@@ -170,9 +173,9 @@ const ACCOUNTS_A: [usize; 12] = [
     03244,
 ];
 
-const ACCOUNTS_B: [usize; 3] = [40503, 40603, 40703];
+const ACCOUNTS_B: [u32; 3] = [40503, 40603, 40703];
 
-const BANKS_B: [usize; 6] = [000, 001, 002, 003, 004, 005];
+const BANKS_B: [u32; 6] = [000, 001, 002, 003, 004, 005];
 
 // Rule 10's list, which completion goes through as well.
 pub const STATUS_COUNT: usize = 22;
@@ -220,28 +223,32 @@ fn general_of<'a>(bik: &'a [u8], bank: &'a [u8], account: &'a [u8]) -> General
     }
 }
 
-// Class A by the numbers that 15 and 17 begin with.
-fn is_a(bank: usize, account: usize) -> bool
+// Class A by whether 15 is such an account, and the number that 17 begins with.
+fn is_a(bank: bool, account: u32) -> bool
     ensures { λ r. ⌜ r ≡ isA bank account ⌝ }
 {
-    (40102 == bank) & is_listed(account, &ACCOUNTS_A)
+    bank & is_listed(account, &ACCOUNTS_A)
 }
 
-// Class B by digits 7 to 9 of 14, the number that 17 begins with, and whether its 14th digit is 4.
-fn is_b(bank: usize, account: usize, four: bool) -> bool
-    ensures { λ r. ⌜ r ≡ isB bank account four ⌝ }
+// Class B by digits 7 to 9 of 14, the number that 17 begins with, and its 14th digit. Most accounts begin with a lower number.
+fn is_b<'a>(bik: &'a [u8], account: &'a [u8], lead: u32) -> bool
+    ensures { λ r. ⌜ r ≡ isB (number 3 (between (now (bik .entry)) 6 9)) lead (between (now (account .entry)) 13 14 is "4") ⌝ }
 {
-    is_listed(bank, &BANKS_B) & ((40204 == account) | (is_listed(account, &ACCOUNTS_B) & four))
+    if lead < 40204 {
+        return false;
+    }
+    let bank = is_listed(number_3(part(bik, 6, 9)), &BANKS_B);
+    let four = equals(part(account, 13, 14), b"4");
+    bank & ((40204 == lead) | (is_listed(lead, &ACCOUNTS_B) & four))
 }
 
 fn account_of<'a>(bik: &'a [u8], bank: &'a [u8], account: &'a [u8]) -> Account
     ensures { λ r. ⌜ r ≡ accountOf (now (bik .entry)) (now (bank .entry)) (now (account .entry)) ⌝ }
 {
     let lead = number_5(part(account, 0, 5));
-    let four = equals(part(account, 13, 14), b"4");
     Account {
-        a: is_a(number_5(part(bank, 0, 5)), lead),
-        b: is_b(number_3(part(bik, 6, 9)), lead, four),
+        a: is_a(begins_with(bank, b"40102"), lead),
+        b: is_b(bik, account, lead),
         home: equals(part(account, 5, 8), b"643"),
         to03100: 03100 == lead,
         to03212: 03212 == lead,
@@ -258,16 +265,28 @@ fn code_of(t: &[u8]) -> Code
     }
 }
 
+// Ten digits; an INN of ten is not looked at again.
+fn has_ten(t: &[u8], inn: bool) -> bool
+    requires { ⌜ inn ≡ inn10 (now t) ⌝ }
+    ensures { λ r. ⌜ r ≡ digits10 (now (t .entry)) ⌝ }
+{
+    if inn {
+        return true;
+    }
+    is_digits10(t)
+}
+
 fn payer_of(t: &[u8]) -> Payer
     ensures { λ r. ⌜ r ≡ payerOf (now (t .entry)) ⌝ }
 {
+    let inn10 = is_inn10(t);
     Payer {
         zero: equals(t, b"0"),
         foreign: is_foreign_code(t),
-        inn10: is_inn10(t),
+        inn10: inn10,
         inn12: is_inn12(t),
         five: is_digits5(t),
-        ten: is_digits10(t),
+        ten: has_ten(t, inn10),
         twelve: is_digits12(t),
     }
 }
@@ -328,9 +347,13 @@ fn basis_of(t: &[u8]) -> Basis
     }
 }
 
+// Most have "0", the first entry of its list.
 fn document_of(t: &[u8]) -> Document
     ensures { λ r. ⌜ r ≡ documentOf (now (t .entry)) ⌝ }
 {
+    if equals(t, b"0") {
+        return document_entry(0);
+    }
     Document {
         blank: t.len() == 0,
         fit: is_document(t),

@@ -1,11 +1,12 @@
 // The forms of texts that several rules ask for.
 ghost use mathlib.Core.Path.{_≡_};
-ghost use Rattle.texts.specs.Texts.{every, same};
-ghost use Rattle.sheets.specs.Forms.{bik, account, uin, code4, foreignCode, inn10, inn12, digits5, digits10, digits12, digitOrCapital, kpp, kbk, oktmo, office, letterPair, person, allowed, document, snilsCheck, snils, pension, leap, monthDays, gregorian, date};
+ghost use Rattle.texts.specs.Texts.{every, same, between};
+ghost use Rattle.sheets.specs.Forms.{bik, account, uin, code4, foreignCode, checkDigit, inn10, inn12, digits5, digits10, digits12, digitOrCapital, kpp, kbk, oktmo, office, letterPair, person, allowed, document, snilsCheck, snils, pension, leap, monthDays, gregorian, date};
 ghost use Rattle.sheets.specs.Working.Facts.{wantedBy};
 use texts::comparisons::begins_with;
 use texts::comparisons::equals;
 use texts::comparisons::is_among;
+use texts::digits::digit_value;
 use texts::digits::has_digits;
 use texts::digits::has_digits_not_00;
 use texts::digits::has_digits_not_zero;
@@ -99,16 +100,36 @@ pub(crate) fn is_foreign_code(t: &[u8]) -> bool
     has_digits_not_zero(t, 5)
 }
 
+const WEIGHTS_10: [u8; 9] = [2, 4, 10, 3, 5, 9, 4, 6, 8];
+
+const WEIGHTS_11: [u8; 10] = [7, 2, 4, 10, 3, 5, 9, 4, 6, 8];
+
+const WEIGHTS_12: [u8; 11] = [3, 7, 2, 4, 10, 3, 5, 9, 4, 6, 8];
+
+// The digit behind those that have a weight is the one that they give (R-4).
+fn has_check_digit(t: &[u8], weights: &[u8]) -> bool
+    ensures { λ r. ⌜ r ≡ checkDigit (between (now (weights .entry)) 0 25) (now (t .entry)) ⌝ }
+{
+    let place = part(weights, 0, 25).len();
+    wide(digit_value(at(t, place))) == weighted_sum(weights, t) % 11 % 10
+}
+
 pub fn is_inn10(t: &[u8]) -> bool
     ensures { λ r. ⌜ r ≡ inn10 (now (t .entry)) ⌝ }
 {
-    has_digits_not_00(t, 10)
+    if !has_digits_not_00(t, 10) {
+        return false;
+    }
+    has_check_digit(t, &WEIGHTS_10)
 }
 
 pub fn is_inn12(t: &[u8]) -> bool
     ensures { λ r. ⌜ r ≡ inn12 (now (t .entry)) ⌝ }
 {
-    has_digits_not_00(t, 12)
+    if !has_digits_not_00(t, 12) {
+        return false;
+    }
+    has_check_digit(t, &WEIGHTS_11) & has_check_digit(t, &WEIGHTS_12)
 }
 
 pub(crate) fn is_digits5(t: &[u8]) -> bool

@@ -78,7 +78,11 @@ fn cell(sheet: &[u8], slot: u8) -> &[u8]
 pub fn cell_text(c: &[u8]) -> &[u8]
     ensures { λ r. ⌜ now r ≡ cellText (now (c .entry)) ⌝ }
 {
-    part(c, 1, 1 + wide(at(c, 0)))
+    let n = wide(at(c, 0));
+    if n < c.len() {
+        return &c[1..1 + n];
+    }
+    part(c, 1, 1 + n)
 }
 
 pub fn text(sheet: &[u8], slot: u8) -> &[u8]

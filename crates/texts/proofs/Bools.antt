@@ -6,6 +6,9 @@ pub both : (a b : Bool) → (a && b) ≡ true → (a ≡ true) × (b ≡ true)
 both true b e = (refl, e)
 both false b e = absurd (false≢true e)
 
+pub and2 : (a b : Bool) → a ≡ true → b ≡ true → (a && b) ≡ true
+and2 a b e f = rw (e, f)
+
 -- two tests that pass together are the same
 pub alike : (a b : Bool) → (a ≡ true → b ≡ true) → (b ≡ true → a ≡ true) → a ≡ b
 alike true true f g = refl

@@ -51,7 +51,7 @@ pub fn is_among(x: u8, l: &[u8]) -> bool
     found
 }
 
-pub fn is_listed(n: usize, l: &[usize]) -> bool
+pub fn is_listed(n: u32, l: &[u32]) -> bool
     ensures { λ r. ⌜ r ≡ among n (now (l .entry)) ⌝ }
 {
     let mut found = false;

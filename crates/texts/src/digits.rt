@@ -54,7 +54,7 @@ pub fn has_digits_not_00(t: &[u8], n: usize) -> bool
     !begins_with(t, b"00")
 }
 
-fn digit_value(b: u8) -> u8
+pub fn digit_value(b: u8) -> u8
     ensures { λ r. ⌜ (r ≡ valueOf b) × (r ≤ 9) ⌝ }
 {
     if 48 <= b {
@@ -89,13 +89,13 @@ pub fn number_2(t: &[u8]) -> u8
     value_of(t) as u8
 }
 
-pub fn number_3(t: &[u8]) -> usize
+pub fn number_3(t: &[u8]) -> u32
     ensures { λ r. ⌜ r ≡ number 3 (now (t .entry)) ⌝ }
 {
     if !has_digits(t, 3) {
         return 1000;
     }
-    value_of(t)
+    value_of(t) as u32
 }
 
 pub fn number_4(t: &[u8]) -> usize
@@ -107,13 +107,13 @@ pub fn number_4(t: &[u8]) -> usize
     value_of(t)
 }
 
-pub fn number_5(t: &[u8]) -> usize
+pub fn number_5(t: &[u8]) -> u32
     ensures { λ r. ⌜ r ≡ number 5 (now (t .entry)) ⌝ }
 {
     if !has_digits(t, 5) {
         return 100000;
     }
-    value_of(t)
+    value_of(t) as u32
 }
 
 pub fn number_9(t: &[u8]) -> usize

@@ -77,9 +77,79 @@ pub fn nonzero(random: &mut Random, width: usize) -> Text {
 }
 
 /// So many digits, not beginning 00.
-pub fn registered(random: &mut Random, width: usize) -> Text {
+fn registered(random: &mut Random, width: usize) -> Text {
     let begin = random.pick(&["01", "10", "77", "99", "05"]);
     digits_after(random, begin, width)
+}
+
+/// The weights of the digits before each check digit of an INN: the tenth, the eleventh, the twelfth.
+const WEIGHTS_10: &[u32] = &[2, 4, 10, 3, 5, 9, 4, 6, 8];
+const WEIGHTS_11: &[u32] = &[7, 2, 4, 10, 3, 5, 9, 4, 6, 8];
+const WEIGHTS_12: &[u32] = &[3, 7, 2, 4, 10, 3, 5, 9, 4, 6, 8];
+
+/// The weights for each check digit of an INN of so many digits.
+#[must_use]
+pub const fn inn_weights(width: usize) -> &'static [&'static [u32]] {
+    if width == 12 {
+        &[WEIGHTS_11, WEIGHTS_12]
+    } else {
+        &[WEIGHTS_10]
+    }
+}
+
+/// What the weighted sum of digits leaves modulo 11; 10 is written 0.
+#[must_use]
+pub fn inn_remainder(digits: &[u8], weights: &[u32]) -> u32 {
+    let weighted = |(digit, weight): (&u8, &u32)| u32::from(digit - b'0') * weight;
+    digits.iter().zip(weights).map(weighted).sum::<u32>() % 11
+}
+
+/// Sets the check digit behind those that have a weight.
+fn set_check_digit(text: &mut Text, weights: &[u32]) {
+    let digit = inn_remainder(text, weights) % 10;
+    text.bytes_mut()[weights.len()] = b'0' + digit as u8;
+}
+
+fn set_check_digits(text: &mut Text) {
+    let weights = inn_weights(text.len());
+    weights
+        .iter()
+        .for_each(|weights| set_check_digit(text, weights));
+}
+
+/// An INN of 10 or 12 digits.
+pub fn inn(random: &mut Random, width: usize) -> Text {
+    let mut text = registered(random, width);
+    set_check_digits(&mut text);
+    text
+}
+
+/// An INN or nearly one: a digit off, one check digit off and the one behind it right again, 00 in front of right check
+/// digits, or digits.
+fn near_inn(random: &mut Random, width: usize) -> Text {
+    let mut text = inn(random, width);
+    let off = |text: &mut Text, place: usize| {
+        let digit = &mut text.bytes_mut()[place];
+        *digit = if *digit == b'9' { b'0' } else { *digit + 1 };
+    };
+    match random.below(8) {
+        0 => return near_digits(random, width),
+        1 => off(&mut text, random.below(width)),
+        2 => off(&mut text, width - 1),
+        3 => {
+            let weights = inn_weights(width);
+            off(&mut text, weights[0].len());
+            weights[1..]
+                .iter()
+                .for_each(|weights| set_check_digit(&mut text, weights));
+        }
+        4 => {
+            text.bytes_mut()[..2].fill(b'0');
+            set_check_digits(&mut text);
+        }
+        _ => {}
+    }
+    text
 }
 
 /// A KPP: nine digits not beginning 00, letters at places 5 and 6 now and then.
@@ -364,11 +434,12 @@ pub fn text_for(random: &mut Random, field: u8) -> Text {
             let width = random.pick(&[4, 20, 25, 20, 25]);
             near_digits(random, width)
         }
+        60 if random.percent(30) => near_digits(random, 5),
         60 => {
-            let width = random.pick(&[5, 10, 12]);
-            near_digits(random, width)
+            let width = random.pick(&[10, 12]);
+            near_inn(random, width)
         }
-        61 => near_digits(random, 10),
+        61 => near_inn(random, 10),
         101 if random.percent(80) => Text::new(random.pick(&STATUSES).as_bytes()),
         101 => {
             let width = random.pick(&[2, 2, 2, 3]);

@@ -15,7 +15,8 @@ mod texts;
 
 pub use damage::{damaged_draft, damaged_message, damaged_sheet, size_near};
 pub use fillings::{filled_set, fillings};
-pub use forms::{list, snils_remainder, BASES, CLASS_A, CLASS_B, SNILS_BOUND, STATUSES};
+pub use forms::{inn_remainder, inn_weights, list, snils_remainder};
+pub use forms::{BASES, CLASS_A, CLASS_B, SNILS_BOUND, STATUSES};
 pub use orders::{accepted, blanked, budget, class_a, class_b, disturb, with_forms};
 pub use orders::{Account, Basis, Code, Date, Document, Forms, Payer};
 pub use random::Random;

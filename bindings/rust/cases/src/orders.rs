@@ -109,7 +109,7 @@ pub fn with_forms(random: &mut Random, forms: &Forms) -> Texts {
     set_accounts(random, &mut texts, forms.account);
     texts.set(22, code(random, forms.code));
     texts.set(60, payer(random, forms.payer));
-    texts.set(61, forms::registered(random, 10));
+    texts.set(61, forms::inn(random, 10));
     texts.set(101, Text::new(forms.status.unwrap_or_default().as_bytes()));
     texts.set(103, forms::kpp(random));
     let optional: [(u8, bool, Wide); 4] = [
@@ -183,8 +183,8 @@ fn payer(random: &mut Random, form: Payer) -> Text {
     match form {
         Payer::Zero => zero(),
         Payer::Foreign => forms::nonzero(random, 5),
-        Payer::Inn10 => forms::registered(random, 10),
-        Payer::Inn12 => forms::registered(random, 12),
+        Payer::Inn10 => forms::inn(random, 10),
+        Payer::Inn12 => forms::inn(random, 12),
     }
 }
 

@@ -1,6 +1,6 @@
 //! Differences planted on purpose: each must be found.
 
-use cases::{slot_of, snils_remainder, Texts};
+use cases::{inn_remainder, slot_of, snils_remainder, Texts};
 use kieselbrot::{Class, Completed, Message, Posted, Refusal};
 
 use crate::library::{Library, Reference};
@@ -18,6 +18,12 @@ pub enum Planted {
     Hyphen,
     /// The last byte of a sheet is not looked at.
     LastPad,
+    /// Rule 8 refuses a remainder of 10, which is not written 0.
+    Leaves10,
+    /// Rule 8 does not look at the eleventh digit of twelve.
+    Eleventh,
+    /// Rule 9 wants no check digit.
+    Payee,
     /// Rules 11 and 12 take "@" for a letter at place 5.
     At,
     /// Rule 35 does not ask at the bound's neighbour: 1001999 is not above it.
@@ -45,12 +51,15 @@ pub enum Planted {
 }
 
 /// All of them.
-pub const PLANTS: [Planted; 17] = [
+pub const PLANTS: [Planted; 20] = [
     Planted::Century,
     Planted::Status01,
     Planted::Without03252,
     Planted::Hyphen,
     Planted::LastPad,
+    Planted::Leaves10,
+    Planted::Eleventh,
+    Planted::Payee,
     Planted::At,
     Planted::Bound,
     Planted::Leaves100,
@@ -82,6 +91,16 @@ impl Planted {
                     .skip(usize::from(sheet[slot(108)][0] == b'-'))
                     .for_each(|byte| *byte = b'+');
             }
+            Self::Leaves10 if leaves_10(text(sheet, 60)) => seen[slot(60)][10] = b'1',
+            Self::Eleventh if registered(text(sheet, 60), 12) => {
+                let last = cases::inn_weights(12)[1];
+                if fits(text(sheet, 60), last) {
+                    seen[slot(60)][1..13].copy_from_slice(b"781023456779");
+                }
+            }
+            Self::Payee if registered(text(sheet, 61), 10) => {
+                seen[slot(61)][1..11].copy_from_slice(b"6730054024");
+            }
             Self::At => [102, 103].into_iter().for_each(|field| {
                 if text(sheet, field).get(4) == Some(&b'@') {
                     seen[slot(field)][5] = b'A';
@@ -96,6 +115,21 @@ impl Planted {
         }
         seen
     }
+}
+
+/// So many digits not beginning 00.
+fn registered(text: &[u8], width: usize) -> bool {
+    text.len() == width && text.iter().all(u8::is_ascii_digit) && !text.starts_with(b"00")
+}
+
+/// The digit behind the weighted ones is theirs.
+fn fits(text: &[u8], weights: &[u32]) -> bool {
+    u32::from(text[weights.len()] - b'0') == inn_remainder(text, weights) % 10
+}
+
+/// Ten digits of which the first nine leave 10.
+fn leaves_10(text: &[u8]) -> bool {
+    registered(text, 10) && inn_remainder(text, cases::inn_weights(10)[0]) == 10
 }
 
 /// An identifier of type 14 whose nine digits leave 100.

@@ -21,6 +21,7 @@ pub struct Reached {
     sets: BTreeMap<u16, u64>,
     pensions: BTreeMap<(Side, bool), u64>,
     letters: BTreeMap<(u8, Letters, bool), u64>,
+    inns: BTreeMap<(u8, usize, Inn), u64>,
 }
 
 /// What the first nine of a pension number's eleven digits are to rule 35.
@@ -59,6 +60,30 @@ const LETTERS: [(Letters, bool); 5] = [
     (Letters::Both, true),
     (Letters::Beside, false),
     (Letters::Elsewhere, false),
+];
+
+/// What the check digits of 10 or 12 digits are: right, one of them by a remainder of 10; the one at this place alone wrong; right
+/// behind 00.
+#[derive(Clone, Copy, Debug, PartialEq, Eq, PartialOrd, Ord)]
+enum Inn {
+    Right,
+    Leaves10(usize),
+    Off(usize),
+    Behind00,
+}
+
+/// The fields that have an INN, how many digits, and what must be reached of them.
+const INNS: [(u8, usize, &[Inn]); 3] = [(60, 10, &INN_10), (61, 10, &INN_10), (60, 12, &INN_12)];
+
+const INN_10: [Inn; 4] = [Inn::Right, Inn::Leaves10(10), Inn::Off(10), Inn::Behind00];
+
+const INN_12: [Inn; 6] = [
+    Inn::Right,
+    Inn::Leaves10(11),
+    Inn::Leaves10(12),
+    Inn::Off(11),
+    Inn::Off(12),
+    Inn::Behind00,
 ];
 
 /// What an accepted sheet had: a listed text of a field, by its place in the list.
@@ -117,6 +142,7 @@ impl Reached {
         self.answer("check", answer);
         self.pension(sheet, answer);
         self.letters(sheet, answer);
+        self.inn(sheet, answer);
         let Ok(class) = answer else { return };
         self.accept(class, Accepted::Class);
         if class != Class::O {
@@ -184,6 +210,24 @@ impl Reached {
         }
     }
 
+    /// 10 or 12 digits in 60 or 61 that were kept, or named by rule 8 or 9.
+    fn inn(&mut self, sheet: &[u8], answer: Result<Class, Refusal>) {
+        for field in [60, 61] {
+            let kept = match answer {
+                Ok(Class::A | Class::B) => true,
+                Err(Refusal::Broken {
+                    field: named,
+                    rule: 8 | 9,
+                }) if named == field => false,
+                _ => continue,
+            };
+            let text = text_of(sheet, field);
+            if let Some(what) = check_digits(text).filter(|what| what.kept() == kept) {
+                *self.inns.entry((field, text.len(), what)).or_default() += 1;
+            }
+        }
+    }
+
     fn accept(&mut self, class: Class, what: Accepted) {
         *self.accepted.entry((class, what)).or_default() += 1;
     }
@@ -245,6 +289,7 @@ impl Reached {
         add(&mut self.sets, &other.sets);
         add(&mut self.pensions, &other.pensions);
         add(&mut self.letters, &other.letters);
+        add(&mut self.inns, &other.inns);
         for (sum, more) in self.standings.iter_mut().zip(other.standings) {
             *sum += more;
         }
@@ -268,6 +313,12 @@ impl Reached {
             for (what, kept) in LETTERS {
                 let reached = get(&self.letters, (field, what, kept));
                 list.push((format!("{field} with letters: {what:?}"), reached));
+            }
+        }
+        for (field, width, whats) in INNS {
+            for &what in whats {
+                let reached = get(&self.inns, (field, width, what));
+                list.push((format!("{field} of {width} digits: {what:?}"), reached));
             }
         }
         for side in SIDES {
@@ -342,6 +393,33 @@ impl Reached {
             .map(|(name, _)| format!("never reached: {name}"))
             .chain(strange)
             .collect()
+    }
+}
+
+impl Inn {
+    /// Whether rules 8 and 9 keep it.
+    const fn kept(self) -> bool {
+        matches!(self, Self::Right | Self::Leaves10(_))
+    }
+}
+
+/// What the check digits of a text are; nothing where it is not 10 or 12 digits, or where more than one is wrong.
+fn check_digits(text: &[u8]) -> Option<Inn> {
+    if !matches!(text.len(), 10 | 12) || !text.iter().all(u8::is_ascii_digit) {
+        return None;
+    }
+    let remainder = |weights: &&[u32]| cases::inn_remainder(text, weights);
+    let off = |weights: &&&[u32]| u32::from(text[weights.len()] - b'0') != remainder(weights) % 10;
+    let weights = cases::inn_weights(text.len());
+    let mut wrong = weights.iter().filter(off);
+    match (wrong.next(), wrong.next(), text.starts_with(b"00")) {
+        (None, _, true) => Some(Inn::Behind00),
+        (Some(weights), None, false) => Some(Inn::Off(weights.len() + 1)),
+        (None, _, false) => {
+            let ten = weights.iter().find(|weights| remainder(weights) == 10);
+            Some(ten.map_or(Inn::Right, |weights| Inn::Leaves10(weights.len() + 1)))
+        }
+        _ => None,
     }
 }
 

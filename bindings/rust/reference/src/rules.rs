@@ -66,6 +66,15 @@ pub(crate) const BASES: [&[u8]; 12] = [
     b"\xCA\xDD",
 ];
 
+/// "Ten digits: weights 2 4 10 3 5 9 4 6 8 over the first nine".
+const INN_TENTH_WEIGHTS: [u32; 9] = [2, 4, 10, 3, 5, 9, 4, 6, 8];
+
+/// "Twelve: weights 7 2 4 10 3 5 9 4 6 8 give the eleventh".
+const INN_ELEVENTH_WEIGHTS: [u32; 10] = [7, 2, 4, 10, 3, 5, 9, 4, 6, 8];
+
+/// "Then 3 7 2 4 10 3 5 9 4 6 8 give the twelfth".
+const INN_TWELFTH_WEIGHTS: [u32; 11] = [3, 7, 2, 4, 10, 3, 5, 9, 4, 6, 8];
+
 /// The greatest nine digits of a pension number that rule 35 takes with any last
 /// two: "a number above 1001998".
 const SNILS_UNCHECKED_MAX: u32 = 1_001_998;
@@ -159,21 +168,24 @@ enum Payer {
 
 impl Payer {
     /// Rule 8: ""0"; 5 digits not all zero (a foreign code); 10 or 12 digits
-    /// not beginning 00 (an INN)".
+    /// not beginning 00 (an INN)". "Rules 8 and 9 now also want the tax service's
+    /// check digits."
     fn parse(text: &[u8]) -> Option<Self> {
         if text == ZERO {
             Some(Self::Zero)
         } else if is_digits(text, 5) && !all_zero(text) {
             Some(Self::Foreign)
-        } else if is_registered(text, 10) {
+        } else if is_inn10(text) {
             Some(Self::Inn10)
-        } else if is_registered(text, 12) {
+        } else if is_inn12(text) {
             Some(Self::Inn12)
         } else {
             None
         }
     }
 
+    /// An INN of either length: "Wherever a rule says INN it means this", with
+    /// its check digits.
     const fn is_inn(self) -> bool {
         matches!(self, Self::Inn10 | Self::Inn12)
     }
@@ -321,6 +333,29 @@ fn is_registered(text: &[u8], width: usize) -> bool {
     is_digits(text, width) && !text.starts_with(DOUBLE_ZERO)
 }
 
+/// An INN of 10 digits not beginning 00. "Ten digits: weights 2 4 10 3 5 9 4 6 8
+/// over the first nine, sum modulo 11 modulo 10, is the tenth."
+fn is_inn10(text: &[u8]) -> bool {
+    is_registered(text, 10) && is_checked(text, &INN_TENTH_WEIGHTS)
+}
+
+/// An INN of 12 digits not beginning 00. "Twelve: weights 7 2 4 10 3 5 9 4 6 8
+/// give the eleventh, then 3 7 2 4 10 3 5 9 4 6 8 give the twelfth."
+fn is_inn12(text: &[u8]) -> bool {
+    is_registered(text, 12)
+        && is_checked(text, &INN_ELEVENTH_WEIGHTS)
+        && is_checked(text, &INN_TWELFTH_WEIGHTS)
+}
+
+/// Whether the digit after the weighted ones is their "sum modulo 11 modulo 10".
+fn is_checked(digits: &[u8], weights: &[u32]) -> bool {
+    let check = weighted_sum(digits, weights) % 11 % 10;
+    digits
+        .get(weights.len())
+        .map(|digit| u32::from(digit - b'0'))
+        == Some(check)
+}
+
 /// A KPP: nine digits not beginning 00, but at places 5 and 6 rules 11 and 12
 /// "accept "A" to "Z" there besides digits, and digits alone elsewhere".
 fn is_kpp(text: &[u8]) -> bool {
@@ -345,7 +380,8 @@ fn number(digits: &[u8]) -> Option<u32> {
     })
 }
 
-/// The sum of the digits, each times its weight.
+/// The sum of the first digits, as many as there are weights, each times its
+/// weight.
 fn weighted_sum(digits: &[u8], weights: &[u32]) -> u32 {
     digits
         .iter()
@@ -463,7 +499,7 @@ impl<'a> Order<'a> {
         let code = Code::parse(sheet[Field::Code], account).ok_or(broken(Field::Code, Rule(7)))?;
         let payer = Payer::parse(sheet[Field::PayerInn]).ok_or(broken(Field::PayerInn, Rule(8)))?;
         require(
-            is_registered(sheet[Field::RecipientInn], 10),
+            is_inn10(sheet[Field::RecipientInn]),
             Field::RecipientInn,
             Rule(9),
         )?;
@@ -594,7 +630,8 @@ impl<'a> Order<'a> {
     }
 
     /// Rule 27: "60 of 12 digits: "0"; of 5: not "0"; of 10: not "0" unless
-    /// status 01". By rule 11 "a KPP other than "0" has this form", [`is_kpp`].
+    /// status 01". With rule 8 kept, 10 or 12 digits are an INN. By rule 11 "a
+    /// KPP other than "0" has this form", [`is_kpp`].
     fn keeps_payer_kpp(&self) -> bool {
         let zero = self.payer_kpp == ZERO;
         match self.payer {

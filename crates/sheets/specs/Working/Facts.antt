@@ -35,8 +35,8 @@ unfoldable pub generalOf : Text → Text → Text → General
 generalOf t u v = record { bik = bik t; bank = blank u || account u; account = account v }
 
 -- class A and B, by the numbers that the accounts begin with
-unfoldable pub isA : ℕ → ℕ → Bool
-isA bank account = eqb (number 5 (bytes bankA)) bank && among account (numbersOf 5 accountsA)
+unfoldable pub isA : Bool → ℕ → Bool
+isA bank account = bank && among account (numbersOf 5 accountsA)
 
 unfoldable pub isB : ℕ → ℕ → Bool → Bool
 isB bank account four =

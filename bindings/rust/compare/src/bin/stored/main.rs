@@ -165,6 +165,6 @@ mod tests {
     /// The example program has room for so much input.
     #[test]
     fn the_input_fits() {
-        assert!(input(&all()).len() < 262_144);
+        assert!(input(&all()).len() < 524_288);
     }
 }
