@@ -4,3 +4,4 @@ pub mod Means
 pub mod Judging
 pub mod Reading
 pub mod Requests
+pub mod Exchanged

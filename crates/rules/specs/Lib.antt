@@ -6,4 +6,5 @@ pub mod Before
 pub mod R1
 pub mod R2
 pub mod R4
+pub mod R5
 pub mod Working

@@ -116,7 +116,7 @@ turns =
     -- 19 and 20, 21 are for different statuses
     ∷ turn (to03212 ∷ []) (broken 17 19) (19 ∷ 22 ∷ []) refl refl
     ∷ turn ((101 ≔ "31") ∷ []) (broken 17 20) (20 ∷ 21 ∷ []) refl refl
-    ∷ turn (to03212 ∷ (101 ≔ "31") ∷ []) (broken 22 21) (21 ∷ 22 ∷ []) refl refl
+    ∷ turn (to03212 ∷ (101 ≔ "31") ∷ []) (broken 22 22) (21 ∷ 22 ∷ []) refl refl
     -- on 03212 the statuses of 23 and 24 break 19
     ∷ turn (to03212 ∷ (101 ≔ "03") ∷ []) (broken 22 22) (22 ∷ 25 ∷ []) refl refl
     -- 23, 24, 25 and 26 are for different statuses

@@ -30,7 +30,7 @@ pub enum Verdict {
     Accepted(Class),
 }
 
-// "Tested in number order".
+// "Tested in number order", but "22 is tested ahead of 21" (R-5).
 const ORDER: [u8; 35] = [
     1,
     2,
@@ -52,8 +52,8 @@ const ORDER: [u8; 35] = [
     18,
     19,
     20,
-    21,
     22,
+    21,
     23,
     24,
     25,

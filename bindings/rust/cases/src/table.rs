@@ -87,7 +87,7 @@ mod tests {
     #[test]
     fn the_table_is_read_whole() {
         let cases = sheets();
-        assert_eq!(cases.len(), 647);
+        assert_eq!(cases.len(), 656);
         assert_eq!(cases[0].texts, Texts::s());
         assert_eq!(cases[0].verdict, "ok A");
         assert_eq!(cases[2].verdict, "8 102 27");

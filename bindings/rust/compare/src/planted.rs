@@ -26,6 +26,8 @@ pub enum Planted {
     Payee,
     /// Rules 11 and 12 take "@" for a letter at place 5.
     At,
+    /// Rule 21 is tested ahead of rule 22.
+    Early21,
     /// Rule 35 does not ask at the bound's neighbour: 1001999 is not above it.
     Bound,
     /// Rule 35 refuses a remainder of 100, which is not written 00.
@@ -51,7 +53,7 @@ pub enum Planted {
 }
 
 /// All of them.
-pub const PLANTS: [Planted; 20] = [
+pub const PLANTS: [Planted; 21] = [
     Planted::Century,
     Planted::Status01,
     Planted::Without03252,
@@ -61,6 +63,7 @@ pub const PLANTS: [Planted; 20] = [
     Planted::Eleventh,
     Planted::Payee,
     Planted::At,
+    Planted::Early21,
     Planted::Bound,
     Planted::Leaves100,
     Planted::LastArrival,
@@ -150,6 +153,11 @@ impl Library for Planted {
         let answer = Reference.check(&self.seen(sheet));
         let inn = text(sheet, 60).len() == 10 && text(sheet, 102) == b"0";
         match answer {
+            Err(Refusal::Broken { field, rule: 22 })
+                if *self == Self::Early21 && matches!(text(sheet, 101), b"31" | b"33") =>
+            {
+                Err(Refusal::Broken { field, rule: 21 })
+            }
             Ok(Class::A | Class::B)
                 if *self == Self::Status01 && inn && text(sheet, 101) == b"01" =>
             {

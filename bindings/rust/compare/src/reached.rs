@@ -22,6 +22,7 @@ pub struct Reached {
     pensions: BTreeMap<(Side, bool), u64>,
     letters: BTreeMap<(u8, Letters, bool), u64>,
     inns: BTreeMap<(u8, usize, Inn), u64>,
+    codes: BTreeMap<(Caught, u8), u64>,
 }
 
 /// What the first nine of a pension number's eleven digits are to rule 35.
@@ -86,6 +87,26 @@ const INN_12: [Inn; 6] = [
     Inn::Behind00,
 ];
 
+/// What a sheet has that rule 21 or 22 is named of: a status of rule 21 or another, 17 of rule 22 or another, "0" in 22 or another text.
+#[derive(Clone, Copy, Debug, PartialEq, Eq, PartialOrd, Ord)]
+enum Caught {
+    /// Both rules are broken.
+    ByBoth,
+    /// Rule 21 alone: 22 is not "0".
+    OtherCode,
+    /// Rule 21 alone: 17 is another account.
+    OtherAccount,
+    /// Rule 22 alone: another status.
+    OtherStatus,
+}
+
+const CAUGHT: [(Caught, u8); 4] = [
+    (Caught::ByBoth, 22),
+    (Caught::OtherCode, 21),
+    (Caught::OtherAccount, 21),
+    (Caught::OtherStatus, 22),
+];
+
 /// What an accepted sheet had: a listed text of a field, by its place in the list.
 #[derive(Clone, Copy, Debug, PartialEq, Eq, PartialOrd, Ord)]
 enum Accepted {
@@ -143,6 +164,7 @@ impl Reached {
         self.pension(sheet, answer);
         self.letters(sheet, answer);
         self.inn(sheet, answer);
+        self.code(sheet, answer);
         let Ok(class) = answer else { return };
         self.accept(class, Accepted::Class);
         if class != Class::O {
@@ -228,6 +250,27 @@ impl Reached {
         }
     }
 
+    /// A sheet that rule 21 or 22 is named of.
+    fn code(&mut self, sheet: &[u8], answer: Result<Class, Refusal>) {
+        let Err(Refusal::Broken {
+            rule: rule @ (21 | 22),
+            ..
+        }) = answer
+        else {
+            return;
+        };
+        let courts = matches!(text_of(sheet, 101), b"31" | b"33");
+        let account = text_of(sheet, 17).starts_with(b"03212");
+        let zero = text_of(sheet, 22) == b"0";
+        let what = match (courts, account, zero) {
+            (true, true, true) => Caught::ByBoth,
+            (true, true, false) => Caught::OtherCode,
+            (true, false, _) => Caught::OtherAccount,
+            (false, ..) => Caught::OtherStatus,
+        };
+        *self.codes.entry((what, rule)).or_default() += 1;
+    }
+
     fn accept(&mut self, class: Class, what: Accepted) {
         *self.accepted.entry((class, what)).or_default() += 1;
     }
@@ -290,6 +333,7 @@ impl Reached {
         add(&mut self.pensions, &other.pensions);
         add(&mut self.letters, &other.letters);
         add(&mut self.inns, &other.inns);
+        add(&mut self.codes, &other.codes);
         for (sum, more) in self.standings.iter_mut().zip(other.standings) {
             *sum += more;
         }
@@ -320,6 +364,10 @@ impl Reached {
                 let reached = get(&self.inns, (field, width, what));
                 list.push((format!("{field} of {width} digits: {what:?}"), reached));
             }
+        }
+        for (what, rule) in CAUGHT {
+            let reached = get(&self.codes, (what, rule));
+            list.push((format!("rule {rule}: {what:?}"), reached));
         }
         for side in SIDES {
             let reached = |kept| get(&self.pensions, (side, kept));

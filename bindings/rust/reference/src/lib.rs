@@ -4,8 +4,8 @@
 //! This is a second implementation, written from the paper "Budget payment
 //! orders under 107n: draft, check and completion" and its change requests
 //! alone. Doc comments quote the sentence of the paper or the request they
-//! follow. Of the requests it has R-1 (pension numbers), R-2 (letters in a KPP)
-//! and R-4 (check digits of the INN).
+//! follow. Of the requests it has R-1 (pension numbers), R-2 (letters in a KPP),
+//! R-4 (check digits of the INN) and R-5 (rule 22 ahead of rule 21).
 //!
 //! Every public function is total, and "Refusals change no buffer".
 

@@ -24,7 +24,7 @@ pub enum Refusal {
     Broken {
         /// The number of the field in brackets before the rule.
         field: u8,
-        /// The number of the first broken rule.
+        /// The number of the first broken rule, in the order of testing.
         rule: u8,
     },
     /// 9: "completion of class O".

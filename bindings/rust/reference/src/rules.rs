@@ -408,11 +408,13 @@ fn require(kept: bool, field: Field, rule: Rule) -> Result<(), Refusal> {
 }
 
 /// Checks a sheet. The rules are "tested in number order; the first broken one
-/// is named with the field in brackets"; "acceptance returns the class".
+/// is named with the field in brackets", but "22 is tested ahead of 21";
+/// "acceptance returns the class".
 ///
 /// # Errors
 ///
-/// [`Refusal::Malformed`], or [`Refusal::Broken`] with the first broken rule.
+/// [`Refusal::Malformed`], or [`Refusal::Broken`] with the first broken rule:
+/// it "is counted in the new order".
 pub fn check(sheet: &[u8]) -> Result<Class, Refusal> {
     judge(&Sheet::parse(sheet).ok_or(Refusal::Malformed)?)
 }
@@ -545,7 +547,7 @@ impl<'a> Order<'a> {
         })
     }
 
-    /// Rules 19 to 35: what the fields demand of one another.
+    /// Rules 19 to 35, 22 ahead of 21: what the fields demand of one another.
     fn relations(&self) -> Result<(), Refusal> {
         let class_a = self.class == Class::A;
         let treasury = self.account.starts_with(TREASURY);
@@ -562,15 +564,16 @@ impl<'a> Order<'a> {
             Field::RecipientAccount,
             Rule(20),
         )?;
-        require(
-            !self.status.needs_uin() || self.code == Code::Uin,
-            Field::Code,
-            Rule(21),
-        )?;
+        // "22 is tested ahead of 21, both keeping their numbers."
         require(
             !institution || self.code != Code::Zero,
             Field::Code,
             Rule(22),
+        )?;
+        require(
+            !self.status.needs_uin() || self.code == Code::Uin,
+            Field::Code,
+            Rule(21),
         )?;
         require(
             self.status.allows_payer(self.payer),
