@@ -1,6 +1,6 @@
-/* A small order: its messages are written, posted in the order of their arrival
- * and completed, and the sheet is printed. The program checks its own results and
- * returns 1 if one is not as expected. */
+/* A small order: its messages are written, posted in the order of their arrival,
+ * tested and completed, and the sheet is printed. The program checks its own
+ * results and returns 1 if one is not as expected. */
 
 #include <stdio.h>
 #include <string.h>
@@ -11,6 +11,7 @@ _Static_assert(sizeof(kieselbrot_check_answer) == 4, "the answers' layout");
 _Static_assert(sizeof(kieselbrot_read_answer) == 24, "the answers' layout");
 _Static_assert(sizeof(kieselbrot_write_answer) == 16, "the answers' layout");
 _Static_assert(sizeof(kieselbrot_post_answer) == 2, "the answers' layout");
+_Static_assert(sizeof(kieselbrot_pretest_answer) == 3, "the answers' layout");
 _Static_assert(sizeof(kieselbrot_complete_answer) == 24, "the answers' layout");
 
 _Static_assert(KIESELBROT_SHEET_SIZE == KIESELBROT_FIELDS * KIESELBROT_SHEET_SLOT_SIZE, "a sheet");
@@ -84,6 +85,20 @@ static void print_sheet(const uint8_t *sheet)
     }
 }
 
+/* Tests a draft that no filling can save, and completes it all the same. */
+static void expect_hopeless(const uint8_t *draft, uint8_t field, uint8_t rule)
+{
+    uint8_t sheet[KIESELBROT_SHEET_SIZE];
+    const kieselbrot_pretest_answer named = kieselbrot_pretest(draft, KIESELBROT_DRAFT_SIZE);
+    printf("hopeless: field %d, rule %d\n", named.field, named.rule);
+    expect(named.number == KIESELBROT_OK && named.field == field && named.rule == rule,
+           "the rule that all fillings break");
+
+    const kieselbrot_complete_answer none =
+        kieselbrot_complete(draft, KIESELBROT_DRAFT_SIZE, sheet, sizeof sheet);
+    expect(none.number == KIESELBROT_NO_FILLING && none.count == 1056, "its completion");
+}
+
 /* What is refused, and that nothing changes. */
 static void refuse(uint8_t *draft)
 {
@@ -107,21 +122,25 @@ static void refuse(uint8_t *draft)
     expect(kieselbrot_copy(draft, KIESELBROT_DRAFT_SIZE, sheet, sizeof sheet - 1) ==
                KIESELBROT_OUTPUT,
            "a short output");
+
+    const kieselbrot_pretest_answer untested = kieselbrot_pretest(draft, KIESELBROT_DRAFT_SIZE - 1);
+    expect(untested.number == KIESELBROT_MALFORMED && untested.field == 0 && untested.rule == 0,
+           "a short draft");
 }
 
-/* An INN that is one digit off, on a draft of its own: no filling keeps the rules. */
-static void mistype(const uint8_t *draft)
+/* What is hopeless before any filling is tried, on a draft of its own. */
+static void give_up(const uint8_t *draft)
 {
-    uint8_t sheet[KIESELBROT_SHEET_SIZE];
-    uint8_t mistyped[KIESELBROT_DRAFT_SIZE];
-    memcpy(mistyped, draft, sizeof mistyped);
+    uint8_t hopeless[KIESELBROT_DRAFT_SIZE];
+    memcpy(hopeless, draft, sizeof hopeless);
+
+    const struct arrival no_kbk = {104, 3, "0", 0};
+    expect(send_message(hopeless, &no_kbk).number == KIESELBROT_OK, "a KBK of 0");
+    expect_hopeless(hopeless, 104, 28);
 
     const struct arrival one_off = {60, 2, "7701569744", 0};
-    expect(send_message(mistyped, &one_off).number == KIESELBROT_OK, "an INN one digit off");
-
-    const kieselbrot_complete_answer none =
-        kieselbrot_complete(mistyped, sizeof mistyped, sheet, sizeof sheet);
-    expect(none.number == KIESELBROT_NO_FILLING && none.count == 1056, "its completion");
+    expect(send_message(hopeless, &one_off).number == KIESELBROT_OK, "an INN one digit off");
+    expect_hopeless(hopeless, 60, 8);
 }
 
 int main(void)
@@ -137,7 +156,11 @@ int main(void)
         expect(posted.number == KIESELBROT_OK && posted.standing == order[i].standing, "posting");
     }
     refuse(draft);
-    mistype(draft);
+    give_up(draft);
+
+    const kieselbrot_pretest_answer tested = kieselbrot_pretest(draft, sizeof draft);
+    expect(tested.number == KIESELBROT_OK && tested.field == 0 && tested.rule == 0,
+           "nothing hopeless");
 
     const kieselbrot_complete_answer completed =
         kieselbrot_complete(draft, sizeof draft, sheet, sizeof sheet);

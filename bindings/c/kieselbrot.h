@@ -73,8 +73,8 @@ enum {
     KIESELBROT_REVISION_ZERO = 5, /* revision 0 */
     KIESELBROT_CLASH = 6,         /* equal revision, other text */
     KIESELBROT_OUTPUT = 7,        /* a sheet not of 390, a message buffer too short */
-    KIESELBROT_BROKEN = 8,        /* a broken rule; in completion only 1 to 3 */
-    KIESELBROT_ORDINARY = 9,      /* completion of class O */
+    KIESELBROT_BROKEN = 8,        /* a broken rule; in completion and its pretest only 1 to 3 */
+    KIESELBROT_ORDINARY = 9,      /* completion or pretest of class O */
     KIESELBROT_NO_FILLING = 10    /* no filling keeps the rules */
 };
 
@@ -107,6 +107,16 @@ typedef struct {
     uint8_t number;   /* 0, or 1 to 6 */
     uint8_t standing; /* 'n' newer, and stored; 's' same; 'o' older */
 } kieselbrot_post_answer;
+
+/* The answer of the test ahead of completion. */
+typedef struct {
+    uint8_t number; /* 0, 1, 8 or 9 */
+    uint8_t field;  /* with 8: the field that the broken rule names; with 0: the
+                     * field of the named rule, or 0 */
+    uint8_t rule;   /* with 8: the first broken rule, 1 to 3; with 0: the first of
+                     * rules 5 to 9, 11 to 14, 16, 22 and 28, in the order of
+                     * testing, that all fillings break, or 0 where there is none */
+} kieselbrot_pretest_answer;
 
 /* The answer of completing a draft. */
 typedef struct {
@@ -141,6 +151,11 @@ kieselbrot_post_answer kieselbrot_post(uint8_t *draft, size_t draft_len, const u
 /* Copies a draft's texts to a sheet, whatever that held, without the revisions.
  * Returns the number. */
 uint8_t kieselbrot_copy(const uint8_t *draft, size_t draft_len, uint8_t *sheet, size_t sheet_len);
+
+/* Tests a draft ahead of completion. Where it names a rule, completing the draft
+ * into any sheet buffer of the right size is refused with 10 and the count of all
+ * fillings; it names none exactly when every filling keeps all twelve rules. */
+kieselbrot_pretest_answer kieselbrot_pretest(const uint8_t *draft, size_t draft_len);
 
 /* Completes a draft: writes the first filling that keeps all rules to the sheet,
  * whatever that held. */

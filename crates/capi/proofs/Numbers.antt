@@ -28,14 +28,17 @@ use Rattle.drafts.specs.declared.draft.Copied.{Copied}
 use Rattle.drafts.proofs.Messages.{readable-means, reading-is, text-length}
 use Rattle.orders.specs.Complete.{completeAnswer, sheetTests, completeTests, completing}
 use Rattle.orders.specs.Whole.{Completes}
+use Rattle.orders.specs.Pretest.{pretestAnswer, pretestTests, pretesting, Pretests}
+use Rattle.orders.specs.declared.pretest.Pretested.{Pretested}
 use Rattle.orders.specs.declared.complete.Completed.{Completed}
-use Rattle.capi.specs.Numbers.{numbered, numberAnswer, checkNumbers, checkOf, readNumbers, readOf, writeNumbers, writeOf, postNumbers, wordOf, postOf, completeNumbers, completeOf}
-use Rattle.capi.specs.Promises.{CheckReturns, ReadReturns, WriteReturns, FreshReturns, PostReturns, CopyReturns, CompleteReturns}
+use Rattle.capi.specs.Numbers.{numbered, numberAnswer, checkNumbers, checkOf, readNumbers, readOf, writeNumbers, writeOf, postNumbers, wordOf, postOf, completeNumbers, completeOf, pretestNumbers, pretestOf}
+use Rattle.capi.specs.Promises.{CheckReturns, ReadReturns, WriteReturns, FreshReturns, PostReturns, CopyReturns, CompleteReturns, PretestReturns}
 use Rattle.capi.specs.declared.Check.{Check}
 use Rattle.capi.specs.declared.Read.{Read}
 use Rattle.capi.specs.declared.Write.{Write}
 use Rattle.capi.specs.declared.Post.{Post}
 use Rattle.capi.specs.declared.Complete.{Complete}
+use Rattle.capi.specs.declared.Pretest.{Pretest}
 
 -- ---- reading an answer back
 
@@ -97,6 +100,10 @@ complete-back : (d b : List ℕ) → Back completeNumbers completeOf (completing
 unfolding completing completeTests sheetTests completeNumbers completeOf numbered
 complete-back d b = tested (Back completeNumbers completeOf) (completeTests d b) _ refl (search depth 12)
 
+pretest-back : (d : List ℕ) → Back pretestNumbers pretestOf (pretesting d)
+unfolding pretesting pretestTests pretestNumbers pretestOf numbered
+pretest-back d = tested (Back pretestNumbers pretestOf) (pretestTests d) _ refl (search depth 12)
+
 -- ---- what each function returned: v is what it called, and k the case of v in an arm
 
 module _ (s : List ℕ) (v : Verdict) (p : Checked s v) (k : Verdict) (e : v ≡ k) (r : Check) (q : r ≡ checkNumbers (verdictAnswer k)) where
@@ -148,3 +155,7 @@ module _ (d s : List ℕ) (v : Copied) (x : List ℕ) (p : Copies d s v x) (k : 
 module _ (d b : List ℕ) (v : Completed) (x : List ℕ) (p : Completes d b v x) (k : Completed) (e : v ≡ k) (r : Complete) (q : r ≡ completeNumbers (completeAnswer k)) where
   pub completed-is : CompleteReturns d b r x
   completed-is = record { numbers = cc; answer = cc (complete-back d b); sheet = p .sheet }
+
+module _ (d : List ℕ) (v : Pretested) (p : Pretests d v) (k : Pretested) (e : v ≡ k) (r : Pretest) (q : r ≡ pretestNumbers (pretestAnswer k)) where
+  pub pretested-is : PretestReturns d r
+  pretested-is = record { numbers = cc; answer = cc (pretest-back d) }

@@ -14,6 +14,7 @@ use Rattle.capi.specs.declared.Read.{Read}
 use Rattle.capi.specs.declared.Write.{Write}
 use Rattle.capi.specs.declared.Post.{Post}
 use Rattle.capi.specs.declared.Complete.{Complete}
+use Rattle.capi.specs.declared.Pretest.{Pretest}
 
 -- number 0 is success, which returns vs; another number is a refusal, with ws beside it
 unfoldable pub numbered : ℕ → List ℕ → List ℕ → Answer
@@ -73,3 +74,12 @@ completeOf r =
     numbered (r .number)
     (r .count ∷ r .set ∷ r .ones ∷ [])
     (cond (eqb (r .number) 8) (r .field ∷ r .rule ∷ []) (cond (eqb (r .number) 10) (r .count ∷ []) []))
+
+-- the field and the rule that are named, with success and with 8
+unfoldable pub pretestNumbers : Answer → Pretest
+pretestNumbers (success vs) = record { number = 0; field = getD vs 0 0; rule = getD vs 1 0 }
+pretestNumbers (refusal n vs) = record { number = n; field = getD vs 0 0; rule = getD vs 1 0 }
+
+-- number 8 has the field and the rule beside it, another refusal nothing
+unfoldable pub pretestOf : Pretest → Answer
+pretestOf r = numbered (r .number) (r .field ∷ r .rule ∷ []) (cond (eqb (r .number) 8) (r .field ∷ r .rule ∷ []) [])

@@ -11,12 +11,14 @@ use Rattle.rules.specs.Verdicts.{checked}
 use Rattle.drafts.specs.Message.{messageText, readable, readingOf, writingOf, writtenOf}
 use Rattle.drafts.specs.Draft.{beginningOf, begunFrom, postingOf, postedTo, copyingOf, copiedTo}
 use Rattle.orders.specs.Complete.{completing, completed}
-use Rattle.capi.specs.Numbers.{numberAnswer, checkNumbers, checkOf, readNumbers, readOf, writeNumbers, writeOf, postNumbers, postOf, completeNumbers, completeOf}
+use Rattle.orders.specs.Pretest.{pretesting}
+use Rattle.capi.specs.Numbers.{numberAnswer, checkNumbers, checkOf, readNumbers, readOf, writeNumbers, writeOf, postNumbers, postOf, completeNumbers, completeOf, pretestNumbers, pretestOf}
 use Rattle.capi.specs.declared.Check.{Check}
 use Rattle.capi.specs.declared.Read.{Read}
 use Rattle.capi.specs.declared.Write.{Write}
 use Rattle.capi.specs.declared.Post.{Post}
 use Rattle.capi.specs.declared.Complete.{Complete}
+use Rattle.capi.specs.declared.Pretest.{Pretest}
 
 -- checking the sheet s returned r
 pub record CheckReturns (s : List ℕ) (r : Check) : Type 0 where
@@ -60,3 +62,8 @@ pub record CompleteReturns (d b : List ℕ) (r : Complete) (e : List ℕ) : Type
   pub numbers : r ≡ completeNumbers (completing d b)
   pub answer : completeOf r ≡ completing d b
   pub sheet : e ≡ completed d b
+
+-- testing the draft d ahead of completion returned r
+pub record PretestReturns (d : List ℕ) (r : Pretest) : Type 0 where
+  pub numbers : r ≡ pretestNumbers (pretesting d)
+  pub answer : pretestOf r ≡ pretesting d

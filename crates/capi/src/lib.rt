@@ -1,5 +1,5 @@
 // The library for C and for what links like C. Each function forwards to a proved one, and gives document 01's numbers.
-ghost use Rattle.capi.specs.Promises.{CheckReturns, ReadReturns, WriteReturns, FreshReturns, PostReturns, CopyReturns, CompleteReturns};
+ghost use Rattle.capi.specs.Promises.{CheckReturns, ReadReturns, WriteReturns, FreshReturns, PostReturns, CopyReturns, CompleteReturns, PretestReturns};
 use drafts::draft::Begun;
 use drafts::draft::Copied;
 use drafts::draft::Posted;
@@ -8,6 +8,7 @@ use drafts::message::Reading;
 use drafts::message::Written;
 use drafts::revision::Revision;
 use orders::complete::Completed;
+use orders::pretest::Pretested;
 use rules::check::Verdict;
 use rules::class::Class;
 use sheets::sheet::Field;
@@ -49,6 +50,13 @@ pub struct Complete {
     pub set: u16,
     pub ones: u32,
     pub count: usize,
+}
+
+#[repr(C)]
+pub struct Pretest {
+    pub number: u8,
+    pub field: u8,
+    pub rule: u8,
 }
 
 #[no_mangle]
@@ -223,6 +231,36 @@ pub extern "C" fn kieselbrot_complete(draft: &[u8], sheet: &mut [u8]) -> Complet
             set: 0,
             ones: 0,
             count: 0,
+        },
+    }
+}
+
+// A rule of 0 says that there is none.
+#[no_mangle]
+pub extern "C" fn kieselbrot_pretest(draft: &[u8]) -> Pretest
+    ensures { λ r. ⌜ PretestReturns (now (draft .entry)) r ⌝ }
+{
+    let v = orders::pretest::pretest(draft);
+    match v {
+        Pretested::Named(f, r) => Pretest {
+            number: 0,
+            field: f.0,
+            rule: r.0,
+        },
+        Pretested::Unnamed => Pretest {
+            number: 0,
+            field: 0,
+            rule: 0,
+        },
+        Pretested::Broken(f, r) => Pretest {
+            number: 8,
+            field: f.0,
+            rule: r.0,
+        },
+        Pretested::Refused(n) => Pretest {
+            number: n.0,
+            field: 0,
+            rule: 0,
         },
     }
 }

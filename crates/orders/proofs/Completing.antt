@@ -53,7 +53,7 @@ basic-case s t n true true false e = rw e
 basic-case s t n true false c e = rw e
 basic-case s t n false b c e = rw e
 
-basic-field : (s t : List ℕ) (n : ℕ) → n ≡ firstBroken s basic → fieldOf rules n t ≡ fieldOf rules n s
+pub basic-field : (s t : List ℕ) (n : ℕ) → n ≡ firstBroken s basic → fieldOf rules n t ≡ fieldOf rules n s
 unfolding firstNot
 basic-field s t n e = basic-case t s n (keeps s 1) (keeps s 2) (keeps s 3) e
 

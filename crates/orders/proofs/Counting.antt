@@ -32,7 +32,7 @@ abbrev lengths : {A : Type 0} → List (List A) → ℕ
 lengths [] = 1
 lengths (c ∷ cs) = length c * lengths cs
 
-length-product : {A : Type 0} (cs : List (List A)) → length (product cs) ≡ lengths cs
+pub length-product : {A : Type 0} (cs : List (List A)) → length (product cs) ≡ lengths cs
 length-product [] = refl
 length-product (c ∷ cs) = length-each c (product cs) ∙ ap (λ (n : ℕ). length c * n) (length-product cs)
 

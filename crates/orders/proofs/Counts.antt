@@ -1,26 +1,27 @@
 -- Document 01's completion examples and R-1's, of the definition: a filling's place is computed. Assumes nothing.
 use mathlib.Core.Path.{_≡_, refl, ap, _∙_}
-use mathlib.Core.Bool.{Bool, true, false}
+use mathlib.Core.Bool.{true, false}
 use mathlib.Core.List.{List, [], _∷_, map}
-use Prim.Native.Nat.{ℕ, suc, _+_}
-use native.Mathlib.Omega.{arith}
+use Prim.Native.Nat.{ℕ}
 use lib.ListN.{length}
 use Prim.Native.String.{String}
-use Rattle.texts.specs.Quoted.{bytes, words}
+use Rattle.texts.specs.Quoted.{words}
 use Rattle.texts.specs.Texts.{every, any, are, among, same, between, value, valueOf, number, weighted, _isOneOf_, _beginsOneOf_}
 use Rattle.texts.specs.Buffers.{put, putAt}
 use Rattle.sheets.specs.Sheet.{cell, slotOf, cellText, cellOf, textOf, _⟨_⟩, given}
 use Rattle.sheets.specs.Forms.{checkDigit, person, document, snilsCheck, snils, pension, leap, monthDays, gregorian, date}
-use Rattle.rules.specs.Rules.{rules, order, testOf, fieldOf, keeps, keepsAll, firstNot}
+use Rattle.rules.specs.Rules.{firstBlank, rules, order, ahead, testOf, fieldOf, keeps, keepsAll, firstNot}
 use Rattle.rules.specs.R4.{rulesBefore}
 use Rattle.sheets.specs.Working.Entries.{filledAt}
 use Rattle.orders.specs.Fillings.{joined, mostFillings, listOf, toFill, choices, fillings, Look, found, none, look, firstFilling}
 use Rattle.orders.specs.Working.Search.{passesAt, places, picks, firstPick}
 use Rattle.orders.specs.Working.Entering.{baseOf, pickedOf}
 use Rattle.orders.specs.Complete.{budgetPayment, sheetTests}
+use Rattle.orders.specs.Pretest.{brokenByAll, namedField}
 use Rattle.texts.specs.Answers.{refusal, answerBy}
 use Rattle.orders.proofs.Keeping.{mapLook, first-is}
-use Rattle.orders.proofs.Passing.{broken-fixed}
+use Rattle.orders.proofs.Passing.{broken-fixed, none-look}
+use Rattle.orders.proofs.Ahead.{firstOf, first-broken, named-field}
 
 -- a sheet by its texts in slot order, parted by spaces
 unfoldable pub sheet : String → List ℕ
@@ -117,17 +118,64 @@ unfolding picked sheetTests fieldOf firstNot
 before = refl
 
 -- "10, count 1,056": 22 is filled with "0", which breaks rule 22 whatever the other entries are
-none-passes : {A : Type 0} (p : A → Bool) → ((x : A) → p x ≡ false) → (l : List A) (n : ℕ) → look p n l ≡ none (n + length l)
-unfolding look
-none-passes p h [] n = let e : n ≡ n + 0 = omega arith in ap none e
-none-passes p h (x ∷ xs) n =
-    let e : n + 1 + length xs ≡ n + suc (length xs) = omega arith in
-    rw (h x) (none-passes p h xs (n + 1) ∙ ap none e)
-
 never : firstFilling hopeless ≡ none 1056
 unfolding picked
-never = first-is hopeless refl ∙ ap (mapLook (pickedOf (baseOf hopeless))) (none-passes (passesAt (baseOf hopeless)) (broken-fixed (baseOf hopeless) 22 refl refl refl refl) (picks (baseOf hopeless)) 0)
+never = first-is hopeless refl ∙ ap (mapLook (pickedOf (baseOf hopeless))) (none-look (passesAt (baseOf hopeless)) (broken-fixed (baseOf hopeless) (22 ∷ []) refl refl refl refl) (picks (baseOf hopeless)) 0)
 
 -- "at most 22 × 12 × 2 × 2 = 1,056"
 most : mostFillings ≡ 1056
 most = refl
+
+-- ---- R-3: what the test ahead names of a sheet, by its first filling
+
+unfoldable pub ahead1 : List ℕ → ℕ × ℕ
+ahead1 s =
+    let f = pickedOf (baseOf s) (0 ∷ 0 ∷ 0 ∷ 0 ∷ []) in
+    let n = firstNot (keeps f) ahead in
+    (fieldOf rules n f, n)
+
+pub ahead-is : (s : List ℕ) → length s ≡ 390 → (namedField s, brokenByAll s) ≡ ahead1 s
+unfolding ahead1 firstOf
+ahead-is s size =
+    let b = first-broken s size in
+    let f = named-field s size ∙ ap (λ (n : ℕ). fieldOf rules n (pickedOf (baseOf s) (0 ∷ 0 ∷ 0 ∷ 0 ∷ []))) b in
+    λ i. (f i, b i)
+
+-- differences from S: the field and the rule, or 0 and 0
+aheadTable : List (String × ℕ × ℕ)
+aheadTable =
+    -- S; 22, 101, 105 to 109 blank; 101 99; a pension number that can't exist; all filled but 61 and 103
+    ("004525987 40102810845370000004 03100643000000014800 0 7701569743 6730054024 01 770301001 772801001 18201061201010000510 0 0 0 0 0", 0, 0)
+    ∷ ("004525987 40102810845370000004 03100643000000014800  7701569743 6730054024  770301001 772801001 18201061201010000510     ", 0, 0)
+    ∷ ("004525987 40102810845370000004 03100643000000014800 0 7701569743 6730054024 99 770301001 772801001 18201061201010000510 0 0 0 0 0", 0, 0)
+    ∷ ("004525987 40102810845370000004 03100643000000014800 0 7701569743 6730054024 01 770301001 772801001 18201061201010000510 0 0 0 14;12345678900 0", 0, 0)
+    -- 104 blank, or "0"; on an account that wants a code 22 blank, or "0", or not of its form
+    ∷ ("004525987 40102810845370000004 03100643000000014800 0 7701569743 6730054024 01 770301001 772801001  0 0 0 0 0", 104, 28)
+    ∷ ("004525987 40102810845370000004 03100643000000014800 0 7701569743 6730054024 01 770301001 772801001 0 0 0 0 0 0", 104, 28)
+    ∷ ("004525987 40102810845370000004 03212643000000014800  7701569743 6730054024 01 770301001 772801001 18201061201010000510 0 0 0 0 0", 22, 22)
+    ∷ ("004525987 40102810845370000004 03212643000000014800 0 7701569743 6730054024 01 770301001 772801001 18201061201010000510 0 0 0 0 0", 22, 22)
+    ∷ ("004525987 40102810845370000004 03212643000000014800 0000 7701569743 6730054024 01 770301001 772801001 18201061201010000510 0 0 0 0 0", 22, 7)
+    -- 61 and 103 blank
+    ∷ ("004525987 40102810845370000004 03100643000000014800 0 7701569743  01 770301001 772801001 18201061201010000510 0 0 0 0 0", 61, 6)
+    ∷ ("004525987 40102810845370000004 03100643000000014800 0 7701569743  01 770301001  18201061201010000510 0 0 0 0 0", 61, 6)
+    ∷ ("004525987 40102810845370000004 03100643000000014800 0 7701569743 6730054024 01 770301001  18201061201010000510 0 0 0 0 0", 103, 6)
+    ∷ ("004525987 40102810845370000004 03100643000000014800 0 7701569743 6730054024  770301001  18201061201010000510 0 0 0 0 0", 103, 6)
+    -- one rule after another
+    ∷ ("004525987 40102810845370000004 03100810000000014800 0 7701569743  01 770301001 772801001 18201061201010000510 0 0 0 0 0", 17, 5)
+    ∷ ("004525987 40102810845370000004 03100643000000014800 0 7722222222 6730054024 01 770301001 772801001 18201061201010000510 0 0 0 0 0", 60, 8)
+    ∷ ("004525987 40102810845370000004 03100643000000014800 0 7701569743 6730054025 01 770301001 772801001 18201061201010000510 0 0 0 0 0", 61, 9)
+    ∷ ("004525987 40102810845370000004 03100643000000014800 0 7701569743 6730054024 01 1 772801001 18201061201010000510 0 0 0 0 0", 102, 11)
+    ∷ ("004525987 40102810845370000004 03100643000000014800 0 7701569743 6730054024 01 770301001 0 18201061201010000510 0 0 0 0 0", 103, 12)
+    ∷ ("004525987 40102810845370000004 03100643000000014800 0 7701569743 6730054024 01 770301001 772801001 1 0 0 0 0 0", 104, 13)
+    ∷ ("004525987 40102810845370000004 03100643000000014800 0 7701569743 6730054024 01 770301001 772801001 18201061201010000510 1 0 0 0 0", 105, 14)
+    ∷ ("004525987 40102810845370000004 03100643000000014800 0 7701569743 6730054024 01 770301001 772801001 18201061201010000510 0 0 1 0 0", 107, 16)
+    -- 16 ahead of 22 and 28; none of rules that ask of 101, 106, 108 or 109
+    ∷ ("004525987 40102810845370000004 03100643000000014800 0 7701569743 6730054024 01 770301001 772801001 0 0 0 1 0 0", 107, 16)
+    ∷ ("004525987 40102810845370000004 03212643000000014800 0 7701569743 6730054024 01 770301001 772801001 18201061201010000510 0 0 1 0 0", 107, 16)
+    ∷ ("004525987 40102810845370000004 03100643000000014800 0 7701569743 6730054024 08 0 772801001 18201061201010000510 0 0 0 0 0", 0, 0)
+    ∷ ("004525987 40102810845370000004 03100643000000014800 0 7701569743 6730054024 01 770301001 772801001 18201061201010000510 0 1 0 - 1", 0, 0)
+    ∷ []
+
+named : map (λ (e : String × ℕ × ℕ). ahead1 (sheet (e .0))) aheadTable ≡ map (λ (e : String × ℕ × ℕ). (e .1, e .2)) aheadTable
+unfolding picked ahead1 aheadTable fieldOf firstNot firstBlank
+named = refl

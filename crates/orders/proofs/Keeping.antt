@@ -108,7 +108,7 @@ module _ (s : List ℕ) (size : length s ≡ 390) where
   pub base-length : length (baseOf s) ≡ 390
   base-length = ap length (base-joined s size) ∙ length-joined (baseCells s) (base-sized s size)
 
-  fillings-are : fillings s ≡ map (pickedOf (baseOf s)) (picks (baseOf s))
+  pub fillings-are : fillings s ≡ map (pickedOf (baseOf s)) (picks (baseOf s))
   unfolding picks toFill listOf
   fillings-are =
       let a : blank (textOf (baseOf s) 6) ≡ blank (textOf s 6) = ap blank (blank-base 6 (omega arith) refl) in

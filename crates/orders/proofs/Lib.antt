@@ -4,12 +4,15 @@ pub mod Cells
 pub mod Linking
 pub mod Keeping
 pub mod Passing
+pub mod Ahead
+pub mod Hopeless
 pub mod EveryFilling
 pub mod Looking
 pub mod Order
 pub mod Counting
 pub mod Whole
 pub mod Completing
+pub mod Pretesting
 pub mod Streaming
 pub mod Examples
 pub mod Counts

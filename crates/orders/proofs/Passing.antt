@@ -3,7 +3,7 @@ use mathlib.Core.Path.{_≡_, refl, sym, ap, _∙_}
 use mathlib.Core.Logic.{_⊎_, inl, inr}
 use mathlib.Core.Bool.{Bool, true, false, _&&_, _||_, and-assoc, false≢true}
 use mathlib.Core.List.{List, [], _∷_, _++_, map, append-nil}
-use Prim.Native.Nat.{ℕ, _<_}
+use Prim.Native.Nat.{ℕ, _+_, _<_}
 use native.Mathlib.Omega.{arith}
 use borrow.Author.Tests.{eqb-false}
 use lib.Dec.{eqb}
@@ -15,7 +15,7 @@ use Rattle.sheets.specs.Lists.{statusTexts, basisTexts, zeroTexts, statusCount,
 use Rattle.sheets.specs.Working.Entries.{filledAt}
 use Rattle.sheets.proofs.Frames.{status-sized, basis-sized, zero-sized, filled-length, filled-other}
 use Rattle.sheets.specs.declared.facts.Facts.{Facts}
-use Rattle.texts.proofs.Every.{every-member}
+use Rattle.texts.proofs.Every.{every-within}
 use Rattle.rules.specs.Rules.{budget, order, keeps, keepsAll}
 use Rattle.rules.specs.Working.Groups.{fixedRules, statusRules, basisRules, documentRules, dayRules, AlikeBut, spare}
 use Rattle.rules.proofs.Judging.{all-grouped}
@@ -92,7 +92,7 @@ module _ (f f1 f2 f3 f4 : Facts) (a b c d : ℕ) (k k1 k2 k3 k4 : Bool) where
       ∙ sym (all-grouped u4 b4 (sym (spared (6 ∷ 11 ∷ 13 ∷ 14 ∷ []) u u4 a0 basic refl) ∙ o .basics))
 
 -- where a rule that reads none of the four fields is broken, no pick passes
-picked-alike : (u : Sheet) (q : List ℕ) → length u ≡ 390 → AlikeBut (6 ∷ 11 ∷ 13 ∷ 14 ∷ []) u (pickedOf u q)
+pub picked-alike : (u : Sheet) (q : List ℕ) → length u ≡ 390 → AlikeBut (6 ∷ 11 ∷ 13 ∷ 14 ∷ []) u (pickedOf u q)
 unfolding pickedOf
 picked-alike u q size =
     let x1 = cell (getD statusTexts (getD q 0 0) []) in
@@ -111,18 +111,23 @@ picked-alike u q size =
     (more u2 x3 u4 13 (14 ∷ []) z2 (omega arith) (zero-sized (getD q 2 0))
     (more u3 x4 u4 14 [] z3 (omega arith) (zero-sized (getD q 3 0)) (λ j e. refl))))
 
-one-broken : (t : Sheet) (n : ℕ) (b : Bool) → keepsAll t ≡ b → among n order ≡ true → every (keeps t) (n ∷ []) ≡ false → b ≡ false
-unfolding keepsAll every
-one-broken t n true e m h =
-    let k = every-member (keeps t) order n m e in
-    rw k at h
-one-broken t n false e m h = refl
+-- a sheet that breaks one of some rules does not keep all
+pub unkept : (t : Sheet) (ns : List ℕ) (b : Bool) → keepsAll t ≡ b → every (λ (n : ℕ). among n order) ns ≡ true → every (keeps t) ns ≡ false → b ≡ false
+unfolding keepsAll
+unkept t ns true e m h = absurd (false≢true (sym h ∙ every-within (keeps t) order ns m e))
+unkept t ns false e m h = refl
 
-pub broken-fixed : (u : Sheet) (n : ℕ) → length u ≡ 390 → among n order ≡ true → spare (6 ∷ 11 ∷ 13 ∷ 14 ∷ []) (n ∷ []) ≡ true → every (keeps u) (n ∷ []) ≡ false → (q : List ℕ) → passesAt u q ≡ false
+pub broken-fixed : (u : Sheet) (ns : List ℕ) → length u ≡ 390 → every (λ (n : ℕ). among n order) ns ≡ true → spare (6 ∷ 11 ∷ 13 ∷ 14 ∷ []) ns ≡ true → every (keeps u) ns ≡ false → (q : List ℕ) → passesAt u q ≡ false
 unfolding passesAt
-broken-fixed u n size m a h q =
+broken-fixed u ns size m a h q =
     let t = pickedOf u q in
-    one-broken t n (keepsAll t) refl m (sym (spared (6 ∷ 11 ∷ 13 ∷ 14 ∷ []) u t (picked-alike u q size) (n ∷ []) a) ∙ h)
+    unkept t ns (keepsAll t) refl m (sym (spared (6 ∷ 11 ∷ 13 ∷ 14 ∷ []) u t (picked-alike u q size) ns a) ∙ h)
+
+-- where nothing passes, all are counted
+pub none-look : {A : Type 0} (p : A → Bool) → ((x : A) → p x ≡ false) → (l : List A) (n : ℕ) → look p n l ≡ none (n + length l)
+unfolding look
+none-look p h [] n = ap none (omega arith)
+none-look p h (x ∷ l) n = rw (h x) (none-look p h l (n + 1) ∙ ap none (omega arith))
 
 -- the picks of each level and of those below it
 abbrev pub R4 : Picks

@@ -81,7 +81,7 @@ module _ (s b : List ℕ) (z : length s ≡ 390) where
   unfolding firstFilling
   none-keeps n e f w = look-none keepsAll (fillings s) n e .1 f (of-filling s z f w)
 
-  refused-by : (o : Look (List ℕ)) → firstFilling s ≡ o → (numberOf (lookAnswer s o) ≡ 10) ↔ ((f : List ℕ) → Filling s f → keepsAll f ≡ false)
+  pub refused-by : (o : Look (List ℕ)) → firstFilling s ≡ o → (numberOf (lookAnswer s o) ≡ 10) ↔ ((f : List ℕ) → Filling s f → keepsAll f ≡ false)
   refused-by (found n t) e =
       let w = found-first n t e in
       (λ q. absurd (omega arith), λ h. absurd (true≢false (sym (w .keeps) ∙ h t (w .filling))))
@@ -91,7 +91,7 @@ module _ (s b : List ℕ) (z : length s ≡ 390) where
   filled-by (found n t) e h = found-first n t e
   filled-by (none n) e h = absurd (h refl)
 
-  all-by : (o : Look (List ℕ)) → firstFilling s ≡ o → numberOf (lookAnswer s o) ≡ 10 → (lookAnswer s o ≡ refusal 10 (countOf (lookAnswer s o) ∷ [])) × All s (countOf (lookAnswer s o))
+  pub all-by : (o : Look (List ℕ)) → firstFilling s ≡ o → numberOf (lookAnswer s o) ≡ 10 → (lookAnswer s o ≡ refusal 10 (countOf (lookAnswer s o) ∷ [])) × All s (countOf (lookAnswer s o))
   unfolding firstFilling
   all-by (found n t) e h = absurd (omega arith)
   all-by (none n) e h =

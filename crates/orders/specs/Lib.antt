@@ -1,5 +1,6 @@
 pub mod Fillings
 pub mod Complete
 pub mod Whole
+pub mod Pretest
 pub mod Stream
 pub mod Working

@@ -1,4 +1,5 @@
 pub mod complete;
 pub mod fill;
+pub mod pretest;
 pub mod search;
 pub mod stream;

@@ -4,20 +4,21 @@ use mathlib.Core.Bool.{Bool, true, false, not, cond, _&&_, _||_, false≢true}
 use mathlib.Core.List.{List, [], _∷_, _++_}
 use Prim.Native.Nat.{ℕ}
 use native.Mathlib.Omega.{arith}
-use borrow.Author.Tests.{eqb-true}
+use borrow.Author.Tests.{eqb-true, not-false}
 use lib.Dec.{eqb}
 use lib.ListN.{length, getD}
 use Rattle.texts.specs.Quoted.{Text}
-use Rattle.texts.specs.Texts.{every, any, same, are, blank, _is_, _isOneOf_, _begins_}
+use Rattle.texts.specs.Texts.{every, any, same, are, among, blank, _is_, _isOneOf_, _begins_}
 use Rattle.texts.specs.Answers.{Answer, success, refusal, _refuses_, _refuses_with_, answerBy}
 use Rattle.texts.proofs.Bools.{both, and2}
 use Rattle.texts.proofs.Codes.{same-true}
+use Rattle.texts.proofs.Every.{every-member}
 use Rattle.sheets.specs.Sheet.{Sheet, wellFormed, _⟨_⟩}
 use Rattle.sheets.specs.Forms.{_⇒_, uin}
 use Rattle.sheets.specs.Lists.{account03212, courtsGroup}
 use Rattle.rules.specs.Rules.{budget, rules, order, status, testOf, fieldOf, keeps, firstNot, classOf}
 use Rattle.rules.specs.Verdicts.{className, checkTests, checked}
-use Rattle.rules.specs.Before.{firstBy, testsBy, checkedBy}
+use Rattle.rules.specs.Before.{testsBy, checkedBy}
 use Rattle.rules.specs.Examples.{broken}
 use Rattle.rules.specs.R5.{upTo20, from23, orderBefore, caught, before, Moved, MovedOnly}
 
@@ -70,15 +71,6 @@ not-uin : (t : Text) → (t is "0") ≡ true → uin t ≡ false
 unfolding every are
 not-uin t e = ap uin (same-true t (48 ∷ []) e)
 
-not-not : (b : Bool) → not b ≡ false → b ≡ true
-not-not true e = refl
-not-not false e = absurd (false≢true (sym e))
-
-fourth : (p : ℕ → Bool) (a b c d : ℕ) (l : List ℕ) → every p (a ∷ b ∷ c ∷ d ∷ l) ≡ true → p d ≡ true
-unfolding every
-fourth p a b c d l e =
-    both (p d) (every p l) (both (p c) (every p (d ∷ l)) (both (p b) (every p (c ∷ d ∷ l)) (both (p a) (every p (b ∷ c ∷ d ∷ l)) e .1) .1) .1) .0
-
 module _ (s : Sheet) where
   module _ (c : caught s ≡ true) where
     sides : ((s ⟨ 17 ⟩ begins account03212) ≡ true) × (status s courtsGroup ≡ true) × ((s ⟨ 22 ⟩ is "0") ≡ true) × (every (keeps s) upTo20 ≡ true)
@@ -89,8 +81,8 @@ module _ (s : Sheet) where
         (f .0, f .1, g .0, g .1)
 
     a-budget : budget s ≡ true
-    unfolding keeps testOf rules
-    a-budget = classed (budget s) (s ⟨ 101 ⟩) (fourth (keeps s) 1 2 3 4 _ (sides .3)) (sides .1)
+    unfolding keeps testOf rules any are among
+    a-budget = classed (budget s) (s ⟨ 101 ⟩) (every-member (keeps s) upTo20 4 refl (sides .3)) (sides .1)
 
     not-21 : keeps s 21 ≡ false
     unfolding keeps testOf rules
@@ -108,7 +100,7 @@ module _ (s : Sheet) where
       let f17 = s ⟨ 17 ⟩ begins account03212 in
       let f22 = s ⟨ 22 ⟩ is "0" in
       and2 (f17 && status s courtsGroup) (f22 && every (keeps s) upTo20) (and2 f17 (status s courtsGroup) (b .0) (a .0))
-      (and2 f22 (every (keeps s) upTo20) (not-not f22 (b .1)) e)
+      (and2 f22 (every (keeps s) upTo20) (not-false f22 (b .1)) e)
 
 -- ---- the answers
 

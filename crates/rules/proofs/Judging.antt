@@ -13,7 +13,7 @@ use Rattle.texts.specs.Texts.{every, any, are, among}
 use Rattle.texts.proofs.Bools.{both}
 use Rattle.texts.proofs.Every.{every-append, every-same}
 use Rattle.sheets.specs.Sheet.{slots, slotOk, wellFormed, fieldIn, slotOf, Sheet, given}
-use Rattle.rules.specs.Rules.{Rule, classA, classB, budget, testOf, keepsAll, firstBlank, rules, order, fieldOf, keeps, firstNot, firstBroken, classOf}
+use Rattle.rules.specs.Rules.{Rule, classA, classB, budget, testOf, keepsAll, firstBlank, rules, order, ahead, fieldOf, keeps, firstNot, firstBroken, classOf}
 use Rattle.sheets.specs.Working.Facts.{factsOf, Read}
 use Rattle.rules.specs.Working.Tests.{ordinary, classOn, kept, holds, allTrue, generalOn, specialOn, outcomesOn, judgedOn}
 use Rattle.rules.specs.Working.Groups.{fixedRules, statusRules, basisRules, documentRules, dayRules, grouped}
@@ -102,6 +102,22 @@ general-first f os ns r e h s o l = h ∙ ap (λ (bs : List Bool). firstNot (kep
 pub basic-first : (f : Facts) (os : List Bool) (r : RuleNumber) → os ≡ generalOn f → r .0 ≡ firstNot (kept os) (1 ∷ 2 ∷ 3 ∷ []) → (s : Sheet) → Read f s → r .0 ≡ firstBroken s (1 ∷ 2 ∷ 3 ∷ [])
 unfolding every
 basic-first f os r e h s o = general-first f os (1 ∷ 2 ∷ 3 ∷ []) r e h s o refl
+
+-- the outcomes of the test ahead, at their numbers
+abbrev pub placeAhead : List Bool → List Bool → List Bool
+placeAhead x y =
+    true ∷ true ∷ true ∷ true ∷ true ∷ getD x 0 false ∷ getD y 0 false ∷ getD x 1 false ∷ getD x 2 false ∷ getD x 3 false ∷ true ∷ getD x 4 false ∷ getD x 5 false ∷ getD x 6 false ∷ getD x 7 false ∷ true ∷ getD x 8 false ∷ true ∷ true ∷ true ∷ true ∷ true ∷ getD x 9 false ∷ true ∷ true ∷ true ∷ true ∷ true ∷ getD x 10 false ∷ []
+
+ahead-placed : (f : Facts) → firstNot (kept (placeAhead (map (holds f) fixedRules) (map (holds f) dayRules))) ahead ≡ firstNot (holds f) ahead
+unfolding kept firstNot
+ahead-placed f = refl
+
+pub ahead-first : (f : Facts) (x y os : List Bool) (r : RuleNumber) → x ≡ map (holds f) fixedRules → y ≡ map (holds f) dayRules → os ≡ placeAhead x y → r .0 ≡ firstNot (kept os) ahead → (s : Sheet) → Read f s → budget s ≡ true → r .0 ≡ firstBroken s ahead
+ahead-first f x y os r ex ey eo h s o b =
+    let z : firstNot (kept (placeAhead (map (holds f) fixedRules) (map (holds f) dayRules))) ahead ≡ firstNot (holds f) ahead = ahead-placed f in
+    h ∙ ap (λ (l : List Bool). firstNot (kept l) ahead) (eo ∙ (λ i. placeAhead (ex i) (ey i))) ∙ z
+    ∙ ap (λ (g : Facts). firstNot (holds g) ahead) (o .facts)
+    ∙ sym (not-alike (keeps s) (holds (factsOf s)) (λ n. budget-keeps s n b) ahead)
 
 not-not : (b : Bool) → not (not b) ≡ b
 not-not true = refl

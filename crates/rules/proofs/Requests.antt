@@ -1,15 +1,15 @@
 -- What requests say of the answers before and after. Assumes nothing.
 use mathlib.Core.Path.{_≡_, refl, ap, sym, _∙_}
-use mathlib.Core.Bool.{Bool, true, false, not, _&&_, _||_, false≢true}
-use mathlib.Core.List.{List, [], _∷_, _++_, map}
+use mathlib.Core.Bool.{Bool, true, false, not, _&&_, _||_}
+use mathlib.Core.List.{List, [], _∷_}
 use Prim.Native.Nat.{ℕ, zero, suc}
 use borrow.Author.Tests.{eqb-true, not-false}
-use lib.ListN.{length, getD, set}
+use lib.ListN.{getD, set}
 use Rattle.texts.specs.Quoted.{Text}
 use Rattle.texts.specs.Texts.{every, digitsNot00, _is_}
 use Rattle.texts.specs.Answers.{success}
 use Rattle.texts.proofs.Bools.{both, and2}
-use Rattle.texts.proofs.Refusals.{none-of, succeeded, succeeds}
+use Rattle.texts.proofs.Refusals.{none-of, succeeded}
 use Rattle.sheets.specs.Sheet.{Sheet, wellFormed, _⟨_⟩}
 use Rattle.sheets.specs.Forms.{_⇒_, uin, foreignCode, weights10, weights11, weights12, checkDigit, inn10, inn12, inn, person}
 use Rattle.sheets.specs.Lists.{personalGroup, wantInn, wantTen, wantTwelve}
@@ -48,6 +48,17 @@ set-implies (x ∷ xs) zero b h (suc j) e = e
 set-implies (x ∷ xs) (suc i) b h zero e = e
 set-implies (x ∷ xs) (suc i) b h (suc j) e = set-implies xs i b h j e
 
+or-right : (x y : Bool) → y ≡ true → (x || y) ≡ true
+or-right true y e = refl
+or-right false y e = e
+
+or-both : (a b x y : Bool) → (a ≡ true → x ≡ true) → (b ≡ true → y ≡ true) → (a || b) ≡ true → (x || y) ≡ true
+or-both true b x y h k e = rw (h refl)
+or-both false b x y h k e = or-right x y (k e)
+
+or-implied : (x y z : Bool) → (y ≡ true → z ≡ true) → (x || y) ≡ true → (x || z) ≡ true
+or-implied x y z h e = or-both x y x z (λ k. k) h e
+
 -- where a sheet keeps by qs every rule that it keeps by rs, one accepted by rs is accepted by qs
 module _ (rs qs : List Rule) (s : Sheet) (i : (n : ℕ) → testOf rs n s ≡ true → testOf qs n s ≡ true) where
   pub accepted-too : (c : List ℕ) → checkedBy rs order s ≡ success c → checkedBy qs order s ≡ success c
@@ -60,11 +71,12 @@ module _ (rs qs : List Rule) (s : Sheet) (i : (n : ℕ) → testOf rs n s ≡ tr
       let w : wellFormed s ≡ true = not-false _ (o .0) in
       rw (w, f) (ap success (sym (q .1)))
 
--- ---- R-2
+-- and it does so where it does by the outcomes
+implied-at : (rs qs : List Rule) → counted 1 rs ≡ true → counted 1 qs ≡ true → (s : Sheet) → testOf qs 0 s ≡ true → ((n : ℕ) → getD (testsOf s rs) n true ≡ true → getD (testsOf s qs) n true ≡ true) → (n : ℕ) → testOf rs n s ≡ true → testOf qs n s ≡ true
+implied-at rs qs c d s z h zero e = z
+implied-at rs qs c d s z h (suc n) e = tests-at s n qs d ∙ h n (sym (tests-at s n rs c) ∙ e)
 
-or-implied : (x y z : Bool) → (y ≡ true → z ≡ true) → (x || y) ≡ true → (x || z) ≡ true
-or-implied true y z h e = refl
-or-implied false y z h e = h e
+-- ---- R-2
 
 -- before, the outcomes of the rules were those of now with two replaced
 before-tests : (s : Sheet) → testsOf s r2.rulesBefore ≡ set (set (testsOf s rules) 10 (budget s ⇒ r2.rule11Before s)) 11 (budget s ⇒ r2.rule12Before s)
@@ -85,25 +97,16 @@ implied-12 s e = or-implied (not (budget s)) (r2.rule12Before s) (rule12 s) (kpp
 
 implied-before : (s : Sheet) (n : ℕ) → testOf r2.rulesBefore n s ≡ true → testOf rules n s ≡ true
 unfolding keeps
-implied-before s zero e = none-at s
-implied-before s (suc n) e =
-    let f = ap (λ (l : List Bool). getD l n true) (sym (before-tests s)) ∙ sym (tests-at s n r2.rulesBefore before-counted) ∙ e in
-    tests-at s n rules rules-counted
-    ∙ set-implied (testsOf s rules) 10 (budget s ⇒ r2.rule11Before s) (implied-11 s) n
-    (set-implied (set (testsOf s rules) 10 (budget s ⇒ r2.rule11Before s)) 11 (budget s ⇒ r2.rule12Before s) (implied-12 s) n f)
+implied-before s =
+    implied-at r2.rulesBefore rules before-counted rules-counted s (none-at s)
+    (λ n e. set-implied (testsOf s rules) 10 (budget s ⇒ r2.rule11Before s) (implied-11 s) n
+    (set-implied (set (testsOf s rules) 10 (budget s ⇒ r2.rule11Before s)) 11 (budget s ⇒ r2.rule12Before s) (implied-12 s) n
+    (ap (λ (l : List Bool). getD l n true) (sym (before-tests s)) ∙ e)))
 
 pub still-accepted : r2.StillAccepted
 still-accepted s c e = sym (now s) ∙ accepted-too r2.rulesBefore rules s (implied-before s) c e
 
 -- ---- R-4
-
-or-right : (x y : Bool) → y ≡ true → (x || y) ≡ true
-or-right true y e = refl
-or-right false y e = e
-
-or-both : (a b x y : Bool) → (a ≡ true → x ≡ true) → (b ≡ true → y ≡ true) → (a || b) ≡ true → (x || y) ≡ true
-or-both true b x y h k e = rw (h refl)
-or-both false b x y h k e = or-right x y (k e)
 
 and-both : (a b x y : Bool) → (a ≡ true → x ≡ true) → (b ≡ true → y ≡ true) → (a && b) ≡ true → (x && y) ≡ true
 and-both a b x y h k e = let q = both a b e in and2 x y (h (q .0)) (k (q .1))
@@ -182,11 +185,9 @@ unfolding testOf r4.rulesBefore
 none-before s = refl
 
 plain-implied : (s : Sheet) (n : ℕ) → testOf rules n s ≡ true → testOf r4.rulesBefore n s ≡ true
-plain-implied s zero e = none-before s
-plain-implied s (suc n) e =
-    tests-at s n r4.rulesBefore plain-counted
-    ∙ ap (λ (l : List Bool). getD l n true) (plain-tests s)
-    ∙ plain-at s n (sym (tests-at s n rules rules-counted) ∙ e)
+plain-implied s =
+    implied-at rules r4.rulesBefore rules-counted plain-counted s (none-before s)
+    (λ n e. ap (λ (l : List Bool). getD l n true) (plain-tests s) ∙ plain-at s n e)
 
 pub accepted-before : r4.AcceptedBefore
 accepted-before s c e = accepted-too rules r4.rulesBefore s (plain-implied s) c (now s ∙ e)

@@ -5,7 +5,7 @@ use mathlib.Core.List.{List, [], _∷_, _++_, map}
 use Prim.Native.Nat.{ℕ}
 use Prim.Native.String.{String}
 use lib.ListN.{set, replicate}
-use Rattle.texts.specs.Quoted.{Text, bytes}
+use Rattle.texts.specs.Quoted.{Text, bytes, words}
 use Rattle.texts.specs.Texts.{every, any, same, between, are, among, valueOf, value, number, weighted, _isOneOf_, _beginsOneOf_}
 use Rattle.texts.specs.Answers.{Answer, success, refusal}
 use Rattle.sheets.specs.Sheet.{slotOf, cell, cellText, cellOk, cellOf, textOf, slotOk, _⟨_⟩, given}
@@ -61,6 +61,14 @@ unfoldable pub answer : List Change → Answer
 unfolding _≔_ changed sheetOf s accepted broken every any same between are among valueOf value number _isOneOf_ _beginsOneOf_ slotOf cell cellText cellOk cellOf textOf slotOk _⟨_⟩ person document leap monthDays gregorian snilsCheck snils pension date checkDigit classOf given firstBlank rules testOf fieldOf keeps firstNot checkTests checked sheetWith weighted
 answer cs = checked (sheetWith cs)
 
+-- each of a table's sheets, differences from S, has its answer
+abbrev pub Right : List (List Change × Answer) → Type 0
+Right table = map (λ (e : List Change × Answer). answer (e .0)) table ≡ map (λ (e : List Change × Answer). e .1) table
+
+-- some differences from S, and field f with each text of a quoted line in turn
+unfoldable pub varied : List Change → ℕ → String → List (List Change)
+varied cs f q = map (λ (t : Text). cs ++ ((f, t) ∷ [])) (words q)
+
 -- "Differences from S", and the answer
 table : List (List Change × Answer)
 table =
@@ -79,6 +87,6 @@ table =
     ∷ ((101 ≔ "06") ∷ (107 ≔ "10000000") ∷ (106 ≔ "00") ∷ (108 ≔ "00") ∷ (109 ≔ "0") ∷ [], broken 109 34)
     ∷ []
 
-examples : map (λ (e : List Change × Answer). answer (e .0)) table ≡ map (λ (e : List Change × Answer). e .1) table
+examples : Right table
 unfolding answer table
 examples = refl

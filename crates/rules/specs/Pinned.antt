@@ -14,7 +14,7 @@ use Rattle.texts.specs.Answers.{Answer, refusal}
 use Rattle.sheets.specs.Sheet.{Sheet, slots}
 use Rattle.rules.specs.Rules.{Rule, rules, order, keeps}
 use Rattle.rules.specs.Verdicts.{checked}
-use Rattle.rules.specs.Examples.{Change, _≔_, accepted, broken, sheetWith, answer}
+use Rattle.rules.specs.Examples.{Change, _≔_, accepted, broken, sheetWith, answer, varied}
 
 -- ---- the numbers of the rules, and the order of testing
 
@@ -44,10 +44,6 @@ testedOnce = (refl, refl)
 breaks : Sheet → List ℕ → List ℕ
 breaks x [] = []
 breaks x (n ∷ ns) = cond (keeps x n) [] (n ∷ []) ++ breaks x ns
-
--- some differences from S, and field f with each text of a quoted line in turn
-varied : List Change → ℕ → String → List (List Change)
-varied cs f q = map (λ (t : Text). cs ++ ((f, t) ∷ [])) (words q)
 
 -- each of some sheets has one value
 abbrev All : {A : Type 0} → List (List Change) → (List Change → A) → A → Type 0

@@ -3,7 +3,7 @@ use mathlib.Core.Path.{_≡_, refl}
 use mathlib.Core.List.{List, [], _∷_, _++_, map}
 use Prim.Native.String.{String}
 use Rattle.texts.specs.Answers.{Answer}
-use Rattle.rules.specs.Examples.{Change, _≔_, accepted, broken, answer}
+use Rattle.rules.specs.Examples.{Change, _≔_, accepted, broken, answer, Right}
 
 -- S with 101 24, 60 0, 102 0 and a text in 108
 personal : String → List Change
@@ -59,6 +59,6 @@ table =
     ∷ ((15 ≔ "") ∷ (101 ≔ "") ∷ (108 ≔ "14;12345678900") ∷ [], accepted "O")
     ∷ []
 
-changed : map (λ (e : List Change × Answer). answer (e .0)) table ≡ map (λ (e : List Change × Answer). e .1) table
+changed : Right table
 unfolding answer table personal
 changed = refl

@@ -5,14 +5,14 @@ use mathlib.Core.Bool.{Bool, _||_}
 use mathlib.Core.List.{List, [], _∷_, _++_, map}
 use Prim.Native.Nat.{ℕ}
 use Prim.Native.String.{String}
-use Rattle.texts.specs.Quoted.{Text, words}
+use Rattle.texts.specs.Quoted.{Text}
 use Rattle.texts.specs.Texts.{_is_, digitsNot00}
 use Rattle.texts.specs.Answers.{Answer, success}
 use Rattle.sheets.specs.Sheet.{Sheet, _⟨_⟩}
 use Rattle.rules.specs.Rules.{Rule, general, special, forBudget, order}
 use Rattle.rules.specs.Verdicts.{checked}
 use Rattle.rules.specs.Before.{replaced, testsBy, checkedBy}
-use Rattle.rules.specs.Examples.{Change, _≔_, accepted, broken, sheetWith, answer}
+use Rattle.rules.specs.Examples.{Change, _≔_, accepted, broken, sheetWith, answer, Right, varied}
 
 -- before: rules 11 and 12 with "nine digits not beginning 00", the others as they stand
 abbrev pub kppBefore : Text → Bool
@@ -53,9 +53,6 @@ beforehand = refl
 
 -- ---- the table: S with each text of a line in 102, and in 103
 
-inField : ℕ → String → List (List Change)
-inField f q = map (λ (t : Text). (f, t) ∷ []) (words q)
-
 kept : String
 kept = "7703AZ001 7703A1001 77030Z001 0103AA001 770300001 7703ZZ999"
 
@@ -64,8 +61,8 @@ refused = "0003AA001 0003A0001 770A01001 770301A01 7703az001 7703@[001 7703:@001
 
 table : List (List Change × Answer)
 table =
-    map (λ (d : List Change). (d, accepted "A")) (inField 102 kept ++ inField 103 kept)
-    ++ (map (λ (d : List Change). (d, broken 102 11)) (inField 102 refused) ++ map (λ (d : List Change). (d, broken 103 12)) (inField 103 refused))
+    map (λ (d : List Change). (d, accepted "A")) (varied [] 102 kept ++ varied [] 103 kept)
+    ++ (map (λ (d : List Change). (d, broken 102 11)) (varied [] 102 refused) ++ map (λ (d : List Change). (d, broken 103 12)) (varied [] 103 refused))
     -- "0" in 102 alone; rule 27 asks only whether 102 is "0"
     ++ (((102 ≔ "0") ∷ [], accepted "A")
     ∷ ((103 ≔ "0") ∷ [], broken 103 12)
@@ -74,6 +71,6 @@ table =
     ∷ ((101 ≔ "08") ∷ (60 ≔ "12345") ∷ (102 ≔ "7703AZ001") ∷ [], accepted "A")
     ∷ [])
 
-changed : map (λ (e : List Change × Answer). answer (e .0)) table ≡ map (λ (e : List Change × Answer). e .1) table
-unfolding answer table inField kept refused
+changed : Right table
+unfolding answer table varied kept refused
 changed = refl

@@ -5,7 +5,7 @@ use mathlib.Core.Bool.{Bool, _&&_, _||_}
 use mathlib.Core.List.{List, [], _∷_, _++_, map}
 use Prim.Native.Nat.{ℕ}
 use Prim.Native.String.{String}
-use Rattle.texts.specs.Quoted.{Text, words}
+use Rattle.texts.specs.Quoted.{Text}
 use Rattle.texts.specs.Texts.{_is_, digitsNot00}
 use Rattle.texts.specs.Answers.{Answer, success}
 use Rattle.sheets.specs.Sheet.{Sheet, _⟨_⟩}
@@ -14,7 +14,7 @@ use Rattle.sheets.specs.Lists.{personalGroup, wantInn, wantTen, wantTwelve, wan
 use Rattle.rules.specs.Rules.{Rule, general, special, forBudget, order, status}
 use Rattle.rules.specs.Verdicts.{checked}
 use Rattle.rules.specs.Before.{replaced, testsBy, checkedBy}
-use Rattle.rules.specs.Examples.{Change, _≔_, accepted, broken, sheetWith, answer}
+use Rattle.rules.specs.Examples.{Change, _≔_, accepted, broken, sheetWith, answer, Right, varied}
 
 -- before: "10 or 12 digits not beginning 00 (an INN)" in rules 8, 9, 23, 24 and 25, the others as they stand
 abbrev pub inn10Before : Text → Bool
@@ -61,9 +61,6 @@ AcceptedBefore = (s : Sheet) (c : List ℕ) → checked s ≡ success c → chec
 abbrev twelve : List Change
 twelve = (101 ≔ "17") ∷ (107 ≔ "10000000") ∷ (102 ≔ "0") ∷ []
 
-inField : List Change → ℕ → String → List (List Change)
-inField cs f q = map (λ (t : Text). cs ++ ((f, t) ∷ [])) (words q)
-
 -- the tenth digit by the nine before it, one weight after another; a remainder of 10 is written 0
 tenKept : String
 tenKept =
@@ -84,9 +81,9 @@ twelveRefused = "781023456789 781023456889 781023456778 781023456769 78102345678
 
 table : List (List Change × Answer)
 table =
-    map (λ (d : List Change). (d, accepted "A")) (inField [] 60 tenKept ++ (inField [] 61 tenKept ++ inField twelve 60 twelveKept))
-    ++ map (λ (d : List Change). (d, broken 60 8)) (inField [] 60 tenRefused ++ inField twelve 60 twelveRefused)
-    ++ map (λ (d : List Change). (d, broken 61 9)) (inField [] 61 tenRefused ++ inField [] 61 "6730054025 781023456779")
+    map (λ (d : List Change). (d, accepted "A")) (varied [] 60 tenKept ++ (varied [] 61 tenKept ++ varied twelve 60 twelveKept))
+    ++ map (λ (d : List Change). (d, broken 60 8)) (varied [] 60 tenRefused ++ varied twelve 60 twelveRefused)
+    ++ map (λ (d : List Change). (d, broken 61 9)) (varied [] 61 tenRefused ++ varied [] 61 "6730054025 781023456779")
     -- a foreign code has no check digits; status 30 wants "0", and 60 of digits breaks 8 first; class B
     ++ (((60 ≔ "12345") ∷ (101 ≔ "08") ∷ [], accepted "A")
     ∷ ((60 ≔ "7722222222") ∷ (101 ≔ "30") ∷ (107 ≔ "10000000") ∷ [], broken 60 8)
@@ -98,8 +95,8 @@ table =
     ∷ ((15 ≔ "") ∷ (101 ≔ "") ∷ (60 ≔ "7722222222") ∷ (61 ≔ "1") ∷ [], accepted "O")
     ∷ [])
 
-changed : map (λ (e : List Change × Answer). answer (e .0)) table ≡ map (λ (e : List Change × Answer). e .1) table
-unfolding answer table inField tenKept tenRefused twelveKept twelveRefused
+changed : Right table
+unfolding answer table varied tenKept tenRefused twelveKept twelveRefused
 changed = refl
 
 -- what was answered before: accepted with a digit off, refused for 00 in front

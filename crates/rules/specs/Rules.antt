@@ -217,6 +217,10 @@ order =
     1 ∷ 2 ∷ 3 ∷ 4 ∷ 5 ∷ 6 ∷ 7 ∷ 8 ∷ 9 ∷ 10 ∷ 11 ∷ 12 ∷ 13 ∷ 14 ∷ 15 ∷ 16 ∷ 17 ∷ 18 ∷ 19 ∷ 20 ∷ 22 ∷ 21 ∷ 23 ∷ 24 ∷ 25
     ∷ 26 ∷ 27 ∷ 28 ∷ 29 ∷ 30 ∷ 31 ∷ 32 ∷ 33 ∷ 34 ∷ 35 ∷ []
 
+-- "rules 5 to 9, 11 to 14, 16, 22 and 28", in the order of testing: a test ahead of completion asks for these (R-3)
+abbrev pub ahead : List ℕ
+ahead = 5 ∷ 6 ∷ 7 ∷ 8 ∷ 9 ∷ 11 ∷ 12 ∷ 13 ∷ 14 ∷ 16 ∷ 22 ∷ 28 ∷ []
+
 -- the test and the field of the rule with a number
 unfoldable pub testOf : List Rule → ℕ → Sheet → Bool
 testOf [] n s = true

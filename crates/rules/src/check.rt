@@ -1,9 +1,10 @@
 // The first broken rule, in the order of testing, and the verdict on a sheet.
 ghost use mathlib.Core.Path.{_≡_};
+ghost use mathlib.Core.Bool.{true};
 ghost use mathlib.Core.List.{[], _∷_};
 ghost use Rattle.sheets.specs.Sheet.{Sheet};
 ghost use Rattle.sheets.specs.Working.Facts.{Read};
-ghost use Rattle.rules.specs.Rules.{order, firstNot, firstBroken};
+ghost use Rattle.rules.specs.Rules.{budget, order, ahead, firstNot, firstBroken};
 ghost use Rattle.rules.specs.Working.Tests.{kept, outcomesOn, judgedOn};
 ghost use Rattle.rules.specs.Verdicts.{Checked};
 use crate::class::Class;
@@ -71,6 +72,9 @@ const ORDER: [u8; 35] = [
 
 // "In completion only 1 to 3".
 const BASIC: [u8; 3] = [1, 2, 3];
+
+// Those that a test ahead of completion asks for (R-3).
+const AHEAD: [u8; 12] = [5, 6, 7, 8, 9, 11, 12, 13, 14, 16, 22, 28];
 
 // Whether a rule is kept, by the outcomes of rules at their numbers; one past the end is.
 fn is_kept(outcomes: &[bool], n: u8) -> bool
@@ -154,6 +158,47 @@ fn outcomes(f: Facts) -> [bool; 36]
         day[3],
         document[5],
     ]
+}
+
+// What a test ahead of completion asks of a budget payment's facts, in words of the sheet: the first broken one of its rules. It makes no
+// other outcome.
+pub fn broken_ahead(f: Facts) -> Rule
+    ensures { λ r. ⌜ ((s : Sheet) → Read f s → budget s ≡ true → r .0 ≡ firstBroken s ahead) ⌝ }
+{
+    let always = fixed_outcomes(f);
+    let given = day_outcomes(f);
+    let kept = [
+        true,
+        true,
+        true,
+        true,
+        true,
+        always[0],
+        given[0],
+        always[1],
+        always[2],
+        always[3],
+        true,
+        always[4],
+        always[5],
+        always[6],
+        always[7],
+        true,
+        always[8],
+        true,
+        true,
+        true,
+        true,
+        true,
+        always[9],
+        true,
+        true,
+        true,
+        true,
+        true,
+        always[10],
+    ];
+    first_broken(&kept, &AHEAD)
 }
 
 fn broken(f: Facts) -> Rule

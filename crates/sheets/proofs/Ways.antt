@@ -1,6 +1,6 @@
 -- What the ways through the functions come to: facts of plain values, of which `search` finds the premises. Assumes nothing.
 use mathlib.Core.Path.{_≡_, refl, ap, sym, _∙_}
-use mathlib.Core.Bool.{Bool, true, false, not, cond, _&&_, _||_}
+use mathlib.Core.Bool.{Bool, true, false, not, cond, _&&_, _||_, and-comm}
 use mathlib.Core.List.{List, [], _∷_}
 use mathlib.Core.Logic.{_⊎_, inl, inr, ⊎-elim}
 use Prim.Native.Nat.{ℕ, _+_, _-_, _%_, _≤_, _<_}
@@ -156,15 +156,11 @@ unfolding standingBy standingOf
 standing-is t n r e f = cc (statuses-are t, groups-are t)
 
 -- is_b: the least account of class B is 40204
-and-none : (x : Bool) → false ≡ (x && false)
-and-none true = refl
-and-none false = refl
-
 pub b-low : (bank account : ℕ) (four : Bool) → account < 40204 → false ≡ isB bank account four
 unfolding isB among any are every number value valueOf
 b-low bank account four h =
     simp (ne-eqb 40204 account (λ e. omega arith), ne-eqb 40503 account (λ e. omega arith), ne-eqb 40603 account (λ e. omega arith), ne-eqb 40703 account (λ e. omega arith))
-    (and-none (among bank (numbersOf 3 banksB)))
+    (and-comm false (among bank (numbersOf 3 banksB)))
 
 pub b-is-all : (bik account x v : Text) (m o : ℕ) (p q f : Bool) → x ≡ between bik 6 9 → o ≡ number 3 x → p ≡ among o (numbersOf 3 banksB)
     → v ≡ between account 13 14 → f ≡ same v (52 ∷ []) → q ≡ among m (numbersOf 5 accountsB)

@@ -29,7 +29,7 @@ module _ (p : ℕ → Bool) where
   abbrev within : List ℕ → List ℕ → Bool
   within ks ls = every (λ (k : ℕ). among k ks) ls
 
-  every-within : (ks ls : List ℕ) → within ks ls ≡ true → every p ks ≡ true → every p ls ≡ true
+  pub every-within : (ks ls : List ℕ) → within ks ls ≡ true → every p ks ≡ true → every p ls ≡ true
   unfolding every
   every-within ks [] m a = refl
   every-within ks (l ∷ ls) m a =

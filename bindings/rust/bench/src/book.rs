@@ -11,11 +11,16 @@ use crate::measure::{Row, NO_SLOWER};
 /// How many times each goes through the book.
 const TIMES: usize = 7;
 
-/// The rows of the book.
-pub fn rows(book: &[Draft]) -> [Row; 2] {
+/// The rows of a book, and of one of which half is hopeless from the start.
+pub fn rows(book: &[Draft], half_hopeless: &[Draft]) -> [Row; 3] {
     [
         row("a book of 100,000 drafts, one core (each)", book, 1),
         row("a book of 100,000 drafts, all cores (each)", book, cores()),
+        row(
+            "a book of which half is hopeless from the start (each)",
+            half_hopeless,
+            1,
+        ),
     ]
 }
 

@@ -111,8 +111,60 @@ fn hopeless_texts(random: &mut Random) -> Texts {
     with_forms(random, &forms)
 }
 
-/// Hopeless drafts for each count of fillings, in rising order.
+/// Drafts to an account that wants a KBK, with "0" in 104: hopeless from the start,
+/// with none of 1,056 fillings.
+pub fn hopeless_from_the_start(random: &mut Random) -> Vec<Draft> {
+    many(random, |random| {
+        let texts = like_s(random).with(104, b"0");
+        draft(&texts.without(&BLANKS))
+    })
+}
+
+/// Drafts with nothing blank, to be accepted, and drafts hopeless from the start, in
+/// turn.
+pub fn full_or_hopeless(random: &mut Random) -> Vec<Draft> {
+    let pairs = full(random)
+        .into_iter()
+        .zip(hopeless_from_the_start(random));
+    let in_turn = pairs.flat_map(|(full, hopeless)| [full, hopeless]);
+    in_turn.take(INPUTS).collect()
+}
+
+/// Drafts that are not caught by the test, with none of 1,056 fillings.
+pub fn uncaught(random: &mut Random) -> Vec<Draft> {
+    many(random, |random| {
+        draft(&uncaught_texts(random).without(&VARYING))
+    })
+}
+
+/// A KPP beside 12 digits, which rule 27 refuses; or a customs office and an account
+/// that no status of the customs group goes with, which rules 19 and 30 refuse.
+fn uncaught_texts(random: &mut Random) -> Texts {
+    let kpp = Forms {
+        payer: Payer::Inn12,
+        ..FORMS_OF_S
+    };
+    let office = Forms {
+        account: Account::OtherA,
+        status: Some("08"),
+        office: true,
+        ..FORMS_OF_S
+    };
+    let forms = random.pick(&[kpp, office]);
+    with_forms(random, &forms)
+}
+
+/// Hopeless drafts for each count of fillings, in rising order: from the start.
 pub fn growth(random: &mut Random) -> Vec<(usize, Vec<Draft>)> {
+    by_fillings(random, hopeless_texts)
+}
+
+/// The same of drafts that are not caught by the test.
+pub fn uncaught_growth(random: &mut Random) -> Vec<(usize, Vec<Draft>)> {
+    by_fillings(random, uncaught_texts)
+}
+
+fn by_fillings(random: &mut Random, texts: fn(&mut Random) -> Texts) -> Vec<(usize, Vec<Draft>)> {
     let mut growth: Vec<_> = (0..16)
         .map(|set: usize| {
             let blank: Vec<u8> = (0..4)
@@ -123,7 +175,7 @@ pub fn growth(random: &mut Random) -> Vec<(usize, Vec<Draft>)> {
                 .iter()
                 .map(|&field| cases::list(field).len())
                 .product();
-            let one = |random: &mut Random| draft(&hopeless_texts(random).without(&blank));
+            let one = |random: &mut Random| draft(&texts(random).without(&blank));
             (fillings, many(random, one))
         })
         .collect();
@@ -135,6 +187,32 @@ pub fn growth(random: &mut Random) -> Vec<(usize, Vec<Draft>)> {
 /// A book of mixed drafts: whole, with blanks, with mistakes, some damaged.
 pub fn book(random: &mut Random) -> Vec<Draft> {
     (0..BOOK).map(|_| entry(random)).collect()
+}
+
+/// A book of which every other draft is hopeless from the start.
+pub fn half_hopeless_book(random: &mut Random) -> Vec<Draft> {
+    let pair = |_| [entry(random), hopeless_entry(random)];
+    (0..BOOK / 2).flat_map(pair).collect()
+}
+
+/// Texts that one of the rules that the pretest names refuses, whatever else an order
+/// has.
+const MISTAKES: [(u8, &[u8]); 9] = [
+    (22, b"00"),
+    (60, b"7701569744"),
+    (61, b""),
+    (61, b"6730054025"),
+    (102, b"00"),
+    (103, b"0"),
+    (104, b"00"),
+    (105, b"00"),
+    (107, b"00"),
+];
+
+fn hopeless_entry(random: &mut Random) -> Draft {
+    let texts = blanked(budget(random), random.below(1024));
+    let (field, text) = random.pick(&MISTAKES);
+    draft(&texts.with(field, text))
 }
 
 fn entry(random: &mut Random) -> Draft {
@@ -149,5 +227,67 @@ fn entry(random: &mut Random) -> Draft {
     match random.percent(3) {
         true => damaged_draft(random, draft),
         false => draft,
+    }
+}
+
+#[cfg(test)]
+mod tests {
+    use super::*;
+    use reference::{Broken, Refusal};
+
+    type Answer = (Result<Option<Broken>, Refusal>, Result<u32, Refusal>);
+
+    /// What the pretest answers, and the count of the completion.
+    fn answer(draft: &Draft) -> Answer {
+        let completed = reference::complete(draft, &mut [0; 390]);
+        let count = completed.map(|completed| completed.count);
+        (reference::pretest(draft), count)
+    }
+
+    const fn named(field: u8, rule: u8) -> Answer {
+        let named = Ok(Some(Broken { field, rule }));
+        (named, Err(Refusal::NoFilling { count: 1056 }))
+    }
+
+    fn all(drafts: &[Draft], expected: Answer) -> bool {
+        drafts.iter().all(|draft| answer(draft) == expected)
+    }
+
+    const FULL: Answer = (Ok(None), Ok(1));
+    const UNCAUGHT: Answer = (Ok(None), Err(Refusal::NoFilling { count: 1056 }));
+
+    #[test]
+    fn the_drafts_are_as_the_rows_say() {
+        let random = &mut random();
+        assert!(all(&full(random), FULL));
+        assert!(all(&hopeless(random), named(22, 22)));
+        assert!(all(&hopeless_from_the_start(random), named(104, 28)));
+        assert!(all(&uncaught(random), UNCAUGHT));
+        for pair in full_or_hopeless(random).chunks(2) {
+            assert!(all(&pair[..1], FULL) && all(&pair[1..], named(104, 28)));
+        }
+    }
+
+    #[test]
+    fn none_of_the_growth_is_completed() {
+        let random = &mut random();
+        for (caught, growth) in [(true, growth(random)), (false, uncaught_growth(random))] {
+            for (fillings, drafts) in growth {
+                let count = fillings as u32;
+                for (tested, completed) in drafts.iter().map(answer) {
+                    assert_eq!(tested.map(|named| named.is_some()), Ok(caught));
+                    assert_eq!(completed, Err(Refusal::NoFilling { count }));
+                }
+            }
+        }
+    }
+
+    #[test]
+    fn half_of_a_book_is_hopeless_from_the_start() {
+        let random = &mut random();
+        for _ in 0..1000 {
+            let tested = reference::pretest(&hopeless_entry(random));
+            assert!(matches!(tested, Ok(Some(_))));
+        }
     }
 }

@@ -18,7 +18,8 @@ use std::io::{self, ErrorKind};
 use std::path::Path;
 use std::process::{Command, ExitCode};
 
-use measure::{Row, NO_SLOWER};
+use cases::{Draft, Random, Sheet};
+use measure::{Goal, Row, NO_SLOWER};
 use report::Report;
 
 fn main() -> ExitCode {
@@ -52,38 +53,71 @@ fn measure_all() -> Report {
         ),
         check("check, mixed sheets", 0.7, inputs::mixed(&mut random)),
         post(inputs::messages(&mut random)),
-        complete(
-            "complete, nothing blank",
-            NO_SLOWER,
-            inputs::full(&mut random),
-        ),
-        complete(
-            "complete, count 97",
-            NO_SLOWER,
-            inputs::count_97(&mut random),
-        ),
-        complete(
-            "complete, hopeless, 1,056 fillings",
-            0.2,
-            inputs::hopeless(&mut random),
-        ),
     ];
-    rows.extend(book::rows(&inputs::book(&mut random)));
-    let growth = inputs::growth(&mut random)
-        .into_iter()
-        .map(|(fillings, drafts)| (fillings, complete("", NO_SLOWER, drafts)))
-        .collect();
+    rows.extend(completions(&mut random));
+    // Random numbers of their own, so that the inputs of the other rows stay as they
+    // were.
+    let mut other = inputs::random();
+    let book = inputs::book(&mut random);
+    let half_hopeless = inputs::half_hopeless_book(&mut other);
+    rows.extend(book::rows(&book, &half_hopeless));
     Report {
         rows,
-        growth,
+        growth: growth(
+            inputs::growth(&mut random),
+            inputs::uncaught_growth(&mut other),
+        ),
         stack: stack::rows(&mut random),
     }
 }
 
-fn check(name: &'static str, goal: f64, sheets: Vec<cases::Sheet>) -> Row {
+/// The rows of completion, and of the test ahead of it.
+fn completions(random: &mut Random) -> [Row; 6] {
+    let full = complete("complete, nothing blank", NO_SLOWER, inputs::full(random));
+    let as_full = Goal::OfOwn {
+        part: 1.2,
+        name: "nothing blank",
+        library: full.library,
+    };
+    let other = &mut inputs::random();
+    [
+        full,
+        complete("complete, count 97", NO_SLOWER, inputs::count_97(random)),
+        complete(
+            "complete, hopeless, 1,056 fillings",
+            Goal::OfSecond(0.2),
+            inputs::hopeless(random),
+        ),
+        pretest(inputs::full_or_hopeless(other)),
+        complete(
+            "complete, hopeless from the start, 1,056 fillings",
+            as_full,
+            inputs::hopeless_from_the_start(other),
+        ),
+        complete(
+            "complete, hopeless, not caught by the test",
+            Goal::OfSecond(0.2),
+            inputs::uncaught(other),
+        ),
+    ]
+}
+
+type Growth = Vec<(usize, Vec<Draft>)>;
+
+/// The completions of both for each count of fillings.
+fn growth(caught: Growth, uncaught: Growth) -> Vec<(usize, Row, Row)> {
+    let both = caught.into_iter().zip(uncaught);
+    both.map(|((fillings, caught), (_, uncaught))| {
+        let row = |drafts| complete("", NO_SLOWER, drafts);
+        (fillings, row(caught), row(uncaught))
+    })
+    .collect()
+}
+
+fn check(name: &'static str, goal: f64, sheets: Vec<Sheet>) -> Row {
     Row::measure(
         name,
-        goal,
+        Goal::OfSecond(goal),
         &sheets,
         |sheet| kieselbrot::check(sheet),
         |sheet| reference::check(sheet),
@@ -93,7 +127,7 @@ fn check(name: &'static str, goal: f64, sheets: Vec<cases::Sheet>) -> Row {
 fn post(lists: Vec<Vec<Vec<u8>>>) -> Row {
     Row::measure(
         "post, 15 messages to a fresh draft",
-        0.7,
+        Goal::OfSecond(0.7),
         &lists,
         |list| {
             let mut draft = [0xEE; 450];
@@ -112,7 +146,17 @@ fn post(lists: Vec<Vec<Vec<u8>>>) -> Row {
     )
 }
 
-fn complete(name: &'static str, goal: f64, drafts: Vec<cases::Draft>) -> Row {
+fn pretest(drafts: Vec<Draft>) -> Row {
+    Row::measure(
+        "pretest, hopeless from the start or nothing blank",
+        NO_SLOWER,
+        &drafts,
+        |draft| kieselbrot::pretest(draft),
+        |draft| reference::pretest(draft),
+    )
+}
+
+fn complete(name: &'static str, goal: Goal, drafts: Vec<Draft>) -> Row {
     Row::measure(
         name,
         goal,

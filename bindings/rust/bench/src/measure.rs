@@ -1,5 +1,6 @@
 //! The least of many interleaved batches.
 
+use std::fmt;
 use std::hint::black_box;
 use std::time::{Duration, Instant};
 
@@ -10,8 +11,33 @@ const BATCH: Duration = Duration::from_micros(200);
 /// How many batches of each.
 const BATCHES: usize = 400;
 
+/// What a row should reach.
+#[derive(Clone, Copy, Debug)]
+pub enum Goal {
+    /// At most this part of the second implementation's time.
+    OfSecond(f64),
+    /// At most this part of the library's own time in another row.
+    OfOwn {
+        /// The part.
+        part: f64,
+        /// What the other row measures.
+        name: &'static str,
+        /// The library in the other row.
+        library: f64,
+    },
+}
+
 /// The goal of every row: the library is no slower.
-pub const NO_SLOWER: f64 = 1.0;
+pub const NO_SLOWER: Goal = Goal::OfSecond(1.0);
+
+impl fmt::Display for Goal {
+    fn fmt(&self, f: &mut fmt::Formatter<'_>) -> fmt::Result {
+        match self {
+            Self::OfSecond(part) => write!(f, "{part:.1}"),
+            Self::OfOwn { part, name, .. } => write!(f, "{part:.1} of {name}"),
+        }
+    }
+}
 
 /// A line of the table, in nanoseconds each.
 #[derive(Clone, Debug)]
@@ -22,15 +48,15 @@ pub struct Row {
     pub library: f64,
     /// The second implementation.
     pub reference: f64,
-    /// The ratio to reach.
-    pub goal: f64,
+    /// What to reach.
+    pub goal: Goal,
 }
 
 impl Row {
     /// Measures both on the same inputs, batch after batch in turn.
     pub fn measure<T, A, B>(
         name: &'static str,
-        goal: f64,
+        goal: Goal,
         inputs: &[T],
         library: impl Fn(&T) -> A,
         reference: impl Fn(&T) -> B,
@@ -56,9 +82,21 @@ impl Row {
         self.library / self.reference
     }
 
+    /// How the library stands to itself in the row that the goal is a part of, if it
+    /// is of one.
+    pub fn own_ratio(&self) -> Option<f64> {
+        match self.goal {
+            Goal::OfSecond(_) => None,
+            Goal::OfOwn { library, .. } => Some(self.library / library),
+        }
+    }
+
     /// Whether the goal is reached.
     pub fn reached(&self) -> bool {
-        self.ratio() <= self.goal
+        match self.goal {
+            Goal::OfSecond(part) => self.ratio() <= part,
+            Goal::OfOwn { part, library, .. } => self.library <= part * library,
+        }
     }
 }
 

@@ -11,8 +11,9 @@ use crate::stack::Stack;
 pub struct Report {
     /// The rows of the first table.
     pub rows: Vec<Row>,
-    /// Completions without a filling, by the count of fillings.
-    pub growth: Vec<(usize, Row)>,
+    /// Completions without a filling, by the count of fillings: hopeless from the
+    /// start, and not caught by the test.
+    pub growth: Vec<(usize, Row, Row)>,
     /// The stack used.
     pub stack: Vec<Stack>,
 }
@@ -32,15 +33,17 @@ impl Report {
         text.push_str("| | library, ns | second, ns | ratio | goal | |\n");
         text.push_str("|---|--:|--:|--:|--:|---|\n");
         for row in &self.rows {
-            let goal = row.goal;
+            let own = row.own_ratio().map(|ratio| format!("{ratio:.2}, "));
             let reached = if row.reached() { "reached" } else { "missed" };
             writeln!(
                 text,
-                "| {} | {} | {} | {:.2} | {goal:.1} | {reached} |",
+                "| {} | {} | {} | {:.2} | {} | {}{reached} |",
                 row.name,
                 number(row.library),
                 number(row.reference),
-                row.ratio()
+                row.ratio(),
+                row.goal,
+                own.unwrap_or_default()
             )?;
         }
         if let Some(chart) = chart {
@@ -52,13 +55,13 @@ impl Report {
 
     fn write_growth(&self, text: &mut String) -> fmt::Result {
         text.push_str(GROWTH);
-        for (fillings, row) in &self.growth {
-            let (library, reference) = (number(row.library), number(row.reference));
-            let ratio = row.ratio();
-            writeln!(
-                text,
-                "| {fillings} | {library} | {reference} | {ratio:.2} |"
-            )?;
+        for (fillings, caught, uncaught) in &self.growth {
+            write!(text, "| {fillings} |")?;
+            for row in [caught, uncaught] {
+                let (library, reference) = (number(row.library), number(row.reference));
+                write!(text, " {library} | {reference} | {:.2} |", row.ratio())?;
+            }
+            writeln!(text)?;
         }
         Ok(())
     }
@@ -83,15 +86,24 @@ inputs, both built for release. Each figure is the least of many batches, those 
 both in turn; a row has 256 inputs, all different, and every batch begins with
 another. The ratio is library to second implementation: below 1 the library is
 faster; it varies by about 0.1 from run to run. Made by `make bench`.
+
+Of a hopeless draft no filling keeps the rules. It is hopeless from the start if the
+pretest names a rule: rule 28 in the row that says so, rule 22 in the row \"complete,
+hopeless, 1,056 fillings\". It is not caught by the test if the pretest names none;
+those in the table have 1,056 fillings, too. The book of which half is hopeless from
+the start has 100,000 drafts and is completed on one core. A goal that is a part of
+\"nothing blank\" is a part of the library's own time in that row; that ratio stands
+right of it.
 ";
 
 const GROWTH: &str = "
 ## How the cost grows with the fillings
 
-Completions that find none, by the count of all fillings.
+Completions that find none, by the count of all fillings: on the left drafts hopeless
+from the start (rule 22), on the right those that are not caught by the test.
 
-| fillings | library, ns | second, ns | ratio |
-|--:|--:|--:|--:|
+| fillings | library, ns | second, ns | ratio | not caught: library, ns | second, ns | ratio |
+|--:|--:|--:|--:|--:|--:|--:|
 ";
 
 const STACK: &str = "

@@ -1,11 +1,13 @@
 //! One call of both, and what must agree after it.
 
 use std::fmt::{self, Debug, Write as _};
+use std::hint::black_box;
 
 use cases::FIELDS;
 use kieselbrot::{Class, Completed, Message, Posted, Refusal};
 
 use crate::library::{Library, Reference};
+use crate::pretest::{fits_completion, Tested};
 use crate::reached::Reached;
 
 /// A call on which the two differ.
@@ -212,17 +214,35 @@ impl<'a, L: Library> Comparison<'a, L> {
         Ok(sheet)
     }
 
-    /// Completes a draft; the sheet is given back.
+    /// Tests a draft ahead of completion.
+    fn pretest(&mut self, draft: &[u8]) -> Outcome<Tested> {
+        let input = || format!("draft {}", shown_draft(draft));
+        let answer = lend_to_read("pretest", draft, input, |draft| {
+            let answer = self.library.pretest(draft);
+            same("pretest", answer, Reference.pretest(draft), input)?;
+            Ok(answer)
+        })?;
+        self.reached.answer("pretest", answer);
+        Ok(answer)
+    }
+
+    /// Tests a draft and completes it; the sheet is given back. What the test
+    /// answers must fit.
     pub fn complete(
         &mut self,
         draft: &[u8],
         before: Lent,
     ) -> Outcome<(Result<Completed, Refusal>, Lent)> {
         let input = || format!("draft {}, sheet of {}", shown_draft(draft), before.size);
-        let (answer, sheet) = self.lend("complete", &before, input, |library, sheet| {
-            library.complete(draft, sheet)
+        let tested = self.pretest(draft)?;
+        let (answer, sheet) = lend_to_read("complete", draft, input, |draft| {
+            self.lend("complete", &before, input, |library, sheet| {
+                library.complete(draft, sheet)
+            })
         })?;
+        fits_completion(draft, tested, answer)?;
         self.reached.complete(answer);
+        self.reached.pretest(tested, answer);
         Ok((answer, sheet))
     }
 
@@ -246,6 +266,20 @@ impl<'a, L: Library> Comparison<'a, L> {
         }
         Ok((answer, left))
     }
+}
+
+/// Lends a draft, which must stay as it is, with the bytes around it.
+fn lend_to_read<T>(
+    function: &'static str,
+    draft: &[u8],
+    input: impl Fn() -> String,
+    call: impl FnOnce(&[u8]) -> Outcome<T>,
+) -> Outcome<T> {
+    let lent = Lent::new(draft);
+    let outcome = call(black_box(lent.bytes()))?;
+    // A shared borrow is no proof against a library that writes all the same.
+    same_buffer(function, black_box(&lent), &Lent::new(draft), input)?;
+    Ok(outcome)
 }
 
 /// Holds an answer against the expected one.

@@ -2,21 +2,25 @@
 
 use cases::{blanked, with_forms, Account, Basis, Code, Date, Document, Forms, Payer};
 use cases::{budget, message, sheets, Random, Text, Texts, FIELDS, STATUSES};
+use kieselbrot::{Class, Refusal};
 
 use crate::comparison::{same, Comparison, Difference, Lent};
 use crate::fillings;
 use crate::library::Library;
+use crate::pretest::VARYING;
 
 type Outcome = Result<(), Difference>;
 
-/// The table `sheets.txt` against its verdicts.
+/// The table `sheets.txt` against its verdicts; completed as it is, and with the
+/// fields blank that vary the count of fillings.
 pub fn table<L: Library>(comparison: &mut Comparison<'_, L>) -> Outcome {
     for case in sheets() {
-        let answer = match comparison.check(&case.texts.sheet())? {
+        let answer = match check_and_complete(comparison, &case.texts)? {
             Ok(class) => format!("ok {class:?}"),
             Err(refusal) => refusal.to_string(),
         };
         same("check", answer, case.verdict, || case.name.to_owned())?;
+        by_list(comparison, &case.texts.without(&VARYING))?;
     }
     Ok(())
 }
@@ -118,7 +122,7 @@ pub fn forms<L: Library>(
                             document,
                             date,
                         };
-                        check_and_complete(comparison, &with_forms(random, &forms))?;
+                        let _ = check_and_complete(comparison, &with_forms(random, &forms))?;
                     }
                 }
             }
@@ -127,22 +131,30 @@ pub fn forms<L: Library>(
     Ok(())
 }
 
-fn check_and_complete<L: Library>(comparison: &mut Comparison<'_, L>, texts: &Texts) -> Outcome {
+fn check_and_complete<L: Library>(
+    comparison: &mut Comparison<'_, L>,
+    texts: &Texts,
+) -> Result<Result<Class, Refusal>, Difference> {
     let verdict = comparison.check(&texts.sheet())?;
     let draft = texts.draft(first_revision);
     let (answer, sheet) = comparison.complete(&draft, Lent::filled(390, 0xEE))?;
-    // A completed sheet is accepted; one accepted as it is needs no filling.
+    // A completed sheet is accepted; a budget payment accepted as it is needs no
+    // filling.
     if answer.is_ok() {
         let accepted = comparison.check(sheet.bytes())?.is_ok();
         same("check", accepted, true, || "a completed sheet".to_owned())?;
     }
-    if verdict.is_ok() {
+    if let Ok(class) = verdict {
         let plain = answer.map(|completed| (completed.count, completed.set));
-        same("complete", plain, Ok((1, 0)), || {
+        let expected = match class {
+            Class::O => Err(Refusal::Ordinary),
+            _ => Ok((1, 0)),
+        };
+        same("complete", plain, expected, || {
             "an accepted sheet".to_owned()
         })?;
     }
-    Ok(())
+    Ok(verdict)
 }
 
 /// Every size up to twice the right one, for each buffer of each function.

@@ -5,10 +5,14 @@ use kieselbrot::{Completed, Refusal};
 
 use crate::comparison::{hex, same, Comparison, Difference, Lent};
 use crate::library::Library;
+use crate::pretest::fits_fillings;
 
 /// What completing a budget payment should answer, by trying every filling.
-fn search(library: &impl Library, given: &Texts) -> (Result<Completed, Refusal>, Option<Sheet>) {
-    let all = fillings(given);
+fn search(
+    library: &impl Library,
+    given: &Texts,
+    all: &[Texts],
+) -> (Result<Completed, Refusal>, Option<Sheet>) {
     let accepted = |filling: &Texts| library.check(&filling.sheet()).is_ok();
     let Some(place) = all.iter().position(accepted) else {
         let count = all.len();
@@ -23,18 +27,24 @@ fn search(library: &impl Library, given: &Texts) -> (Result<Completed, Refusal>,
     (Ok(completed), Some(all[place].sheet()))
 }
 
-/// Completes a draft of class A or B and holds the answer against the list of
-/// all fillings, judged by the library's own check.
+/// Tests and completes a draft, and if it is one of class A or B holds the answers
+/// against the list of all fillings, judged by the library's own check.
 pub fn complete<L: Library>(
     comparison: &mut Comparison<'_, L>,
     given: &Texts,
     draft: &[u8],
 ) -> Result<(), Difference> {
     let (answer, sheet) = comparison.complete(draft, Lent::filled(390, 0xEE))?;
-    if matches!(answer, Err(Refusal::Broken { .. } | Refusal::Ordinary)) {
+    if matches!(
+        answer,
+        Err(Refusal::Malformed | Refusal::Broken { .. } | Refusal::Ordinary)
+    ) {
         return Ok(());
     }
-    let (expected, filling) = search(comparison.library(), given);
+    let library = comparison.library();
+    let all = fillings(given);
+    fits_fillings(library, library.pretest(draft), &all)?;
+    let (expected, filling) = search(library, given, &all);
     let input = || format!("draft {}, by all fillings", hex(draft));
     same("complete", answer, expected, input)?;
     let filling = filling.unwrap_or([0xEE; 390]);

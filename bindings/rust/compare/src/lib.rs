@@ -13,6 +13,7 @@ mod fillings;
 mod generated;
 mod library;
 mod planted;
+mod pretest;
 mod reached;
 mod run;
 mod streams;

@@ -1,8 +1,8 @@
 //! The library and the second implementation under one trait.
 
-use kieselbrot::{Class, Completed, Message, Posted, Refusal};
+use kieselbrot::{Broken, Class, Completed, Message, Posted, Refusal};
 
-/// The seven functions of document 01.
+/// The seven functions of document 01, and the test ahead of completion.
 pub trait Library: Sync {
     /// Checks a sheet.
     fn check(&self, sheet: &[u8]) -> Result<Class, Refusal>;
@@ -22,6 +22,8 @@ pub trait Library: Sync {
     fn post(&self, draft: &mut [u8], message: &[u8]) -> Result<Posted, Refusal>;
     /// Copies a draft to a sheet.
     fn copy(&self, draft: &[u8], sheet: &mut [u8]) -> Result<(), Refusal>;
+    /// Tests a draft ahead of completion.
+    fn pretest(&self, draft: &[u8]) -> Result<Option<Broken>, Refusal>;
     /// Completes a draft.
     fn complete(&self, draft: &[u8], sheet: &mut [u8]) -> Result<Completed, Refusal>;
 }
@@ -58,6 +60,10 @@ impl Library for Linked {
 
     fn copy(&self, draft: &[u8], sheet: &mut [u8]) -> Result<(), Refusal> {
         kieselbrot::copy(draft, sheet)
+    }
+
+    fn pretest(&self, draft: &[u8]) -> Result<Option<Broken>, Refusal> {
+        kieselbrot::pretest(draft)
     }
 
     fn complete(&self, draft: &[u8], sheet: &mut [u8]) -> Result<Completed, Refusal> {
@@ -108,6 +114,11 @@ impl Library for Reference {
         reference::copy(draft, sheet).map_err(refusal)
     }
 
+    fn pretest(&self, draft: &[u8]) -> Result<Option<Broken>, Refusal> {
+        let named = reference::pretest(draft).map_err(refusal)?;
+        Ok(named.map(broken))
+    }
+
     fn complete(&self, draft: &[u8], sheet: &mut [u8]) -> Result<Completed, Refusal> {
         let reference::Completed { count, set, ones } =
             reference::complete(draft, sheet).map_err(refusal)?;
@@ -133,6 +144,11 @@ const fn posted(posted: reference::Posted) -> Posted {
         reference::Posted::Same => Posted::Same,
         reference::Posted::Older => Posted::Older,
     }
+}
+
+fn broken(broken: reference::Broken) -> Broken {
+    let reference::Broken { field, rule } = broken;
+    Broken { field, rule }
 }
 
 const fn refusal(refusal: reference::Refusal) -> Refusal {

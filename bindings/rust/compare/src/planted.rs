@@ -1,7 +1,7 @@
 //! Differences planted on purpose: each must be found.
 
-use cases::{inn_remainder, slot_of, snils_remainder, Texts};
-use kieselbrot::{Class, Completed, Message, Posted, Refusal};
+use cases::{inn_remainder, slot_of, snils_remainder, Text, Texts};
+use kieselbrot::{Broken, Class, Completed, Message, Posted, Refusal};
 
 use crate::library::{Library, Reference};
 
@@ -50,10 +50,18 @@ pub enum Planted {
     Blank15,
     /// With number 10 the draft's sheet is written all the same.
     WrittenAnyway,
+    /// The pretest names no rule of any draft.
+    NeverNamed,
+    /// The pretest names the last of the rules that all fillings break.
+    LastNamed,
+    /// The pretest names rule 27 where all fillings break it and none of the twelve.
+    Named27,
+    /// The pretest names rule 6 without its field.
+    Fieldless6,
 }
 
 /// All of them.
-pub const PLANTS: [Planted; 21] = [
+pub const PLANTS: [Planted; 25] = [
     Planted::Century,
     Planted::Status01,
     Planted::Without03252,
@@ -75,6 +83,10 @@ pub const PLANTS: [Planted; 21] = [
     Planted::CountAnew,
     Planted::Blank15,
     Planted::WrittenAnyway,
+    Planted::NeverNamed,
+    Planted::LastNamed,
+    Planted::Named27,
+    Planted::Fieldless6,
 ];
 
 impl Planted {
@@ -146,6 +158,49 @@ fn text(sheet: &[u8], field: u8) -> &[u8] {
     let slot = sheet.get(26 * slot_of(field)..).unwrap_or_default();
     let length = slot.first().copied().unwrap_or_default();
     slot.get(1..1 + usize::from(length)).unwrap_or_default()
+}
+
+/// The last of the rules that all fillings of a draft break: the first, if that one
+/// is mended and the draft tested again until none is left.
+fn last_named(draft: &[u8]) -> Result<Option<Broken>, Refusal> {
+    let mut mended = draft.to_vec();
+    let mut last = None;
+    while let Some(broken) = Reference.pretest(&mended)? {
+        last = Some(broken);
+        mend(&mut mended, broken);
+    }
+    Ok(last)
+}
+
+/// Changes the field of a broken rule so that the rule is kept. A "0" keeps rule 6,
+/// and breaks what a blank breaks besides.
+fn mend(draft: &mut [u8], broken: Broken) {
+    let slot = &mut draft[30 * slot_of(broken.field)..][..30];
+    let text: &[u8] = match broken.rule {
+        5 => return slot[10..13].copy_from_slice(b"643"),
+        7 | 13 | 22 | 28 => b"18201061201010000510",
+        9 => b"6730054024",
+        12 => b"772801001",
+        _ => b"0",
+    };
+    slot[..4].copy_from_slice(&[1; 4]);
+    slot[4..].copy_from_slice(&Text::new(text).slot());
+}
+
+/// Whether all fillings break rule 27: 60 and 102 are alike in them, and a blank 101
+/// is filled with status 01, too.
+fn breaks_27(draft: &[u8]) -> bool {
+    let mut sheet = [0; 390];
+    if Reference.copy(draft, &mut sheet).is_err() {
+        return false;
+    }
+    let kpp = !matches!(text(&sheet, 102), b"" | b"0");
+    match text(&sheet, 60).len() {
+        12 => kpp,
+        10 => !kpp && !matches!(text(&sheet, 101), b"" | b"01"),
+        5 => !kpp,
+        _ => false,
+    }
 }
 
 impl Library for Planted {
@@ -221,6 +276,23 @@ impl Library for Planted {
             return Err(Refusal::Output);
         }
         Reference.copy(draft, sheet)
+    }
+
+    fn pretest(&self, draft: &[u8]) -> Result<Option<Broken>, Refusal> {
+        let answer = Reference.pretest(draft);
+        match (self, answer) {
+            (Self::NeverNamed, Ok(Some(_))) => Ok(None),
+            (Self::LastNamed, Ok(Some(_))) => last_named(draft),
+            (Self::Named27, Ok(None)) if breaks_27(draft) => {
+                let (field, rule) = (102, 27);
+                Ok(Some(Broken { field, rule }))
+            }
+            (Self::Fieldless6, Ok(Some(Broken { rule: 6, .. }))) => {
+                let (field, rule) = (0, 6);
+                Ok(Some(Broken { field, rule }))
+            }
+            _ => answer,
+        }
     }
 
     fn complete(&self, draft: &[u8], sheet: &mut [u8]) -> Result<Completed, Refusal> {

@@ -6,6 +6,8 @@ use std::fmt;
 use cases::{BASES, CLASS_A, CLASS_B, STATUSES};
 use kieselbrot::{Class, Completed, Posted, Refusal};
 
+use crate::pretest::{Tested, NAMED};
+
 /// How often each thing was reached. What a thing is called is part of the
 /// report: "check 8", "rule 27", "status 04 in class A".
 #[derive(Clone, Debug, Default)]
@@ -23,6 +25,8 @@ pub struct Reached {
     letters: BTreeMap<(u8, Letters, bool), u64>,
     inns: BTreeMap<(u8, usize, Inn), u64>,
     codes: BTreeMap<(Caught, u8), u64>,
+    named: BTreeMap<(u8, u8), u64>,
+    unnamed: BTreeMap<u8, u64>,
 }
 
 /// What the first nine of a pension number's eleven digits are to rule 35.
@@ -117,13 +121,14 @@ enum Accepted {
 }
 
 /// The numbers that each function returns.
-const ANSWERS: [(&str, &[u8]); 7] = [
+const ANSWERS: [(&str, &[u8]); 8] = [
     ("check", &[0, 1, 8]),
     ("read", &[0, 2, 3, 4, 5]),
     ("write", &[0, 2, 4, 5, 7]),
     ("fresh", &[0, 1]),
     ("post", &[0, 1, 2, 3, 4, 5, 6]),
     ("copy", &[0, 1, 7]),
+    ("pretest", &[0, 1, 8, 9]),
     ("complete", &[0, 1, 7, 8, 9, 10]),
 ];
 
@@ -321,6 +326,22 @@ impl Reached {
         }
     }
 
+    /// What the test of a draft named, or where it named nothing what its
+    /// completion answered.
+    pub fn pretest(&mut self, tested: Tested, completed: Result<Completed, Refusal>) {
+        match tested {
+            Ok(Some(broken)) => {
+                let reached = self.named.entry((broken.rule, broken.field));
+                *reached.or_default() += 1;
+            }
+            Ok(None) => {
+                let number = completed.err().map_or(0, |refusal| refusal.number());
+                *self.unnamed.entry(number).or_default() += 1;
+            }
+            Err(_) => {}
+        }
+    }
+
     /// Adds what another comparison reached.
     pub fn add(&mut self, other: &Self) {
         self.calls += other.calls;
@@ -334,6 +355,8 @@ impl Reached {
         add(&mut self.letters, &other.letters);
         add(&mut self.inns, &other.inns);
         add(&mut self.codes, &other.codes);
+        add(&mut self.named, &other.named);
+        add(&mut self.unnamed, &other.unnamed);
         for (sum, more) in self.standings.iter_mut().zip(other.standings) {
             *sum += more;
         }
@@ -400,9 +423,20 @@ impl Reached {
         for field in FIELDS_OF_RULE_6 {
             list.push((format!("rule 6 of {field}"), rule("check", 6, field)));
         }
-        for (number, field) in (1..).zip(&FIELD_OF_RULE[..3]) {
-            let name = format!("rule {number} of {field} in completion");
-            list.push((name, rule("complete", number, *field)));
+        for (function, place) in [("complete", "completion"), ("pretest", "the pretest")] {
+            for (number, field) in (1..).zip(&FIELD_OF_RULE[..3]) {
+                let name = format!("rule {number} of {field} in {place}");
+                list.push((name, rule(function, number, *field)));
+            }
+        }
+        for named in NAMED {
+            let (number, field) = (named.rule, named.field);
+            let name = format!("rule {number} of {field} named ahead");
+            list.push((name, get(&self.named, (number, field))));
+        }
+        for number in [0, 10] {
+            let name = format!("none named ahead, complete {number}");
+            list.push((name, get(&self.unnamed, number)));
         }
     }
 

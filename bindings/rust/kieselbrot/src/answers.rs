@@ -37,6 +37,15 @@ pub enum Posted {
     Older,
 }
 
+/// A rule that all fillings of a draft break.
+#[derive(Clone, Copy, Debug, PartialEq, Eq, Hash)]
+pub struct Broken {
+    /// The number of the field that the rule names.
+    pub field: u8,
+    /// The number of the rule.
+    pub rule: u8,
+}
+
 /// What a completion found.
 #[derive(Clone, Copy, Debug, PartialEq, Eq, Hash)]
 pub struct Completed {
@@ -67,14 +76,14 @@ pub enum Refusal {
     Clash,
     /// 7: the output sheet's size is not 390, or the message buffer is too short.
     Output,
-    /// 8: a rule is broken; in completion only rules 1 to 3.
+    /// 8: a rule is broken; in completion and its pretest only rules 1 to 3.
     Broken {
         /// The number of the field that the rule names.
         field: u8,
         /// The number of the first broken rule.
         rule: u8,
     },
-    /// 9: completion of a draft of class O.
+    /// 9: completion or pretest of a draft of class O.
     Ordinary,
     /// 10: no filling keeps the rules.
     NoFilling {
@@ -216,6 +225,23 @@ impl From<ffi::Post> for Result<Posted, Refusal> {
     }
 }
 
+impl From<ffi::Pretest> for Result<Option<Broken>, Refusal> {
+    fn from(answer: ffi::Pretest) -> Self {
+        let ffi::Pretest {
+            number,
+            field,
+            rule,
+        } = answer;
+        match (number, field, rule) {
+            (0, 0, 0) => Ok(None),
+            (0, 1.., 1..) => Ok(Some(Broken { field, rule })),
+            (8, field, rule) => Err(Refusal::Broken { field, rule }),
+            (number, 0, 0) => Err(Refusal::plain(number)),
+            _ => Err(Refusal::Unknown { number }),
+        }
+    }
+}
+
 impl From<ffi::Complete> for Result<Completed, Refusal> {
     fn from(answer: ffi::Complete) -> Self {
         let ffi::Complete {
@@ -284,6 +310,33 @@ mod tests {
         }
         assert_eq!(read(2, 0, 0, 8, 0), Err(Refusal::Unknown { number: 2 }));
         assert_eq!(read(2, 0, 0, 0, 2), Err(Refusal::Unknown { number: 2 }));
+    }
+
+    #[test]
+    fn a_pretest_names_a_rule_with_its_field_or_none() {
+        let pretest = |number, field, rule| {
+            Result::<Option<Broken>, Refusal>::from(ffi::Pretest {
+                number,
+                field,
+                rule,
+            })
+        };
+        let (field, rule) = (104, 28);
+        assert_eq!(pretest(0, 0, 0), Ok(None));
+        assert_eq!(pretest(0, field, rule), Ok(Some(Broken { field, rule })));
+        let (field, rule) = (14, 1);
+        assert_eq!(
+            pretest(8, field, rule),
+            Err(Refusal::Broken { field, rule })
+        );
+        assert_eq!(pretest(1, 0, 0), Err(Refusal::Malformed));
+        assert_eq!(pretest(9, 0, 0), Err(Refusal::Ordinary));
+        for (number, field, rule) in [(0, 0, 6), (0, 61, 0), (1, 14, 0), (9, 0, 1), (10, 0, 0)] {
+            assert_eq!(
+                pretest(number, field, rule),
+                Err(Refusal::Unknown { number })
+            );
+        }
     }
 
     #[test]

@@ -41,6 +41,15 @@ pub struct Post {
     pub standing: u8,
 }
 
+/// The answer of the test ahead of completion.
+#[repr(C)]
+#[derive(Clone, Copy)]
+pub struct Pretest {
+    pub number: u8,
+    pub field: u8,
+    pub rule: u8,
+}
+
 /// The answer of completing.
 #[repr(C)]
 #[derive(Clone, Copy)]
@@ -58,6 +67,7 @@ const _: () = assert!(size_of::<Check>() == 4);
 const _: () = assert!(size_of::<Read>() == 24);
 const _: () = assert!(size_of::<Write>() == 16);
 const _: () = assert!(size_of::<Post>() == 2);
+const _: () = assert!(size_of::<Pretest>() == 3);
 const _: () = assert!(size_of::<Complete>() == 24);
 
 extern "C" {
@@ -79,6 +89,7 @@ extern "C" {
         message_len: usize,
     ) -> Post;
     fn kieselbrot_copy(draft: *const u8, draft_len: usize, sheet: *mut u8, sheet_len: usize) -> u8;
+    fn kieselbrot_pretest(draft: *const u8, draft_len: usize) -> Pretest;
     fn kieselbrot_complete(
         draft: *const u8,
         draft_len: usize,
@@ -129,6 +140,10 @@ pub fn post(draft: &mut [u8], message: &[u8]) -> Post {
 
 pub fn copy(draft: &[u8], sheet: &mut [u8]) -> u8 {
     unsafe { kieselbrot_copy(draft.as_ptr(), draft.len(), sheet.as_mut_ptr(), sheet.len()) }
+}
+
+pub fn pretest(draft: &[u8]) -> Pretest {
+    unsafe { kieselbrot_pretest(draft.as_ptr(), draft.len()) }
 }
 
 pub fn complete(draft: &[u8], sheet: &mut [u8]) -> Complete {

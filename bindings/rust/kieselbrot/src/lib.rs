@@ -9,14 +9,15 @@
 //! Field, status and rule numbers are those of the form and of document 01.
 //! Texts are bytes of Windows-1251, 0 to 25 of them; the empty text is a blank. The
 //! constants have the sizes of a sheet, a draft and a message, and say how they are
-//! laid out.
+//! laid out. The module [`words`] says in English what a rule wants and why an order
+//! can't be completed.
 //!
 //! # Example
 //!
 //! An order arrives in messages, in any order, and is completed:
 //!
 //! ```
-//! use kieselbrot::{check, complete, post, write, Class, Posted, Refusal};
+//! use kieselbrot::{check, complete, post, pretest, write, Class, Posted, Refusal};
 //!
 //! # fn main() -> Result<(), Refusal> {
 //! let order: [(u8, &[u8]); 8] = [
@@ -37,6 +38,7 @@
 //!     assert_eq!(post(&mut draft, &message[..length])?, Posted::Newer);
 //! }
 //!
+//! assert_eq!(pretest(&draft)?, None);
 //! let mut sheet = [0; kieselbrot::SHEET_SIZE];
 //! let completed = complete(&draft, &mut sheet)?;
 //! assert_eq!((completed.count, completed.ones), (1, 7));
@@ -51,8 +53,10 @@
 mod answers;
 #[allow(unsafe_code)]
 mod ffi;
+mod fillings;
+pub mod words;
 
-pub use answers::{Class, Completed, Message, Posted, Refusal};
+pub use answers::{Broken, Class, Completed, Message, Posted, Refusal};
 
 /// The numbers of the fifteen fields, in the order of their slots.
 pub const FIELDS: [u8; 15] = [
@@ -154,6 +158,23 @@ pub fn post(draft: &mut [u8], message: &[u8]) -> Result<Posted, Refusal> {
 #[inline]
 pub fn copy(draft: &[u8], sheet: &mut [u8]) -> Result<(), Refusal> {
     answers::number(ffi::copy(draft, sheet))
+}
+
+/// Tests a draft ahead of completion: names, with its field, the first of rules 5 to
+/// 9, 11 to 14, 16, 22 and 28, in the order of testing, that all fillings break, or
+/// none.
+///
+/// Where it names a rule, completing the draft into a sheet of the right size is
+/// refused with [`Refusal::NoFilling`] and the count of all fillings. It names none
+/// exactly when every filling keeps all twelve rules.
+///
+/// # Errors
+///
+/// As [`complete`] does, in this order: [`Refusal::Malformed`] for the draft,
+/// [`Refusal::Broken`] for rules 1 to 3, [`Refusal::Ordinary`].
+#[inline]
+pub fn pretest(draft: &[u8]) -> Result<Option<Broken>, Refusal> {
+    ffi::pretest(draft).into()
 }
 
 /// Completes a draft: writes the first filling that keeps all rules to the sheet,

@@ -1,4 +1,4 @@
-//! An order as a person writes it, turned into messages.
+//! An order as a person writes it, turned into messages, and these into a draft.
 //!
 //! A line is `FIELD REVISION TEXT`, in UTF-8, with one space between the items.
 //! The text is the rest of the line: it may contain spaces, and may be empty or
@@ -11,7 +11,7 @@ mod windows1251;
 
 use std::fmt;
 
-use kieselbrot::{Refusal, FIELDS, MESSAGE_MAX, TEXT_MAX};
+use kieselbrot::{Refusal, DRAFT_SIZE, FIELDS, MESSAGE_MAX, TEXT_MAX};
 
 /// As many bytes of messages as the program budgetorder reads.
 pub const ORDER_MAX: usize = 32_768;
@@ -138,6 +138,35 @@ fn number(digits: &str) -> Option<u32> {
     plain.then(|| digits.parse().ok())?
 }
 
+/// The draft that budgetorder completes: messages end to end, posted one after
+/// another to a fresh draft. One that is refused changes nothing; after a wrong
+/// length nothing more is read.
+#[must_use]
+pub fn draft(messages: &[u8]) -> [u8; DRAFT_SIZE] {
+    let mut draft = [0; DRAFT_SIZE];
+    let mut rest = messages;
+    while !rest.is_empty() {
+        let (message, behind) = rest.split_at(size(rest));
+        if kieselbrot::post(&mut draft, message) == Err(Refusal::Length) {
+            break;
+        }
+        rest = behind;
+    }
+    draft
+}
+
+/// How many bytes the first message has: 2 and as many as these two say, or all
+/// that are left.
+fn size(messages: &[u8]) -> usize {
+    match *messages {
+        [high, low, ..] => {
+            let length = usize::from(u16::from_be_bytes([high, low]));
+            messages.len().min(2 + length)
+        }
+        _ => messages.len(),
+    }
+}
+
 #[cfg(test)]
 mod tests {
     use super::*;
@@ -205,5 +234,33 @@ mod tests {
             Ok(ORDER_MAX)
         );
         assert_eq!(mistakes(&(full + "22 1")), [(4097, Mistake::Order)]);
+    }
+    #[test]
+    fn messages_are_posted_as_the_program_does() {
+        let texts = |messages: &[u8]| {
+            let mut sheet = [0; kieselbrot::SHEET_SIZE];
+            kieselbrot::copy(&draft(messages), &mut sheet).expect("a draft");
+            let text = |slot: usize| sheet[26 * slot + 1..][..4].to_vec();
+            (text(0), text(1))
+        };
+        let bik = |revision: u8, text: &[u8; 4]| {
+            let head = [0, 10, 1, 14, 0, 0, 0, revision];
+            [&head[..], text].concat()
+        };
+        let bank = b"\x00\x0A\x01\x0F\x00\x00\x00\x011234";
+        let (none, first, second) = (vec![0; 4], b"0045".to_vec(), b"1234".to_vec());
+        assert_eq!(texts(b""), (none.clone(), none.clone()));
+        // A clash is refused, and what comes after it is read.
+        let clash = [&bik(2, b"0045")[..], &bik(2, b"0046"), bank].concat();
+        assert_eq!(texts(&clash), (first.clone(), second));
+        // After a wrong length nothing is.
+        let wrong = [&bik(2, b"0045")[..], b"\x00\x01\x01", bank].concat();
+        assert_eq!(texts(&wrong), (first.clone(), none.clone()));
+        for rest in [&b"\x00"[..], b"\x00\x0A\x01\x0F"] {
+            assert_eq!(
+                texts(&[&bik(2, b"0045"), rest].concat()),
+                (first.clone(), none.clone())
+            );
+        }
     }
 }

@@ -1,11 +1,18 @@
-//! The tool on the sample order, and on a wrong one.
+//! The tools on the sample orders, and on a wrong one.
 
 use std::env;
 use std::fs;
-use std::path::Path;
-use std::process::{Command, Output};
+use std::io::Write;
+use std::path::{Path, PathBuf};
+use std::process::{Command, Output, Stdio};
 
-const SAMPLE: &str = concat!(env!("CARGO_MANIFEST_DIR"), "/../../samples/order.txt");
+use kieselbrot::{Broken, Refusal};
+
+/// A sample's file, with this ending.
+fn sample(name: &str, ending: &str) -> PathBuf {
+    let samples = Path::new(env!("CARGO_MANIFEST_DIR")).join("../../samples");
+    samples.join(name).with_extension(ending)
+}
 
 fn order(path: impl AsRef<Path>) -> Output {
     Command::new(env!("CARGO_BIN_EXE_order"))
@@ -14,25 +21,60 @@ fn order(path: impl AsRef<Path>) -> Output {
         .expect("the tool runs")
 }
 
-/// Posts messages that stand end to end, and completes the draft.
-fn complete(mut messages: &[u8]) -> Result<kieselbrot::Completed, kieselbrot::Refusal> {
-    let mut draft = [0; kieselbrot::DRAFT_SIZE];
-    while let [high, low, ..] = *messages {
-        let size = 2 + usize::from(u16::from_be_bytes([high, low]));
-        let (message, rest) = messages.split_at(size);
-        kieselbrot::post(&mut draft, message)?;
-        messages = rest;
-    }
-    kieselbrot::complete(&draft, &mut [0; kieselbrot::SHEET_SIZE])
+/// What `explain` writes of messages.
+fn explain(messages: &[u8]) -> String {
+    let mut tool = Command::new(env!("CARGO_BIN_EXE_explain"))
+        .stdin(Stdio::piped())
+        .stdout(Stdio::piped())
+        .spawn()
+        .expect("the tool runs");
+    let mut input = tool.stdin.take().expect("its input");
+    input.write_all(messages).expect("it reads");
+    drop(input);
+    let output = tool.wait_with_output().expect("it ends");
+    assert!(output.status.success());
+    String::from_utf8(output.stdout).expect("UTF-8")
+}
+
+/// The messages of a sample.
+fn messages(name: &str) -> Vec<u8> {
+    let output = order(sample(name, "txt"));
+    assert!(output.status.success());
+    assert!(output.stderr.is_empty());
+    output.stdout
+}
+
+fn complete(draft: &[u8]) -> Result<kieselbrot::Completed, Refusal> {
+    kieselbrot::complete(draft, &mut [0; kieselbrot::SHEET_SIZE])
 }
 
 #[test]
 fn the_sample_is_completed() {
-    let output = order(SAMPLE);
-    assert!(output.status.success());
-    assert!(output.stderr.is_empty());
-    let completed = complete(&output.stdout).expect("the sample can be completed");
+    let completed = complete(&order::draft(&messages("order")));
+    let completed = completed.expect("the sample can be completed");
     assert_eq!((completed.count, completed.ones), (1, 7));
+}
+
+#[test]
+fn two_samples_can_not_be_completed() {
+    let rule_28 = Broken {
+        field: 104,
+        rule: 28,
+    };
+    for (name, broken) in [("hopeless", Some(rule_28)), ("status-by-status", None)] {
+        let draft = order::draft(&messages(name));
+        assert_eq!(complete(&draft), Err(Refusal::NoFilling { count: 1056 }));
+        assert_eq!(kieselbrot::pretest(&draft), Ok(broken));
+    }
+}
+
+#[test]
+fn the_words_of_the_samples() {
+    for name in ["order", "hopeless", "status-by-status"] {
+        let stored = fs::read_to_string(sample(name, "report")).expect("a stored report");
+        let (_, words) = stored.split_once("\n\n").expect("words below the report");
+        assert_eq!(explain(&messages(name)), words);
+    }
 }
 
 #[test]

@@ -36,10 +36,8 @@ pub struct Completed {
 pub fn complete(draft: &[u8], sheet: &mut [u8]) -> Result<Completed, Refusal> {
     let given = sheet_of(draft)?;
     let output = sheet::output(sheet).ok_or(Refusal::Output)?;
-    if classify(&given)? == Class::O {
-        return Err(Refusal::Ordinary);
-    }
-    let (filling, count) = first_filling(&given)?;
+    budget_class(&given)?;
+    let (filling, count) = first_filling(&given, |filling| judge(filling).is_ok())?;
     filling.write_to(output);
     let set = filled(&given);
     Ok(Completed {
@@ -47,6 +45,16 @@ pub fn complete(draft: &[u8], sheet: &mut [u8]) -> Result<Completed, Refusal> {
         set,
         ones: set.count_ones(),
     })
+}
+
+/// The class of "a draft whose sheet is one", a budget payment: A or B. Refusal
+/// 8: "a broken rule; in completion only 1 to 3"; refusal 9: "completion of class
+/// O".
+pub(crate) fn budget_class(given: &Sheet<'_>) -> Result<Class, Refusal> {
+    match classify(given)? {
+        Class::O => Err(Refusal::Ordinary),
+        class => Ok(class),
+    }
 }
 
 /// A field's list. "Fields 14, 15, 17, 61, 103 have no list and stay as given."
@@ -91,11 +99,14 @@ fn candidates<'a>(given: &'a Sheet<'a>, field: Field) -> &'a [&'a [u8]] {
     }
 }
 
-/// The first filling that keeps all rules and its place; refusal 10 with the
-/// count of all fillings if there is none.
+/// The first filling that passes and its place; refusal 10 with the count of
+/// all fillings if none does. No filling after it is looked at.
 ///
 /// "Order: 101 varies slowest, then 106, 108, 109."
-fn first_filling<'a>(given: &'a Sheet<'a>) -> Result<(Sheet<'a>, u32), Refusal> {
+pub(crate) fn first_filling<'a>(
+    given: &'a Sheet<'a>,
+    mut passes: impl FnMut(&Sheet<'a>) -> bool,
+) -> Result<(Sheet<'a>, u32), Refusal> {
     let mut filling = *given;
     for field in Field::ALL {
         // The four fields with longer lists get their entries in the search.
@@ -111,7 +122,7 @@ fn first_filling<'a>(given: &'a Sheet<'a>) -> Result<(Sheet<'a>, u32), Refusal> 
                 for date in candidates(given, Field::Date) {
                     filling[Field::Date] = date;
                     count += 1;
-                    if judge(&filling).is_ok() {
+                    if passes(&filling) {
                         return Ok((filling, count));
                     }
                 }

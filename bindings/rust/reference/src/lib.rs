@@ -1,11 +1,13 @@
 //! Budget payment orders under 107n: field messages, the draft, the rules,
-//! completion, the message writer and the report of one program.
+//! completion and the test ahead of it, the message writer and the report of one
+//! program.
 //!
 //! This is a second implementation, written from the paper "Budget payment
 //! orders under 107n: draft, check and completion" and its change requests
 //! alone. Doc comments quote the sentence of the paper or the request they
 //! follow. Of the requests it has R-1 (pension numbers), R-2 (letters in a KPP),
-//! R-4 (check digits of the INN) and R-5 (rule 22 ahead of rule 21).
+//! R-3 (a test ahead of the search), R-4 (check digits of the INN) and R-5 (rule
+//! 22 ahead of rule 21).
 //!
 //! Every public function is total, and "Refusals change no buffer".
 
@@ -16,6 +18,7 @@ mod completion;
 mod draft;
 mod field;
 mod message;
+mod pretest;
 mod program;
 mod refusal;
 mod rules;
@@ -24,6 +27,7 @@ mod sheet;
 pub use completion::{complete, Completed};
 pub use draft::{copy, fresh, post, Posted};
 pub use message::{read, write, Message};
+pub use pretest::pretest;
 pub use program::report;
-pub use refusal::Refusal;
+pub use refusal::{Broken, Refusal};
 pub use rules::{check, Class};

@@ -1,6 +1,23 @@
-//! "Answers other than success".
+//! "Answers other than success", and the broken rule one of them names.
 
 use std::fmt;
+
+/// A broken rule, "named with the field in brackets"; what
+/// [`pretest`](crate::pretest()) "names, with its field".
+#[derive(Clone, Copy, Debug, PartialEq, Eq, Hash)]
+pub struct Broken {
+    /// The number of the field in brackets before the rule.
+    pub field: u8,
+    /// The number of the rule.
+    pub rule: u8,
+}
+
+/// Refusal 8.
+impl From<Broken> for Refusal {
+    fn from(Broken { field, rule }: Broken) -> Self {
+        Self::Broken { field, rule }
+    }
+}
 
 /// An answer other than success. "Number order is test order."
 #[derive(Clone, Copy, Debug, PartialEq, Eq, Hash)]

@@ -1,7 +1,7 @@
 //! The rules. "The rules are judged knowing sheets only, never drafts."
 
 use crate::field::Field;
-use crate::refusal::Refusal;
+use crate::refusal::{Broken, Refusal};
 use crate::sheet::Sheet;
 
 /// "With 1 to 3 kept, a sheet has a class."
@@ -390,16 +390,16 @@ fn weighted_sum(digits: &[u8], weights: &[u32]) -> u32 {
         .sum()
 }
 
-/// Refusal 8, naming the field in brackets and the rule.
-const fn broken(field: Field, Rule(rule): Rule) -> Refusal {
-    Refusal::Broken {
+/// The rule as broken, with the field in brackets.
+const fn broken(field: Field, Rule(rule): Rule) -> Broken {
+    Broken {
         field: field.number(),
         rule,
     }
 }
 
 /// Goes on if the rule is kept.
-fn require(kept: bool, field: Field, rule: Rule) -> Result<(), Refusal> {
+fn require(kept: bool, field: Field, rule: Rule) -> Result<(), Broken> {
     if kept {
         Ok(())
     } else {
@@ -416,11 +416,12 @@ fn require(kept: bool, field: Field, rule: Rule) -> Result<(), Refusal> {
 /// [`Refusal::Malformed`], or [`Refusal::Broken`] with the first broken rule:
 /// it "is counted in the new order".
 pub fn check(sheet: &[u8]) -> Result<Class, Refusal> {
-    judge(&Sheet::parse(sheet).ok_or(Refusal::Malformed)?)
+    let sheet = Sheet::parse(sheet).ok_or(Refusal::Malformed)?;
+    Ok(judge(&sheet)?)
 }
 
 /// Rules 1 to 35: "Acceptance and completion count 35 among the rules".
-pub(crate) fn judge(sheet: &Sheet<'_>) -> Result<Class, Refusal> {
+pub(crate) fn judge(sheet: &Sheet<'_>) -> Result<Class, Broken> {
     let class = classify(sheet)?;
     if class == Class::O {
         // "A class O sheet that keeps 1 to 4 is accepted; the rest is for A
@@ -433,7 +434,7 @@ pub(crate) fn judge(sheet: &Sheet<'_>) -> Result<Class, Refusal> {
 }
 
 /// Rules 1 to 3, and the class of a sheet that keeps them.
-pub(crate) fn classify(sheet: &Sheet<'_>) -> Result<Class, Refusal> {
+pub(crate) fn classify(sheet: &Sheet<'_>) -> Result<Class, Broken> {
     let bik = sheet[Field::Bik];
     let bank = sheet[Field::BankAccount];
     let account = sheet[Field::RecipientAccount];
@@ -468,108 +469,166 @@ fn is_class_b(bik: &[u8], account: &[u8]) -> bool {
             || (marked && begins_with_any(account, &CLASS_B_MARKED_ACCOUNTS)))
 }
 
-/// What rules 5 to 18 find out about a budget payment for rules 19 to 35.
+/// A rule judged by itself on a sheet of class A or B, whatever the sheet's
+/// other rules say.
+pub(crate) type LoneRule = fn(&Sheet<'_>, Class) -> Result<(), Broken>;
+
+/// "Rules 5 to 9, 11 to 14, 16, 22 and 28", in the order of testing.
+pub(crate) const AHEAD: [LoneRule; 12] = [
+    rule_5,
+    |sheet, _| rule_6(sheet),
+    |sheet, _| rule_7(sheet).map(drop),
+    |sheet, _| rule_8(sheet).map(drop),
+    |sheet, _| rule_9(sheet),
+    |sheet, _| rule_11(sheet),
+    |sheet, _| rule_12(sheet),
+    |sheet, _| rule_13(sheet),
+    |sheet, _| rule_14(sheet),
+    |sheet, _| rule_16(sheet),
+    |sheet, _| rule_22(sheet),
+    |sheet, _| rule_28(sheet),
+];
+
+/// Rule 5: "(17) class A: digits 6 to 8 are 643".
+fn rule_5(sheet: &Sheet<'_>, class: Class) -> Result<(), Broken> {
+    let account = sheet[Field::RecipientAccount];
+    let kept = class != Class::A || account.get(5..8) == Some(b"643");
+    require(kept, Field::RecipientAccount, Rule(5))
+}
+
+/// Rule 6: "(the first blank one) 22, 60, 61, 101 to 109 not blank".
+fn rule_6(sheet: &Sheet<'_>) -> Result<(), Broken> {
+    Field::ALL
+        .into_iter()
+        .skip(Field::Code.slot())
+        .try_for_each(|field| require(!sheet[field].is_empty(), field, Rule(6)))
+}
+
+/// Rule 7, on field 22; gives its form.
+fn rule_7(sheet: &Sheet<'_>) -> Result<Code, Broken> {
+    Code::parse(sheet[Field::Code], sheet[Field::RecipientAccount])
+        .ok_or(broken(Field::Code, Rule(7)))
+}
+
+/// Rule 8, on field 60; gives its form.
+fn rule_8(sheet: &Sheet<'_>) -> Result<Payer, Broken> {
+    Payer::parse(sheet[Field::PayerInn]).ok_or(broken(Field::PayerInn, Rule(8)))
+}
+
+/// Rule 9: "(61) 10 digits not beginning 00", an INN with its check digit.
+fn rule_9(sheet: &Sheet<'_>) -> Result<(), Broken> {
+    let kept = is_inn10(sheet[Field::RecipientInn]);
+    require(kept, Field::RecipientInn, Rule(9))
+}
+
+/// Rule 11: "(102) "0" or nine digits not beginning 00", as in [`is_kpp`].
+fn rule_11(sheet: &Sheet<'_>) -> Result<(), Broken> {
+    let kpp = sheet[Field::PayerKpp];
+    require(kpp == ZERO || is_kpp(kpp), Field::PayerKpp, Rule(11))
+}
+
+/// Rule 12: "(103) nine digits not beginning 00", as in [`is_kpp`].
+fn rule_12(sheet: &Sheet<'_>) -> Result<(), Broken> {
+    let kept = is_kpp(sheet[Field::RecipientKpp]);
+    require(kept, Field::RecipientKpp, Rule(12))
+}
+
+/// Rule 13: "(104) "0" or 20 digits not all zero".
+fn rule_13(sheet: &Sheet<'_>) -> Result<(), Broken> {
+    let kbk = sheet[Field::Kbk];
+    require(kbk == ZERO || is_nonzero(kbk, 20), Field::Kbk, Rule(13))
+}
+
+/// Rule 14: "(105) "0" or 8 digits not all zero".
+fn rule_14(sheet: &Sheet<'_>) -> Result<(), Broken> {
+    let oktmo = sheet[Field::Oktmo];
+    let kept = oktmo == ZERO || is_nonzero(oktmo, 8);
+    require(kept, Field::Oktmo, Rule(14))
+}
+
+/// Rule 16: "(107) "0" or 8 digits".
+fn rule_16(sheet: &Sheet<'_>) -> Result<(), Broken> {
+    let office = sheet[Field::CustomsOffice];
+    let kept = office == ZERO || is_digits(office, 8);
+    require(kept, Field::CustomsOffice, Rule(16))
+}
+
+/// Rule 22: "(22) 17 begins 03212: not "0"".
+fn rule_22(sheet: &Sheet<'_>) -> Result<(), Broken> {
+    let institution = sheet[Field::RecipientAccount].starts_with(BUDGET_INSTITUTION);
+    let kept = !institution || sheet[Field::Code] != ZERO;
+    require(kept, Field::Code, Rule(22))
+}
+
+/// Rule 28: "(104) 17 begins 03100: not "0"".
+fn rule_28(sheet: &Sheet<'_>) -> Result<(), Broken> {
+    let treasury = sheet[Field::RecipientAccount].starts_with(TREASURY);
+    let kept = !treasury || sheet[Field::Kbk] != ZERO;
+    require(kept, Field::Kbk, Rule(28))
+}
+
+/// A budget payment, with what rules 5 to 18 find out about it for rules 19 to
+/// 35.
 struct Order<'a> {
+    sheet: &'a Sheet<'a>,
     class: Class,
-    account: &'a [u8],
     code: Code,
     payer: Payer,
     status: Status,
-    payer_kpp: &'a [u8],
-    kbk: &'a [u8],
     basis: Basis,
-    customs_office: &'a [u8],
     document: Document<'a>,
     date: Date,
 }
 
 impl<'a> Order<'a> {
     /// Rules 5 to 18: each field's own form.
-    fn parse(sheet: &Sheet<'a>, class: Class) -> Result<Self, Refusal> {
-        let account = sheet[Field::RecipientAccount];
-        let payer_kpp = sheet[Field::PayerKpp];
-        let kbk = sheet[Field::Kbk];
-        let oktmo = sheet[Field::Oktmo];
-        let customs_office = sheet[Field::CustomsOffice];
-
-        require(
-            class != Class::A || account.get(5..8) == Some(b"643"),
-            Field::RecipientAccount,
-            Rule(5),
-        )?;
-        nothing_blank(sheet)?;
-        let code = Code::parse(sheet[Field::Code], account).ok_or(broken(Field::Code, Rule(7)))?;
-        let payer = Payer::parse(sheet[Field::PayerInn]).ok_or(broken(Field::PayerInn, Rule(8)))?;
-        require(
-            is_inn10(sheet[Field::RecipientInn]),
-            Field::RecipientInn,
-            Rule(9),
-        )?;
+    fn parse(sheet: &'a Sheet<'a>, class: Class) -> Result<Self, Broken> {
+        rule_5(sheet, class)?;
+        rule_6(sheet)?;
+        let code = rule_7(sheet)?;
+        let payer = rule_8(sheet)?;
+        rule_9(sheet)?;
         let status = Status::parse(sheet[Field::Status]).ok_or(broken(Field::Status, Rule(10)))?;
-        require(
-            payer_kpp == ZERO || is_kpp(payer_kpp),
-            Field::PayerKpp,
-            Rule(11),
-        )?;
-        require(
-            is_kpp(sheet[Field::RecipientKpp]),
-            Field::RecipientKpp,
-            Rule(12),
-        )?;
-        require(kbk == ZERO || is_nonzero(kbk, 20), Field::Kbk, Rule(13))?;
-        require(
-            oktmo == ZERO || is_nonzero(oktmo, 8),
-            Field::Oktmo,
-            Rule(14),
-        )?;
+        rule_11(sheet)?;
+        rule_12(sheet)?;
+        rule_13(sheet)?;
+        rule_14(sheet)?;
         let basis = Basis::parse(sheet[Field::Basis]).ok_or(broken(Field::Basis, Rule(15)))?;
-        require(
-            customs_office == ZERO || is_digits(customs_office, 8),
-            Field::CustomsOffice,
-            Rule(16),
-        )?;
+        rule_16(sheet)?;
         let document =
             Document::parse(sheet[Field::Document]).ok_or(broken(Field::Document, Rule(17)))?;
         let date = Date::parse(sheet[Field::Date]).ok_or(broken(Field::Date, Rule(18)))?;
 
         Ok(Self {
+            sheet,
             class,
-            account,
             code,
             payer,
             status,
-            payer_kpp,
-            kbk,
             basis,
-            customs_office,
             document,
             date,
         })
     }
 
     /// Rules 19 to 35, 22 ahead of 21: what the fields demand of one another.
-    fn relations(&self) -> Result<(), Refusal> {
+    fn relations(&self) -> Result<(), Broken> {
         let class_a = self.class == Class::A;
-        let treasury = self.account.starts_with(TREASURY);
-        let institution = self.account.starts_with(BUDGET_INSTITUTION);
+        let account = self.sheet[Field::RecipientAccount];
         let customs = self.status.is_customs();
 
         require(
-            !(class_a && self.status.is_treasury()) || treasury,
+            !(class_a && self.status.is_treasury()) || account.starts_with(TREASURY),
             Field::RecipientAccount,
             Rule(19),
         )?;
         require(
-            !(class_a && self.status == Status(31)) || institution,
+            !(class_a && self.status == Status(31)) || account.starts_with(BUDGET_INSTITUTION),
             Field::RecipientAccount,
             Rule(20),
         )?;
         // "22 is tested ahead of 21, both keeping their numbers."
-        require(
-            !institution || self.code != Code::Zero,
-            Field::Code,
-            Rule(22),
-        )?;
+        rule_22(self.sheet)?;
         require(
             !self.status.needs_uin() || self.code == Code::Uin,
             Field::Code,
@@ -596,10 +655,10 @@ impl<'a> Order<'a> {
             Rule(26),
         )?;
         require(self.keeps_payer_kpp(), Field::PayerKpp, Rule(27))?;
-        require(!treasury || self.kbk != ZERO, Field::Kbk, Rule(28))?;
+        rule_28(self.sheet)?;
         require(customs || self.basis == Basis::Zero, Field::Basis, Rule(29))?;
         require(
-            customs == (self.customs_office != ZERO),
+            customs == (self.sheet[Field::CustomsOffice] != ZERO),
             Field::CustomsOffice,
             Rule(30),
         )?;
@@ -636,7 +695,7 @@ impl<'a> Order<'a> {
     /// status 01". With rule 8 kept, 10 or 12 digits are an INN. By rule 11 "a
     /// KPP other than "0" has this form", [`is_kpp`].
     fn keeps_payer_kpp(&self) -> bool {
-        let zero = self.payer_kpp == ZERO;
+        let zero = self.sheet[Field::PayerKpp] == ZERO;
         match self.payer {
             Payer::Zero => true,
             Payer::Foreign => !zero,
@@ -653,12 +712,4 @@ impl<'a> Order<'a> {
             Document::Zero | Document::DoubleZero | Document::Person | Document::Other => true,
         }
     }
-}
-
-/// Rule 6: "(the first blank one) 22, 60, 61, 101 to 109 not blank".
-fn nothing_blank(sheet: &Sheet<'_>) -> Result<(), Refusal> {
-    Field::ALL
-        .into_iter()
-        .skip(Field::Code.slot())
-        .try_for_each(|field| require(!sheet[field].is_empty(), field, Rule(6)))
 }

@@ -1,0 +1,264 @@
+//! Rules, fields and the answer of a completion in words, for people.
+//!
+//! The library decides; this module says it in English. It is not proved. Unlike
+//! the functions of the library it allocates.
+
+use crate::fillings::{self, Sheet, STATUSES};
+use crate::{check, complete, copy, pretest, Broken, Completed, Refusal, FIELDS, SHEET_SIZE};
+
+/// What the rules want, rule 1 first.
+const RULES: [&str; 35] = [
+    "the BIK (14) must be nine digits",
+    "the bank account (15) must be blank or 20 digits",
+    "the recipient account (17) must be 20 digits",
+    "the status (101) of an ordinary payment must be blank",
+    "digits 6 to 8 of a recipient account (17) at the treasury must be 643",
+    "none of 22, 60, 61 and 101 to 109 may be blank",
+    "the code (22) must be \"0\", or a UIN (20 or 25 digits, not all zero), or, if the recipient \
+     account (17) begins 03212, four digits, not all zero",
+    "the payer's INN (60) must be \"0\", or a foreign code (5 digits, not all zero), or an INN (10 \
+     or 12 digits that do not begin 00, with right check digits)",
+    "the recipient's INN (61) must be an INN of 10 digits that do not begin 00, with a right check \
+     digit",
+    "the status (101) must be one of 01, 03, 04, 05, 06, 07, 08, 13, 15, 16, 17, 19, 20, 23, 24, \
+     27, 28, 29, 30, 31, 32, 33",
+    "the payer's KPP (102) must be \"0\", or a KPP (nine digits that do not begin 00; the fifth \
+     and the sixth may be letters A to Z)",
+    "the recipient's KPP (103) must be a KPP (nine digits that do not begin 00; the fifth and the \
+     sixth may be letters A to Z)",
+    "the KBK (104) must be \"0\", or 20 digits, not all zero",
+    "the OKTMO (105) must be \"0\", or 8 digits, not all zero",
+    "the basis (106) must be \"0\", \"00\", or one of УВ, ИЛ, ПБ, ТГ, ТБ, ТД, ПВ, ИН, ПК, КЭ",
+    "the customs office (107) must be \"0\", or 8 digits",
+    "the document (108) must have 1 to 15 characters: Russian letters without Ё, Latin letters, \
+     digits and ASCII signs, no space and no hyphen; if the third is \";\", it must be a person \
+     identifier (two digits of 01 to 14, 22, 24, 25, 26, 28, 29, 30, then \";\" and at least one \
+     character)",
+    "the date (109) must be \"0\", \"00\", or a date DD.MM.YYYY of the years 1900 to 2099",
+    "with status 01, 04, 06, 07, 13, 16, 17, 28, 30 or 32, a recipient account (17) at the treasury \
+     must begin 03100",
+    "with status 31, a recipient account (17) at the treasury must begin 03212",
+    "with status 31 or 33, the code (22) must be a UIN (20 or 25 digits, not all zero)",
+    "if the recipient account (17) begins 03212, the code (22) must not be \"0\"",
+    "the payer's INN (60) must be an INN with status 01 or 32, one of 10 digits with 06 or 07, one \
+     of 12 digits with 17, and \"0\" with 30",
+    "with status 13, the payer's INN (60) must be an INN, or the code (22) a UIN",
+    "with status 03, 19, 20 or 24, the document (108) must be a person identifier, or \"0\" if the \
+     payer's INN (60) is an INN of 12 digits or the code (22) is a UIN",
+    "with status 31 or 33, the document (108) must be \"0\"",
+    "the payer's KPP (102) must be \"0\" if the payer's INN (60) has 12 digits; it must not be \
+     \"0\" if that has 5 digits, or 10 with another status than 01",
+    "if the recipient account (17) begins 03100, the KBK (104) must not be \"0\"",
+    "with a status other than 06, 07, 16, 17, 28, 30, 32 (customs), the basis (106) must be \"0\"",
+    "the customs office (107) must be 8 digits with status 06, 07, 16, 17, 28, 30 or 32 (customs), \
+     and \"0\" with any other",
+    "with a status other than 06, 07, 16, 17, 28, 30, 32 (customs), the date (109) must be \"0\"",
+    "if the basis (106) is a pair of letters, the document (108) must not be \"0\"",
+    "if the basis (106) is \"00\", the document (108) must be \"00\"",
+    "the date (109) must be \"00\" if the basis (106) is \"00\", and only then",
+    "if the document (108) begins \"14;\", a pension number (SNILS) must follow and nothing else: \
+     11 digits, the last two of them right check digits if the first nine are above 001001998",
+];
+
+/// What a rule wants, 1 to 35: a sentence without its full stop.
+#[must_use]
+pub fn rule(number: u8) -> Option<&'static str> {
+    let place = usize::from(number).checked_sub(1)?;
+    RULES.get(place).copied()
+}
+
+/// The name of a listed field.
+#[must_use]
+pub const fn field(number: u8) -> Option<&'static str> {
+    Some(match number {
+        14 => "BIK",
+        15 => "bank account",
+        17 => "recipient account",
+        22 => "code",
+        60 => "payer's INN",
+        61 => "recipient's INN",
+        101 => "status",
+        102 => "payer's KPP",
+        103 => "recipient's KPP",
+        104 => "KBK",
+        105 => "OKTMO",
+        106 => "basis",
+        107 => "customs office",
+        108 => "document",
+        109 => "date",
+        _ => return None,
+    })
+}
+
+/// What completing a draft answers, and why: lines parted by `\n`, none at the end.
+///
+/// If no filling keeps the rules, it names the rule that [`pretest`] finds. If that
+/// finds none, it names for each status (or for the given one) the rule that stops
+/// the filling that gets furthest: the one whose first broken rule comes last in the
+/// order of testing.
+#[must_use]
+pub fn explanation(draft: &[u8]) -> String {
+    let mut given = [0; SHEET_SIZE];
+    let answer = copy(draft, &mut given);
+    match answer.and_then(|()| complete(draft, &mut [0; SHEET_SIZE])) {
+        Ok(completed) => found(&given, completed),
+        Err(Refusal::NoFilling { count }) => match pretest(draft) {
+            Ok(broken) => none_found(&given, count, broken),
+            Err(refusal) => refused(refusal),
+        },
+        Err(refusal) => refused(refusal),
+    }
+}
+
+/// A filling keeps the rules.
+fn found(given: &Sheet, completed: Completed) -> String {
+    let filling = match fillings::count(given) {
+        1 => "its only filling keeps the rules".to_owned(),
+        all => format!(
+            "filling {} of its {} is the first that keeps the rules",
+            thousands(completed.count),
+            thousands(all)
+        ),
+    };
+    let fields = match completed.ones {
+        0 => "It fills no field".to_owned(),
+        1 => format!("It fills 1 field: {}", slots(completed.set)),
+        ones => format!("It fills {ones} fields: {}", slots(completed.set)),
+    };
+    format!("This order can be completed: {filling}.\n{fields}.")
+}
+
+/// No filling keeps the rules; all break this one, if there is one.
+fn none_found(given: &Sheet, count: usize, broken: Option<Broken>) -> String {
+    let (fillings, every) = match count {
+        1 => ("its only filling breaks the rules".to_owned(), "It"),
+        _ => (
+            format!("none of its {} fillings keeps the rules", thousands(count)),
+            "Every one",
+        ),
+    };
+    let why = match broken {
+        Some(broken) => format!("{every} breaks {}.", sentence(broken)),
+        None => by_status(given, count),
+    };
+    format!("This order can't be completed: {fillings}.\n{why}")
+}
+
+/// For each status that may stand, a line with the rule that stops it.
+fn by_status(given: &Sheet, count: usize) -> String {
+    let status = fillings::text(given, 101);
+    let (statuses, head) = match (status, count) {
+        ([], _) => (
+            STATUSES,
+            "The rule that stops each status, in the filling that gets furthest:",
+        ),
+        (_, 1) => (&[status][..], "The rule that stops it:"),
+        _ => (
+            &[status][..],
+            "The rule that stops the filling that gets furthest:",
+        ),
+    };
+    let lines = statuses.iter().filter_map(|status| {
+        let broken = furthest(&fillings::with(given, 101, status))?;
+        Some(format!("\n{}: {}.", status_name(status), sentence(broken)))
+    });
+    head.to_owned() + &lines.collect::<String>()
+}
+
+/// The first broken rule of the filling that gets furthest.
+fn furthest(given: &Sheet) -> Option<Broken> {
+    let fillings = fillings::fillings(given);
+    let broken = fillings.iter().filter_map(|filling| match check(filling) {
+        Err(Refusal::Broken { field, rule }) => Some(Broken { field, rule }),
+        _ => None,
+    });
+    broken.max_by_key(|broken| place(broken.rule))
+}
+
+/// The place of a rule in the order of testing: 22 is ahead of 21.
+const fn place(rule: u8) -> u8 {
+    match rule {
+        21 => 22,
+        22 => 21,
+        _ => rule,
+    }
+}
+
+/// A status of rule 10 by its digits; another text may have bytes that can't be shown.
+fn status_name(status: &[u8]) -> String {
+    match str::from_utf8(status) {
+        Ok(digits) if STATUSES.contains(&status) => format!("Status {digits}"),
+        _ => "The status given".to_owned(),
+    }
+}
+
+/// The other refusals of a completion.
+fn refused(refusal: Refusal) -> String {
+    match refusal {
+        Refusal::Malformed => "This draft is malformed: it can't be read as an order.".to_owned(),
+        Refusal::Broken { field, rule } => format!(
+            "This order can't be completed yet: rule {rule} is broken in field {}: {}.",
+            with_name(field),
+            rule_text(rule)
+        ),
+        Refusal::Ordinary => {
+            "This is an ordinary order, not a budget payment: nothing is proposed.".to_owned()
+        }
+        _ => format!("The linked library is another one: completion never answers {refusal}."),
+    }
+}
+
+/// A broken rule with its field and what it wants.
+fn sentence(Broken { field, rule }: Broken) -> String {
+    format!(
+        "rule {rule} in field {}: {}",
+        with_name(field),
+        rule_text(rule)
+    )
+}
+
+fn rule_text(number: u8) -> &'static str {
+    rule(number).unwrap_or("no rule has this number")
+}
+
+/// A field's number with its name.
+fn with_name(number: u8) -> String {
+    format!("{number} ({})", field(number).unwrap_or("not listed"))
+}
+
+/// The fields of a set of slots.
+fn slots(set: u16) -> String {
+    let fields = FIELDS.into_iter().enumerate();
+    let filled = fields.filter(|(slot, _)| set >> slot & 1 == 1);
+    let named: Vec<String> = filled.map(|(_, field)| with_name(field)).collect();
+    named.join(", ")
+}
+
+/// A number with a comma before each three digits.
+fn thousands(number: usize) -> String {
+    match number {
+        0..1000 => number.to_string(),
+        _ => format!("{},{:03}", thousands(number / 1000), number % 1000),
+    }
+}
+
+#[cfg(test)]
+mod tests {
+    use super::*;
+
+    #[test]
+    fn numbers_have_commas() {
+        let shown = [0, 1, 48, 999, 1000, 1056, 1_000_001].map(thousands);
+        let expected = ["0", "1", "48", "999", "1,000", "1,056", "1,000,001"];
+        assert_eq!(shown, expected);
+    }
+
+    #[test]
+    fn strange_answers_have_words() {
+        let refusal = Refusal::Unknown { number: 77 };
+        assert!(refused(refusal).ends_with("never answers 77."));
+        let broken = Broken { field: 1, rule: 36 };
+        let expected = "rule 36 in field 1 (not listed): no rule has this number";
+        assert_eq!(sentence(broken), expected);
+    }
+}

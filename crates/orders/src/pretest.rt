@@ -1,0 +1,56 @@
+// A test of a draft ahead of completion: a rule that all its fillings break (R-3).
+ghost use Rattle.orders.specs.Pretest.{Pretests};
+use crate::fill::fill_picked;
+use crate::fill::fill_zeros;
+use crate::search::Pick;
+use drafts::draft::put_sheet;
+use drafts::draft::well_formed;
+use rules::check::broken_ahead;
+use rules::check::broken_basic;
+use rules::class::is_budget;
+use rules::rules::Rule;
+use rules::rules::field_of;
+use sheets::facts::facts_of;
+use sheets::sheet::Field;
+use sheets::sheet::SHEET_SIZE;
+use texts::answers::Refusal;
+
+// The first of its rules that all fillings break, with its field; none; 8; 1 or 9.
+pub enum Pretested {
+    Named(Field, Rule),
+    Unnamed,
+    Broken(Field, Rule),
+    Refused(Refusal),
+}
+
+// A rule of the test has one verdict for all fillings, so that the first filling is looked at.
+pub fn pretest(draft: &[u8]) -> Pretested
+    ensures { λ r. ⌜ Pretests (now (draft .entry)) r ⌝ }
+{
+    let mut work = [0u8; SHEET_SIZE];
+    put_sheet(draft, &mut work);
+    if !well_formed(draft) {
+        return Pretested::Refused(Refusal(1));
+    }
+    fill_zeros(&mut work);
+    let f = facts_of(&work);
+    let broken = broken_basic(f);
+    if broken.0 != 0 {
+        return Pretested::Broken(field_of(broken, &work), broken);
+    }
+    if !is_budget(f) {
+        return Pretested::Refused(Refusal(9));
+    }
+    let first = Pick {
+        status: 0,
+        basis: 0,
+        document: 0,
+        day: 0,
+    };
+    fill_picked(&mut work, first);
+    let named = broken_ahead(facts_of(&work));
+    if named.0 == 0 {
+        return Pretested::Unnamed;
+    }
+    Pretested::Named(field_of(named, &work), named)
+}
