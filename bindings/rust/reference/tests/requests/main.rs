@@ -1,0 +1,7 @@
+//! The change requests, sentence by sentence, through the public interface.
+
+mod fixture;
+mod r1_r2;
+mod r3;
+mod r4;
+mod r5;
