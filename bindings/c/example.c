@@ -1,7 +1,9 @@
 /* A small order: its messages are written, posted in the order of their arrival,
- * tested and completed, and the sheet is printed. The program checks its own
- * results and returns 1 if one is not as expected. */
+ * tested and completed, and the sheet is printed; then the bank's charge for a few
+ * amounts. The program checks its own results and returns 1 if one is not as
+ * expected. */
 
+#include <inttypes.h>
 #include <stdio.h>
 #include <string.h>
 
@@ -13,6 +15,7 @@ _Static_assert(sizeof(kieselbrot_write_answer) == 16, "the answers' layout");
 _Static_assert(sizeof(kieselbrot_post_answer) == 2, "the answers' layout");
 _Static_assert(sizeof(kieselbrot_pretest_answer) == 3, "the answers' layout");
 _Static_assert(sizeof(kieselbrot_complete_answer) == 24, "the answers' layout");
+_Static_assert(sizeof(kieselbrot_charge_answer) == 16, "the answers' layout");
 
 _Static_assert(KIESELBROT_SHEET_SIZE == KIESELBROT_FIELDS * KIESELBROT_SHEET_SLOT_SIZE, "a sheet");
 _Static_assert(KIESELBROT_DRAFT_SIZE == KIESELBROT_FIELDS * KIESELBROT_DRAFT_SLOT_SIZE, "a draft");
@@ -43,6 +46,30 @@ static const struct arrival order[] = {
     {15, 1, "40102810845370000004", 'n'},
     {101, 1, "08", 'n'},
     {101, 2, "", 'n'},
+};
+
+struct tariff {
+    uint64_t amount, rate, least, greatest;
+    uint8_t number;   /* what the charge should answer */
+    uint64_t kopecks;
+};
+
+static const struct tariff tariffs[] = {
+    /* 0.5 percent: half a kopeck and more goes upward, less does not */
+    {100, 50, 0, KIESELBROT_KOPECKS_MAX, KIESELBROT_OK, 1},
+    {99, 50, 0, KIESELBROT_KOPECKS_MAX, KIESELBROT_OK, 0},
+    {KIESELBROT_KOPECKS_MAX, KIESELBROT_RATE_MAX, 0, KIESELBROT_KOPECKS_MAX, KIESELBROT_OK,
+     KIESELBROT_KOPECKS_MAX},
+    /* between 30 and 2,000 roubles: raised, neither, lowered */
+    {100000, 50, 3000, 200000, KIESELBROT_OK, 3000},
+    {1000000, 50, 3000, 200000, KIESELBROT_OK, 5000},
+    {100000000, 50, 3000, 200000, KIESELBROT_OK, 200000},
+    /* out of range, or the least above the greatest */
+    {0, 50, 3000, 200000, KIESELBROT_TARIFF, 0},
+    {KIESELBROT_KOPECKS_MAX + 1, 50, 3000, 200000, KIESELBROT_TARIFF, 0},
+    {100000, KIESELBROT_RATE_MAX + 1, 3000, 200000, KIESELBROT_TARIFF, 0},
+    {100000, 50, 3000, KIESELBROT_KOPECKS_MAX + 1, KIESELBROT_TARIFF, 0},
+    {100000, 50, 3001, 3000, KIESELBROT_TARIFF, 0},
 };
 
 static int failures = 0;
@@ -143,6 +170,19 @@ static void give_up(const uint8_t *draft)
     expect_hopeless(hopeless, 60, 8);
 }
 
+/* What the bank asks. */
+static void ask_charges(void)
+{
+    for (size_t i = 0; i < sizeof tariffs / sizeof tariffs[0]; i++) {
+        const struct tariff *asked = &tariffs[i];
+        const kieselbrot_charge_answer charged =
+            kieselbrot_charge(asked->amount, asked->rate, asked->least, asked->greatest);
+        printf("charge for %" PRIu64 ": number %d, %" PRIu64 "\n", asked->amount, charged.number,
+               charged.kopecks);
+        expect(charged.number == asked->number && charged.kopecks == asked->kopecks, "a charge");
+    }
+}
+
 int main(void)
 {
     uint8_t draft[KIESELBROT_DRAFT_SIZE];
@@ -173,6 +213,7 @@ int main(void)
     const kieselbrot_check_answer checked = kieselbrot_check(sheet, sizeof sheet);
     printf("class %c\n", checked.class_);
     expect(checked.number == KIESELBROT_OK && checked.class_ == 'A', "the completed sheet");
+    ask_charges();
 
     return failures != 0;
 }

@@ -1,5 +1,5 @@
-/* Budget payment orders under 107n: field messages, the draft, the rules and
- * completion.
+/* Budget payment orders under 107n: field messages, the draft, the rules,
+ * completion, and the bank's charge.
  *
  * The functions are proved: each one's answer, and every buffer that it is lent,
  * equals a definition, for all inputs. They are total: buffers of any length may
@@ -11,7 +11,8 @@
  * changes no buffer. Values that do not belong to an answer are 0.
  *
  * Field, status and rule numbers are those of the form and of document 01. Texts
- * are bytes of Windows-1251, 0 to 25 of them; the empty text is a blank.
+ * are bytes of Windows-1251, 0 to 25 of them; the empty text is a blank. Amounts
+ * are in kopecks.
  *
  * Layouts, numbers big-endian (the highest byte first):
  *
@@ -62,6 +63,12 @@ extern "C" {
 #define KIESELBROT_MESSAGE_HEAD_SIZE 8
 #define KIESELBROT_MESSAGE_MAX 33
 
+/* The greatest amount, and the greatest limit of a charge, in kopecks. */
+#define KIESELBROT_KOPECKS_MAX UINT64_C(1000000000000)
+
+/* The greatest rate, in hundredths of a percent: the whole amount. */
+#define KIESELBROT_RATE_MAX UINT64_C(10000)
+
 /* The numbers of the answers, in the order in which they are tested. */
 enum {
     KIESELBROT_OK = 0,
@@ -75,7 +82,9 @@ enum {
     KIESELBROT_OUTPUT = 7,        /* a sheet not of 390, a message buffer too short */
     KIESELBROT_BROKEN = 8,        /* a broken rule; in completion and its pretest only 1 to 3 */
     KIESELBROT_ORDINARY = 9,      /* completion or pretest of class O */
-    KIESELBROT_NO_FILLING = 10    /* no filling keeps the rules */
+    KIESELBROT_NO_FILLING = 10,   /* no filling keeps the rules */
+    KIESELBROT_TARIFF = 14        /* for charge, an argument out of range or a least above the
+                                     greatest */
 };
 
 /* The answer of a check. */
@@ -129,6 +138,12 @@ typedef struct {
                      * 10: the count of all fillings */
 } kieselbrot_complete_answer;
 
+/* The answer of a charge. */
+typedef struct {
+    uint8_t number;   /* 0 or 14 */
+    uint64_t kopecks; /* the charge */
+} kieselbrot_charge_answer;
+
 /* Checks a sheet against the rules, in their order, and tells its class. */
 kieselbrot_check_answer kieselbrot_check(const uint8_t *sheet, size_t sheet_len);
 
@@ -161,6 +176,13 @@ kieselbrot_pretest_answer kieselbrot_pretest(const uint8_t *draft, size_t draft_
  * whatever that held. */
 kieselbrot_complete_answer kieselbrot_complete(const uint8_t *draft, size_t draft_len,
                                                uint8_t *sheet, size_t sheet_len);
+
+/* The bank's charge for an amount: amount times rate over 10,000, halves upward to
+ * the whole kopeck, raised to the least, then lowered to the greatest. The amount is
+ * 1 to 10^12 kopecks, the rate 0 to 10,000 hundredths of a percent; the least and the
+ * greatest charge are at most 10^12 kopecks, the least not above the greatest. */
+kieselbrot_charge_answer kieselbrot_charge(uint64_t amount, uint64_t rate, uint64_t least,
+                                           uint64_t greatest);
 
 #ifdef __cplusplus
 }

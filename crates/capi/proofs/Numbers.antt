@@ -30,15 +30,18 @@ use Rattle.orders.specs.Complete.{completeAnswer, sheetTests, completeTests, co
 use Rattle.orders.specs.Whole.{Completes}
 use Rattle.orders.specs.Pretest.{pretestAnswer, pretestTests, pretesting, Pretests}
 use Rattle.orders.specs.declared.pretest.Pretested.{Pretested}
+use Rattle.amounts.specs.Charge.{chargeTests, charging, chargeAnswer, Charges}
+use Rattle.amounts.specs.declared.charge.Charged.{Charged}
 use Rattle.orders.specs.declared.complete.Completed.{Completed}
-use Rattle.capi.specs.Numbers.{numbered, numberAnswer, checkNumbers, checkOf, readNumbers, readOf, writeNumbers, writeOf, postNumbers, wordOf, postOf, completeNumbers, completeOf, pretestNumbers, pretestOf}
-use Rattle.capi.specs.Promises.{CheckReturns, ReadReturns, WriteReturns, FreshReturns, PostReturns, CopyReturns, CompleteReturns, PretestReturns}
+use Rattle.capi.specs.Numbers.{numbered, numberAnswer, checkNumbers, checkOf, readNumbers, readOf, writeNumbers, writeOf, postNumbers, wordOf, postOf, completeNumbers, completeOf, pretestNumbers, pretestOf, chargeNumbers, chargeOf}
+use Rattle.capi.specs.Promises.{CheckReturns, ReadReturns, WriteReturns, FreshReturns, PostReturns, CopyReturns, CompleteReturns, PretestReturns, ChargeReturns}
 use Rattle.capi.specs.declared.Check.{Check}
 use Rattle.capi.specs.declared.Read.{Read}
 use Rattle.capi.specs.declared.Write.{Write}
 use Rattle.capi.specs.declared.Post.{Post}
 use Rattle.capi.specs.declared.Complete.{Complete}
 use Rattle.capi.specs.declared.Pretest.{Pretest}
+use Rattle.capi.specs.declared.Charge.{Charge}
 
 -- ---- reading an answer back
 
@@ -104,6 +107,10 @@ pretest-back : (d : List ℕ) → Back pretestNumbers pretestOf (pretesting d)
 unfolding pretesting pretestTests pretestNumbers pretestOf numbered
 pretest-back d = tested (Back pretestNumbers pretestOf) (pretestTests d) _ refl (search depth 12)
 
+charge-back : (a p l g : ℕ) → Back chargeNumbers chargeOf (charging a p l g)
+unfolding charging chargeTests chargeNumbers chargeOf numbered
+charge-back a p l g = tested (Back chargeNumbers chargeOf) (chargeTests a p l g) _ refl (search depth 12)
+
 -- ---- what each function returned: v is what it called, and k the case of v in an arm
 
 module _ (s : List ℕ) (v : Verdict) (p : Checked s v) (k : Verdict) (e : v ≡ k) (r : Check) (q : r ≡ checkNumbers (verdictAnswer k)) where
@@ -159,3 +166,7 @@ module _ (d b : List ℕ) (v : Completed) (x : List ℕ) (p : Completes d b v x)
 module _ (d : List ℕ) (v : Pretested) (p : Pretests d v) (k : Pretested) (e : v ≡ k) (r : Pretest) (q : r ≡ pretestNumbers (pretestAnswer k)) where
   pub pretested-is : PretestReturns d r
   pretested-is = record { numbers = cc; answer = cc (pretest-back d) }
+
+module _ (a p l g : ℕ) (v : Charged) (w : Charges a p l g v) (k : Charged) (e : v ≡ k) (r : Charge) (q : r ≡ chargeNumbers (chargeAnswer k)) where
+  pub charged-is : ChargeReturns a p l g r
+  charged-is = record { numbers = cc; answer = cc (charge-back a p l g) }

@@ -15,6 +15,7 @@ use Rattle.capi.specs.declared.Write.{Write}
 use Rattle.capi.specs.declared.Post.{Post}
 use Rattle.capi.specs.declared.Complete.{Complete}
 use Rattle.capi.specs.declared.Pretest.{Pretest}
+use Rattle.capi.specs.declared.Charge.{Charge}
 
 -- number 0 is success, which returns vs; another number is a refusal, with ws beside it
 unfoldable pub numbered : ℕ → List ℕ → List ℕ → Answer
@@ -83,3 +84,11 @@ pretestNumbers (refusal n vs) = record { number = n; field = getD vs 0 0; rule =
 -- number 8 has the field and the rule beside it, another refusal nothing
 unfoldable pub pretestOf : Pretest → Answer
 pretestOf r = numbered (r .number) (r .field ∷ r .rule ∷ []) (cond (eqb (r .number) 8) (r .field ∷ r .rule ∷ []) [])
+
+-- the charge
+unfoldable pub chargeNumbers : Answer → Charge
+chargeNumbers (success vs) = record { number = 0; kopecks = getD vs 0 0 }
+chargeNumbers (refusal n vs) = record { number = n; kopecks = 0 }
+
+unfoldable pub chargeOf : Charge → Answer
+chargeOf r = numbered (r .number) (r .kopecks ∷ []) []

@@ -12,13 +12,15 @@ use Rattle.drafts.specs.Message.{messageText, readable, readingOf, writingOf, w
 use Rattle.drafts.specs.Draft.{beginningOf, begunFrom, postingOf, postedTo, copyingOf, copiedTo}
 use Rattle.orders.specs.Complete.{completing, completed}
 use Rattle.orders.specs.Pretest.{pretesting}
-use Rattle.capi.specs.Numbers.{numberAnswer, checkNumbers, checkOf, readNumbers, readOf, writeNumbers, writeOf, postNumbers, postOf, completeNumbers, completeOf, pretestNumbers, pretestOf}
+use Rattle.amounts.specs.Charge.{charging}
+use Rattle.capi.specs.Numbers.{numberAnswer, checkNumbers, checkOf, readNumbers, readOf, writeNumbers, writeOf, postNumbers, postOf, completeNumbers, completeOf, pretestNumbers, pretestOf, chargeNumbers, chargeOf}
 use Rattle.capi.specs.declared.Check.{Check}
 use Rattle.capi.specs.declared.Read.{Read}
 use Rattle.capi.specs.declared.Write.{Write}
 use Rattle.capi.specs.declared.Post.{Post}
 use Rattle.capi.specs.declared.Complete.{Complete}
 use Rattle.capi.specs.declared.Pretest.{Pretest}
+use Rattle.capi.specs.declared.Charge.{Charge}
 
 -- checking the sheet s returned r
 pub record CheckReturns (s : List ℕ) (r : Check) : Type 0 where
@@ -67,3 +69,8 @@ pub record CompleteReturns (d b : List ℕ) (r : Complete) (e : List ℕ) : Type
 pub record PretestReturns (d : List ℕ) (r : Pretest) : Type 0 where
   pub numbers : r ≡ pretestNumbers (pretesting d)
   pub answer : pretestOf r ≡ pretesting d
+
+-- the charge for an amount a by the rate p, at least l and at most g, returned r
+pub record ChargeReturns (a p l g : ℕ) (r : Charge) : Type 0 where
+  pub numbers : r ≡ chargeNumbers (charging a p l g)
+  pub answer : chargeOf r ≡ charging a p l g

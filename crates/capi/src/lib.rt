@@ -1,5 +1,8 @@
 // The library for C and for what links like C. Each function forwards to a proved one, and gives document 01's numbers.
-ghost use Rattle.capi.specs.Promises.{CheckReturns, ReadReturns, WriteReturns, FreshReturns, PostReturns, CopyReturns, CompleteReturns, PretestReturns};
+ghost use Rattle.capi.specs.Promises.{CheckReturns, ReadReturns, WriteReturns, FreshReturns, PostReturns, CopyReturns, CompleteReturns, PretestReturns, ChargeReturns};
+use amounts::amount::Kopecks;
+use amounts::charge::Charged;
+use amounts::charge::Rate;
 use drafts::draft::Begun;
 use drafts::draft::Copied;
 use drafts::draft::Posted;
@@ -57,6 +60,12 @@ pub struct Pretest {
     pub number: u8,
     pub field: u8,
     pub rule: u8,
+}
+
+#[repr(C)]
+pub struct Charge {
+    pub number: u8,
+    pub kopecks: u64,
 }
 
 #[no_mangle]
@@ -261,6 +270,28 @@ pub extern "C" fn kieselbrot_pretest(draft: &[u8]) -> Pretest
             number: n.0,
             field: 0,
             rule: 0,
+        },
+    }
+}
+
+#[no_mangle]
+pub extern "C" fn kieselbrot_charge(amount: u64, rate: u64, least: u64, greatest: u64) -> Charge
+    ensures { λ r. ⌜ ChargeReturns amount rate least greatest r ⌝ }
+{
+    let v = amounts::charge::charge(
+        Kopecks(amount),
+        Rate(rate),
+        Kopecks(least),
+        Kopecks(greatest),
+    );
+    match v {
+        Charged::Made(c) => Charge {
+            number: 0,
+            kopecks: c.0,
+        },
+        Charged::Refused(n) => Charge {
+            number: n.0,
+            kopecks: 0,
         },
     }
 }

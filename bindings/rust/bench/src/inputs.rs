@@ -1,6 +1,7 @@
 //! What is measured with: for each row many inputs, all different.
 
 use cases::{blanked, budget, damaged_draft, disturb, message, with_forms, BLANKS, FIELDS};
+use cases::{charge_in_range, Charge};
 use cases::{Account, Basis, Code, Date, Document, Draft, Forms, Payer, Random, Sheet, Texts};
 
 /// How many inputs a row has.
@@ -184,6 +185,12 @@ fn by_fillings(random: &mut Random, texts: fn(&mut Random) -> Texts) -> Vec<(usi
     growth
 }
 
+/// Arguments of charges, in range, with half kopecks and limits near the charge among
+/// them.
+pub fn charges(random: &mut Random) -> Vec<Charge> {
+    many(random, charge_in_range)
+}
+
 /// A book of mixed drafts: whole, with blanks, with mistakes, some damaged.
 pub fn book(random: &mut Random) -> Vec<Draft> {
     (0..BOOK).map(|_| entry(random)).collect()
@@ -279,6 +286,15 @@ mod tests {
                     assert_eq!(completed, Err(Refusal::NoFilling { count }));
                 }
             }
+        }
+    }
+
+    #[test]
+    fn every_charge_is_made() {
+        for charge in charges(&mut random()) {
+            let answer =
+                reference::charge(charge.amount, charge.rate, charge.least, charge.greatest);
+            assert!(answer.is_ok(), "{charge:?}");
         }
     }
 

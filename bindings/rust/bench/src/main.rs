@@ -18,7 +18,7 @@ use std::io::{self, ErrorKind};
 use std::path::Path;
 use std::process::{Command, ExitCode};
 
-use cases::{Draft, Random, Sheet};
+use cases::{Charge, Draft, Random, Sheet};
 use measure::{Goal, Row, NO_SLOWER};
 use report::Report;
 
@@ -61,6 +61,7 @@ fn measure_all() -> Report {
     let book = inputs::book(&mut random);
     let half_hopeless = inputs::half_hopeless_book(&mut other);
     rows.extend(book::rows(&book, &half_hopeless));
+    rows.push(charge(inputs::charges(&mut inputs::random())));
     Report {
         rows,
         growth: growth(
@@ -171,6 +172,16 @@ fn complete(name: &'static str, goal: Goal, drafts: Vec<Draft>) -> Row {
             let answer = reference::complete(draft, &mut sheet);
             (answer, sheet)
         },
+    )
+}
+
+fn charge(charges: Vec<Charge>) -> Row {
+    Row::measure(
+        "charge, in range",
+        NO_SLOWER,
+        &charges,
+        |charge| kieselbrot::charge(charge.amount, charge.rate, charge.least, charge.greatest),
+        |charge| reference::charge(charge.amount, charge.rate, charge.least, charge.greatest),
     )
 }
 

@@ -1,9 +1,11 @@
-//! Sheets, drafts and messages to try the library with: laid out byte by byte
-//! from document 01, without code of the library or of the second implementation.
+//! Sheets, drafts and messages to try the library with, laid out byte by byte from
+//! document 01, and arguments of a charge: without code of the library or of the
+//! second implementation.
 
 #![forbid(unsafe_code)]
 #![warn(missing_docs)]
 
+mod charges;
 mod damage;
 mod fillings;
 mod forms;
@@ -13,6 +15,7 @@ mod streams;
 mod table;
 mod texts;
 
+pub use charges::{charge, charge_in_range, Charge, KOPECKS_MAX, RATE_MAX};
 pub use damage::{damaged_draft, damaged_message, damaged_sheet, size_near};
 pub use fillings::{filled_set, fillings};
 pub use forms::{inn_remainder, inn_weights, list, snils_remainder};

@@ -3,7 +3,7 @@
 use std::fmt::{self, Debug, Write as _};
 use std::hint::black_box;
 
-use cases::FIELDS;
+use cases::{Charge, FIELDS};
 use kieselbrot::{Class, Completed, Message, Posted, Refusal};
 
 use crate::library::{Library, Reference};
@@ -244,6 +244,17 @@ impl<'a, L: Library> Comparison<'a, L> {
         self.reached.complete(answer);
         self.reached.pretest(tested, answer);
         Ok((answer, sheet))
+    }
+
+    /// Asks for a charge.
+    pub fn charge(&mut self, charge: &Charge) -> Outcome<()> {
+        let ask = |library: &dyn Library| {
+            library.charge(charge.amount, charge.rate, charge.least, charge.greatest)
+        };
+        let answer = ask(self.library);
+        same("charge", answer, ask(&Reference), || format!("{charge:?}"))?;
+        self.reached.charge(charge, answer);
+        Ok(())
     }
 
     /// Lends a copy of the buffer to each; answers, buffers and the bytes around

@@ -2,6 +2,7 @@
 
 use cases::{blanked, with_forms, Account, Basis, Code, Date, Document, Forms, Payer};
 use cases::{budget, message, sheets, Random, Text, Texts, FIELDS, STATUSES};
+use cases::{Charge, KOPECKS_MAX, RATE_MAX};
 use kieselbrot::{Class, Refusal};
 
 use crate::comparison::{same, Comparison, Difference, Lent};
@@ -233,6 +234,70 @@ pub fn messages<L: Library>(comparison: &mut Comparison<'_, L>) -> Outcome {
                 let before = Lent::filled(size, 0xEE);
                 let _ = comparison.write(109, revision, text, before)?;
             }
+        }
+    }
+    Ok(())
+}
+
+/// Amounts and limits that matter: the ends of the range and beyond, and small ones.
+const KOPECKS: [u64; 14] = [
+    0,
+    1,
+    2,
+    99,
+    100,
+    4_999,
+    5_000,
+    5_001,
+    500_000_000_000,
+    KOPECKS_MAX - 1,
+    KOPECKS_MAX,
+    KOPECKS_MAX + 1,
+    u64::MAX - 1,
+    u64::MAX,
+];
+
+/// Rates that matter.
+const RATES: [u64; 12] = [
+    0,
+    1,
+    50,
+    4_999,
+    5_000,
+    5_001,
+    RATE_MAX - 1,
+    RATE_MAX,
+    RATE_MAX + 1,
+    RATE_MAX + 2,
+    u64::MAX - 1,
+    u64::MAX,
+];
+
+/// Charges: every combination of amounts, rates and limits that matter; every rate up
+/// to two beyond the range, with amounts from 1 to 25 and those at its end.
+pub fn charges<L: Library>(comparison: &mut Comparison<'_, L>) -> Outcome {
+    for amount in KOPECKS {
+        for rate in RATES {
+            for least in KOPECKS {
+                for greatest in KOPECKS {
+                    comparison.charge(&Charge {
+                        amount,
+                        rate,
+                        least,
+                        greatest,
+                    })?;
+                }
+            }
+        }
+    }
+    for amount in (1..=25).chain(KOPECKS_MAX - 5..=KOPECKS_MAX) {
+        for rate in 0..=RATE_MAX + 2 {
+            comparison.charge(&Charge {
+                amount,
+                rate,
+                least: 0,
+                greatest: KOPECKS_MAX,
+            })?;
         }
     }
     Ok(())

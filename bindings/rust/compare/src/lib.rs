@@ -7,6 +7,7 @@
 #![forbid(unsafe_code)]
 #![warn(missing_docs)]
 
+mod charges;
 mod comparison;
 mod exhaustive;
 mod fillings;

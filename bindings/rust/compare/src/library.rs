@@ -2,7 +2,8 @@
 
 use kieselbrot::{Broken, Class, Completed, Message, Posted, Refusal};
 
-/// The seven functions of document 01, and the test ahead of completion.
+/// The seven functions of document 01, the test ahead of completion, and the bank's
+/// charge.
 pub trait Library: Sync {
     /// Checks a sheet.
     fn check(&self, sheet: &[u8]) -> Result<Class, Refusal>;
@@ -26,6 +27,8 @@ pub trait Library: Sync {
     fn pretest(&self, draft: &[u8]) -> Result<Option<Broken>, Refusal>;
     /// Completes a draft.
     fn complete(&self, draft: &[u8], sheet: &mut [u8]) -> Result<Completed, Refusal>;
+    /// The bank's charge for an amount.
+    fn charge(&self, amount: u64, rate: u64, least: u64, greatest: u64) -> Result<u64, Refusal>;
 }
 
 /// The proved library, as linked.
@@ -68,6 +71,10 @@ impl Library for Linked {
 
     fn complete(&self, draft: &[u8], sheet: &mut [u8]) -> Result<Completed, Refusal> {
         kieselbrot::complete(draft, sheet)
+    }
+
+    fn charge(&self, amount: u64, rate: u64, least: u64, greatest: u64) -> Result<u64, Refusal> {
+        kieselbrot::charge(amount, rate, least, greatest)
     }
 }
 
@@ -128,6 +135,10 @@ impl Library for Reference {
             ones,
         })
     }
+
+    fn charge(&self, amount: u64, rate: u64, least: u64, greatest: u64) -> Result<u64, Refusal> {
+        reference::charge(amount, rate, least, greatest).map_err(refusal)
+    }
 }
 
 const fn class(class: reference::Class) -> Class {
@@ -165,5 +176,6 @@ const fn refusal(refusal: reference::Refusal) -> Refusal {
         reference::Refusal::NoFilling { count } => Refusal::NoFilling {
             count: count as usize,
         },
+        reference::Refusal::Tariff => Refusal::Tariff,
     }
 }

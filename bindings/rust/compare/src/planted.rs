@@ -1,6 +1,6 @@
 //! Differences planted on purpose: each must be found.
 
-use cases::{inn_remainder, slot_of, snils_remainder, Text, Texts};
+use cases::{inn_remainder, slot_of, snils_remainder, Text, Texts, KOPECKS_MAX, RATE_MAX};
 use kieselbrot::{Broken, Class, Completed, Message, Posted, Refusal};
 
 use crate::library::{Library, Reference};
@@ -58,10 +58,22 @@ pub enum Planted {
     Named27,
     /// The pretest names rule 6 without its field.
     Fieldless6,
+    /// A charge is rounded down.
+    RoundedDown,
+    /// Half a kopeck goes downward.
+    HalvesDownward,
+    /// A rate of 10,001 is taken.
+    Rate10001,
+    /// An amount of 10^12 is refused.
+    GreatestAmount,
+    /// A least that is the greatest is refused.
+    EqualLimits,
+    /// A charge below the least is not raised.
+    NotRaised,
 }
 
 /// All of them.
-pub const PLANTS: [Planted; 25] = [
+pub const PLANTS: [Planted; 31] = [
     Planted::Century,
     Planted::Status01,
     Planted::Without03252,
@@ -87,6 +99,12 @@ pub const PLANTS: [Planted; 25] = [
     Planted::LastNamed,
     Planted::Named27,
     Planted::Fieldless6,
+    Planted::RoundedDown,
+    Planted::HalvesDownward,
+    Planted::Rate10001,
+    Planted::GreatestAmount,
+    Planted::EqualLimits,
+    Planted::NotRaised,
 ];
 
 impl Planted {
@@ -312,6 +330,22 @@ impl Library for Planted {
                 answer
             }
             _ => answer,
+        }
+    }
+
+    fn charge(&self, amount: u64, rate: u64, least: u64, greatest: u64) -> Result<u64, Refusal> {
+        if *self == Self::Rate10001 && rate == RATE_MAX + 1 {
+            return Reference.charge(amount, RATE_MAX, least, greatest);
+        }
+        let charge = Reference.charge(amount, rate, least, greatest)?;
+        let rounded = |more| (amount * rate + more) / 10_000;
+        match self {
+            Self::RoundedDown => Ok(rounded(0).clamp(least, greatest)),
+            Self::HalvesDownward => Ok(rounded(4_999).clamp(least, greatest)),
+            Self::GreatestAmount if amount == KOPECKS_MAX => Err(Refusal::Tariff),
+            Self::EqualLimits if least == greatest => Err(Refusal::Tariff),
+            Self::NotRaised => Ok(rounded(5_000).min(greatest)),
+            _ => Ok(charge),
         }
     }
 }

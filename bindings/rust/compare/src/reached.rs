@@ -3,9 +3,10 @@
 use std::collections::BTreeMap;
 use std::fmt;
 
-use cases::{BASES, CLASS_A, CLASS_B, STATUSES};
+use cases::{Charge, BASES, CLASS_A, CLASS_B, STATUSES};
 use kieselbrot::{Class, Completed, Posted, Refusal};
 
+use crate::charges::{self, Charged};
 use crate::pretest::{Tested, NAMED};
 
 /// How often each thing was reached. What a thing is called is part of the
@@ -27,6 +28,7 @@ pub struct Reached {
     codes: BTreeMap<(Caught, u8), u64>,
     named: BTreeMap<(u8, u8), u64>,
     unnamed: BTreeMap<u8, u64>,
+    charges: BTreeMap<Charged, u64>,
 }
 
 /// What the first nine of a pension number's eleven digits are to rule 35.
@@ -121,7 +123,7 @@ enum Accepted {
 }
 
 /// The numbers that each function returns.
-const ANSWERS: [(&str, &[u8]); 8] = [
+const ANSWERS: [(&str, &[u8]); 9] = [
     ("check", &[0, 1, 8]),
     ("read", &[0, 2, 3, 4, 5]),
     ("write", &[0, 2, 4, 5, 7]),
@@ -130,6 +132,7 @@ const ANSWERS: [(&str, &[u8]); 8] = [
     ("copy", &[0, 1, 7]),
     ("pretest", &[0, 1, 8, 9]),
     ("complete", &[0, 1, 7, 8, 9, 10]),
+    ("charge", &[0, 14]),
 ];
 
 /// The field that each rule names; rule 6 names twelve.
@@ -342,6 +345,14 @@ impl Reached {
         }
     }
 
+    /// A charge.
+    pub fn charge(&mut self, charge: &Charge, answer: Result<u64, Refusal>) {
+        self.answer("charge", answer);
+        for what in charges::reached(charge, answer) {
+            *self.charges.entry(what).or_default() += 1;
+        }
+    }
+
     /// Adds what another comparison reached.
     pub fn add(&mut self, other: &Self) {
         self.calls += other.calls;
@@ -357,6 +368,7 @@ impl Reached {
         add(&mut self.codes, &other.codes);
         add(&mut self.named, &other.named);
         add(&mut self.unnamed, &other.unnamed);
+        add(&mut self.charges, &other.charges);
         for (sum, more) in self.standings.iter_mut().zip(other.standings) {
             *sum += more;
         }
@@ -411,6 +423,9 @@ impl Reached {
         }
         let sets = self.sets.len() as u64;
         list.push((format!("{sets} of 1024 sets of blanks"), sets / 1024));
+        for what in charges::all() {
+            list.push((format!("a charge: {what}"), get(&self.charges, what)));
+        }
         list
     }
 

@@ -105,6 +105,7 @@ enum Piece {
     Sizes,
     Places,
     Messages,
+    Charges,
     Arrangements,
     Blanks(usize),
     Forms(usize),
@@ -157,7 +158,7 @@ impl Run {
         let mut pieces = Vec::new();
         if self.exhaustive {
             pieces.extend([Piece::Table, Piece::Sizes, Piece::Places, Piece::Messages]);
-            pieces.push(Piece::Arrangements);
+            pieces.extend([Piece::Charges, Piece::Arrangements]);
             pieces.extend(generated.by_ref().take(10));
             pieces.extend((0..exhaustive::BLANK_PARTS).map(Piece::Blanks));
             pieces.extend((0..exhaustive::FORM_PARTS).map(Piece::Forms));
@@ -177,6 +178,7 @@ impl Run {
             Piece::Sizes => exhaustive::sizes(comparison),
             Piece::Places => exhaustive::places(comparison),
             Piece::Messages => exhaustive::messages(comparison),
+            Piece::Charges => exhaustive::charges(comparison),
             Piece::Arrangements => (1..=6)
                 .try_for_each(|size| streams::arrangements(comparison, &mut random(size), size)),
             Piece::Blanks(part) => exhaustive::blanks(comparison, &mut random(100 + part), part),

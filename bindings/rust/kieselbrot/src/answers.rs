@@ -2,7 +2,7 @@
 
 use std::fmt;
 
-use crate::ffi;
+use crate::{ffi, KOPECKS_MAX};
 
 /// The class of an accepted sheet.
 #[derive(Clone, Copy, Debug, PartialEq, Eq, Hash, PartialOrd, Ord)]
@@ -90,6 +90,9 @@ pub enum Refusal {
         /// The count of all fillings.
         count: usize,
     },
+    /// 14: for [`charge`](crate::charge()), an argument is out of range or the least
+    /// is above the greatest.
+    Tariff,
     /// An answer that the library of this version never gives: another library
     /// is linked.
     Unknown {
@@ -99,7 +102,7 @@ pub enum Refusal {
 }
 
 impl Refusal {
-    /// The refusal's number in the table of document 01.
+    /// The refusal's number in the table of document 01, or in a request.
     #[must_use]
     pub const fn number(&self) -> u8 {
         match self {
@@ -113,6 +116,7 @@ impl Refusal {
             Self::Broken { .. } => 8,
             Self::Ordinary => 9,
             Self::NoFilling { .. } => 10,
+            Self::Tariff => 14,
             Self::Unknown { number } => *number,
         }
     }
@@ -128,6 +132,7 @@ impl Refusal {
             6 => Self::Clash,
             7 => Self::Output,
             9 => Self::Ordinary,
+            14 => Self::Tariff,
             _ => Self::Unknown { number },
         }
     }
@@ -262,17 +267,28 @@ impl From<ffi::Complete> for Result<Completed, Refusal> {
     }
 }
 
+impl From<ffi::Charge> for Result<u64, Refusal> {
+    fn from(answer: ffi::Charge) -> Self {
+        let ffi::Charge { number, kopecks } = answer;
+        match (number, kopecks) {
+            (0, 0..=KOPECKS_MAX) => Ok(kopecks),
+            (number, 0) => Err(Refusal::plain(number)),
+            _ => Err(Refusal::Unknown { number }),
+        }
+    }
+}
+
 #[cfg(test)]
 mod tests {
     use super::*;
 
     #[test]
     fn numbers_are_those_of_the_table() {
-        for number in (1..=7).chain([9]) {
+        for number in (1..=7).chain([9, 14]) {
             assert_eq!(Refusal::plain(number).number(), number);
             assert!(!matches!(Refusal::plain(number), Refusal::Unknown { .. }));
         }
-        for number in [0, 8, 10, 11, 255] {
+        for number in [0, 8, 10, 11, 12, 13, 15, 255] {
             assert_eq!(Refusal::plain(number), Refusal::Unknown { number });
         }
         let broken = Refusal::Broken {
@@ -285,6 +301,7 @@ mod tests {
         );
         let none = Refusal::NoFilling { count: 1056 };
         assert_eq!((none.number(), none.to_string().as_str()), (10, "10 1056"));
+        assert_eq!(Refusal::Tariff.to_string(), "14");
     }
 
     #[test]
@@ -336,6 +353,19 @@ mod tests {
                 pretest(number, field, rule),
                 Err(Refusal::Unknown { number })
             );
+        }
+    }
+
+    #[test]
+    fn a_charge_is_kopecks_or_14() {
+        let charge =
+            |number, kopecks| Result::<u64, Refusal>::from(ffi::Charge { number, kopecks });
+        for kopecks in [0, 1, KOPECKS_MAX] {
+            assert_eq!(charge(0, kopecks), Ok(kopecks));
+        }
+        assert_eq!(charge(14, 0), Err(Refusal::Tariff));
+        for (number, kopecks) in [(0, KOPECKS_MAX + 1), (14, 1), (15, 0)] {
+            assert_eq!(charge(number, kopecks), Err(Refusal::Unknown { number }));
         }
     }
 

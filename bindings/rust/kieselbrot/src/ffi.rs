@@ -62,6 +62,14 @@ pub struct Complete {
     pub count: usize,
 }
 
+/// The answer of a charge.
+#[repr(C)]
+#[derive(Clone, Copy)]
+pub struct Charge {
+    pub number: u8,
+    pub kopecks: u64,
+}
+
 // The sizes that bindings/c/kieselbrot.h has.
 const _: () = assert!(size_of::<Check>() == 4);
 const _: () = assert!(size_of::<Read>() == 24);
@@ -69,6 +77,7 @@ const _: () = assert!(size_of::<Write>() == 16);
 const _: () = assert!(size_of::<Post>() == 2);
 const _: () = assert!(size_of::<Pretest>() == 3);
 const _: () = assert!(size_of::<Complete>() == 24);
+const _: () = assert!(size_of::<Charge>() == 16);
 
 extern "C" {
     fn kieselbrot_check(sheet: *const u8, sheet_len: usize) -> Check;
@@ -96,11 +105,13 @@ extern "C" {
         sheet: *mut u8,
         sheet_len: usize,
     ) -> Complete;
+    fn kieselbrot_charge(amount: u64, rate: u64, least: u64, greatest: u64) -> Charge;
 }
 
 // SAFETY, for each call below: pointer and length come from one slice, which is
 // valid for as long as the call lasts; what is written through is borrowed
-// mutably, so that no other argument overlaps it; the library keeps no pointer.
+// mutably, so that no other argument overlaps it; the library keeps no pointer. A
+// number may be any.
 
 pub fn check(sheet: &[u8]) -> Check {
     unsafe { kieselbrot_check(sheet.as_ptr(), sheet.len()) }
@@ -148,4 +159,8 @@ pub fn pretest(draft: &[u8]) -> Pretest {
 
 pub fn complete(draft: &[u8], sheet: &mut [u8]) -> Complete {
     unsafe { kieselbrot_complete(draft.as_ptr(), draft.len(), sheet.as_mut_ptr(), sheet.len()) }
+}
+
+pub fn charge(amount: u64, rate: u64, least: u64, greatest: u64) -> Charge {
+    unsafe { kieselbrot_charge(amount, rate, least, greatest) }
 }

@@ -1,5 +1,5 @@
-//! Budget payment orders under 107n: field messages, the draft, the rules and
-//! completion.
+//! Budget payment orders under 107n: field messages, the draft, the rules,
+//! completion, and the bank's charge.
 //!
 //! This crate is a thin, safe layer over a library whose code is proved: each
 //! function's answer, and every buffer that it was lent, equals a definition, for
@@ -9,8 +9,8 @@
 //! Field, status and rule numbers are those of the form and of document 01.
 //! Texts are bytes of Windows-1251, 0 to 25 of them; the empty text is a blank. The
 //! constants have the sizes of a sheet, a draft and a message, and say how they are
-//! laid out. The module [`words`] says in English what a rule wants and why an order
-//! can't be completed.
+//! laid out. Amounts are in kopecks. The module [`words`] says in English what a rule
+//! wants and why an order can't be completed.
 //!
 //! # Example
 //!
@@ -87,6 +87,12 @@ pub const MESSAGE_HEAD_SIZE: usize = 8;
 
 /// The size of the longest message; a buffer of it is long enough for any.
 pub const MESSAGE_MAX: usize = 33;
+
+/// The greatest amount, and the greatest limit of a charge, in kopecks.
+pub const KOPECKS_MAX: u64 = 1_000_000_000_000;
+
+/// The greatest rate, in hundredths of a percent: the whole amount.
+pub const RATE_MAX: u64 = 10_000;
 
 const _: () = assert!(SHEET_SIZE == FIELDS.len() * SHEET_SLOT_SIZE);
 const _: () = assert!(DRAFT_SIZE == FIELDS.len() * DRAFT_SLOT_SIZE);
@@ -188,4 +194,35 @@ pub fn pretest(draft: &[u8]) -> Result<Option<Broken>, Refusal> {
 #[inline]
 pub fn complete(draft: &[u8], sheet: &mut [u8]) -> Result<Completed, Refusal> {
     ffi::complete(draft, sheet).into()
+}
+
+/// The bank's charge for an amount, in kopecks: amount times rate over 10,000, halves
+/// upward to the whole kopeck, raised to the least, then lowered to the greatest.
+///
+/// The amount is 1 to [`KOPECKS_MAX`], the rate 0 to [`RATE_MAX`] hundredths of a
+/// percent; the least and the greatest charge are at most [`KOPECKS_MAX`], the least
+/// not above the greatest.
+///
+/// # Errors
+///
+/// [`Refusal::Tariff`] if one of these is otherwise.
+///
+/// # Examples
+///
+/// 0.5 percent, at least 30 and at most 2,000 roubles:
+///
+/// ```
+/// use kieselbrot::{charge, Refusal};
+///
+/// let (rate, least, greatest) = (50, 30_00, 2_000_00);
+/// assert_eq!(charge(10_000_00, rate, least, greatest), Ok(50_00));
+/// assert_eq!(charge(1_000_00, rate, least, greatest), Ok(30_00));
+/// assert_eq!(charge(1_000_000_00, rate, least, greatest), Ok(2_000_00));
+/// // 50.005 roubles: half a kopeck goes upward.
+/// assert_eq!(charge(10_001_00, rate, least, greatest), Ok(50_01));
+/// assert_eq!(charge(0, rate, least, greatest), Err(Refusal::Tariff));
+/// ```
+#[inline]
+pub fn charge(amount: u64, rate: u64, least: u64, greatest: u64) -> Result<u64, Refusal> {
+    ffi::charge(amount, rate, least, greatest).into()
 }

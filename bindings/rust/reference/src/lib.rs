@@ -1,19 +1,20 @@
 //! Budget payment orders under 107n: field messages, the draft, the rules,
-//! completion and the test ahead of it, the message writer and the report of one
-//! program.
+//! completion and the test ahead of it, the message writer, the report of one
+//! program and the bank's charge.
 //!
 //! This is a second implementation, written from the paper "Budget payment
 //! orders under 107n: draft, check and completion" and its change requests
 //! alone. Doc comments quote the sentence of the paper or the request they
 //! follow. Of the requests it has R-1 (pension numbers), R-2 (letters in a KPP),
-//! R-3 (a test ahead of the search), R-4 (check digits of the INN) and R-5 (rule
-//! 22 ahead of rule 21).
+//! R-3 (a test ahead of the search), R-4 (check digits of the INN), R-5 (rule
+//! 22 ahead of rule 21) and R-10 (the bank's charge).
 //!
 //! Every public function is total, and "Refusals change no buffer".
 
 #![forbid(unsafe_code)]
 #![warn(missing_docs)]
 
+mod charge;
 mod completion;
 mod draft;
 mod field;
@@ -24,6 +25,7 @@ mod refusal;
 mod rules;
 mod sheet;
 
+pub use charge::charge;
 pub use completion::{complete, Completed};
 pub use draft::{copy, fresh, post, Posted};
 pub use message::{read, write, Message};

@@ -51,10 +51,12 @@ pub enum Refusal {
         /// The "count of all fillings".
         count: u32,
     },
+    /// 14: "an argument out of range or a least above the greatest".
+    Tariff,
 }
 
 impl Refusal {
-    /// The refusal's number in the paper's table.
+    /// The refusal's number in the paper's table or in a request.
     #[must_use]
     pub const fn number(&self) -> u8 {
         match self {
@@ -68,6 +70,7 @@ impl Refusal {
             Self::Broken { .. } => 8,
             Self::Ordinary => 9,
             Self::NoFilling { .. } => 10,
+            Self::Tariff => 14,
         }
     }
 }

@@ -1,6 +1,7 @@
 //! The change requests, sentence by sentence, through the public interface.
 
 mod fixture;
+mod r10;
 mod r1_r2;
 mod r3;
 mod r4;

@@ -1,0 +1,3 @@
+pub mod Amount
+pub mod Charge
+pub mod Examples
