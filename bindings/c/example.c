@@ -1,7 +1,7 @@
 /* A small order: its messages are written, posted in the order of their arrival,
  * tested and completed, and the sheet is printed; then the bank's charge for a few
- * amounts. The program checks its own results and returns 1 if one is not as
- * expected. */
+ * amounts, parts of a year, and a year's amount shared among its months. The program
+ * checks its own results and returns 1 if one is not as expected. */
 
 #include <inttypes.h>
 #include <stdio.h>
@@ -16,6 +16,7 @@ _Static_assert(sizeof(kieselbrot_post_answer) == 2, "the answers' layout");
 _Static_assert(sizeof(kieselbrot_pretest_answer) == 3, "the answers' layout");
 _Static_assert(sizeof(kieselbrot_complete_answer) == 24, "the answers' layout");
 _Static_assert(sizeof(kieselbrot_charge_answer) == 16, "the answers' layout");
+_Static_assert(sizeof(kieselbrot_part_answer) == 16, "the answers' layout");
 
 _Static_assert(KIESELBROT_SHEET_SIZE == KIESELBROT_FIELDS * KIESELBROT_SHEET_SLOT_SIZE, "a sheet");
 _Static_assert(KIESELBROT_DRAFT_SIZE == KIESELBROT_FIELDS * KIESELBROT_DRAFT_SLOT_SIZE, "a draft");
@@ -71,6 +72,32 @@ static const struct tariff tariffs[] = {
     {100000, 50, 3000, KIESELBROT_KOPECKS_MAX + 1, KIESELBROT_TARIFF, 0},
     {100000, 50, 3001, 3000, KIESELBROT_TARIFF, 0},
 };
+
+struct year_part {
+    uint64_t amount;
+    uint32_t days, year;
+    uint8_t number; /* what the part should answer */
+    uint64_t kopecks;
+    uint32_t remainder;
+};
+
+static const struct year_part year_parts[] = {
+    {1000, 31, 365, KIESELBROT_OK, 84, 340},
+    {1000, 31, 366, KIESELBROT_OK, 84, 256},
+    {KIESELBROT_KOPECKS_MAX, 366, 366, KIESELBROT_OK, KIESELBROT_KOPECKS_MAX, 0},
+    {1, 1, 366, KIESELBROT_OK, 0, 1},
+    /* another year, days outside it, an amount out of range */
+    {1000, 31, 364, KIESELBROT_YEAR_PART, 0, 0},
+    {1000, 0, 365, KIESELBROT_YEAR_PART, 0, 0},
+    {1000, 366, 365, KIESELBROT_YEAR_PART, 0, 0},
+    {0, 31, 365, KIESELBROT_YEAR_PART, 0, 0},
+    {KIESELBROT_KOPECKS_MAX + 1, 31, 365, KIESELBROT_YEAR_PART, 0, 0},
+};
+
+static const uint32_t months[] = {31, 28, 31, 30, 31, 30, 31, 31, 30, 31, 30, 31};
+
+static const uint64_t by_months[KIESELBROT_SHARE_PLACES] = {84, 77, 85, 82, 85, 82,
+                                                            85, 85, 82, 85, 83, 85};
 
 static int failures = 0;
 
@@ -183,6 +210,56 @@ static void ask_charges(void)
     }
 }
 
+/* What a client owes who joins or leaves within the year. */
+static void ask_parts(void)
+{
+    for (size_t i = 0; i < sizeof year_parts / sizeof year_parts[0]; i++) {
+        const struct year_part *asked = &year_parts[i];
+        const kieselbrot_part_answer part =
+            kieselbrot_part(asked->amount, asked->days, asked->year);
+        printf("part of %" PRIu64 " for %" PRIu32 " of %" PRIu32 " days: number %d, %" PRIu64
+               ", remainder %" PRIu32 "\n",
+               asked->amount, asked->days, asked->year, part.number, part.kopecks, part.remainder);
+        expect(part.number == asked->number && part.kopecks == asked->kopecks &&
+                   part.remainder == asked->remainder,
+               "a part");
+    }
+}
+
+/* What is owed in each month, in each of two periods, and what is refused. */
+static void ask_shares(void)
+{
+    const uint32_t two[] = {306, 59}, short_of[] = {306, 58}, nothing[] = {365, 0};
+    uint64_t shares[KIESELBROT_SHARE_PLACES];
+    uint64_t before[KIESELBROT_SHARE_PLACES];
+    uint64_t sum = 0;
+
+    memset(shares, 0xEE, sizeof shares);
+    expect(kieselbrot_shares(1000, 365, months, 12, shares) == KIESELBROT_OK, "shares of months");
+    expect(memcmp(shares, by_months, sizeof shares) == 0, "the shares of the months");
+    for (size_t i = 0; i < KIESELBROT_SHARE_PLACES; i++) {
+        printf("month %d: %" PRIu64 "\n", (int)i + 1, shares[i]);
+        sum += shares[i];
+    }
+    expect(sum == 1000, "the sum of the shares");
+
+    /* whatever refuses it, the places stay */
+    memcpy(before, shares, sizeof before);
+    expect(kieselbrot_shares(1000, 366, months, 12, shares) == KIESELBROT_YEAR_PART &&
+               kieselbrot_shares(1000, 364, months, 12, shares) == KIESELBROT_YEAR_PART &&
+               kieselbrot_shares(0, 365, months, 12, shares) == KIESELBROT_YEAR_PART &&
+               kieselbrot_shares(1000, 365, months, 0, shares) == KIESELBROT_YEAR_PART &&
+               kieselbrot_shares(1000, 365, short_of, 2, shares) == KIESELBROT_YEAR_PART &&
+               kieselbrot_shares(1000, 365, nothing, 2, shares) == KIESELBROT_YEAR_PART,
+           "shares that are refused");
+    expect(memcmp(shares, before, sizeof shares) == 0, "the places after a refusal");
+
+    expect(kieselbrot_shares(1000, 365, two, 2, shares) == KIESELBROT_OK, "two shares");
+    expect(shares[0] == 838 && shares[1] == 162, "what the two are");
+    for (size_t i = 2; i < KIESELBROT_SHARE_PLACES; i++)
+        expect(shares[i] == 0, "a place past the last period");
+}
+
 int main(void)
 {
     uint8_t draft[KIESELBROT_DRAFT_SIZE];
@@ -214,6 +291,8 @@ int main(void)
     printf("class %c\n", checked.class_);
     expect(checked.number == KIESELBROT_OK && checked.class_ == 'A', "the completed sheet");
     ask_charges();
+    ask_parts();
+    ask_shares();
 
     return failures != 0;
 }

@@ -1,5 +1,5 @@
 /* Budget payment orders under 107n: field messages, the draft, the rules,
- * completion, and the bank's charge.
+ * completion, the bank's charge, and part of a year.
  *
  * The functions are proved: each one's answer, and every buffer that it is lent,
  * equals a definition, for all inputs. They are total: buffers of any length may
@@ -69,6 +69,9 @@ extern "C" {
 /* The greatest rate, in hundredths of a percent: the whole amount. */
 #define KIESELBROT_RATE_MAX UINT64_C(10000)
 
+/* How many places for shares there are: the greatest number of periods. */
+#define KIESELBROT_SHARE_PLACES 12
+
 /* The numbers of the answers, in the order in which they are tested. */
 enum {
     KIESELBROT_OK = 0,
@@ -83,8 +86,12 @@ enum {
     KIESELBROT_BROKEN = 8,        /* a broken rule; in completion and its pretest only 1 to 3 */
     KIESELBROT_ORDINARY = 9,      /* completion or pretest of class O */
     KIESELBROT_NO_FILLING = 10,   /* no filling keeps the rules */
-    KIESELBROT_TARIFF = 14        /* for charge, an argument out of range or a least above the
+    KIESELBROT_TARIFF = 14,       /* for charge, an argument out of range or a least above the
                                      greatest */
+    KIESELBROT_YEAR_PART = 15     /* for part and shares, an amount out of range or a year not of
+                                     365 or 366 days; for part, days outside 1 to the year; for
+                                     shares, not 1 to 12 periods, a period of 0 days, or periods
+                                     that do not sum to the year */
 };
 
 /* The answer of a check. */
@@ -144,6 +151,15 @@ typedef struct {
     uint64_t kopecks; /* the charge */
 } kieselbrot_charge_answer;
 
+/* The answer of a part of a year: kopecks times year plus remainder is amount times
+ * days exactly. */
+typedef struct {
+    uint8_t number;     /* 0 or 15 */
+    uint32_t remainder; /* what is left of a kopeck, in parts of which the year's
+                         * length makes one; below that length */
+    uint64_t kopecks;   /* the whole kopecks */
+} kieselbrot_part_answer;
+
 /* Checks a sheet against the rules, in their order, and tells its class. */
 kieselbrot_check_answer kieselbrot_check(const uint8_t *sheet, size_t sheet_len);
 
@@ -183,6 +199,19 @@ kieselbrot_complete_answer kieselbrot_complete(const uint8_t *draft, size_t draf
  * greatest charge are at most 10^12 kopecks, the least not above the greatest. */
 kieselbrot_charge_answer kieselbrot_charge(uint64_t amount, uint64_t rate, uint64_t least,
                                            uint64_t greatest);
+
+/* The part of a year's amount for so many days: amount times days over the year's
+ * length, in whole kopecks, with the remainder. The amount is 1 to 10^12 kopecks, the
+ * year 365 or 366 days long, the days 1 to that length. */
+kieselbrot_part_answer kieselbrot_part(uint64_t amount, uint32_t days, uint32_t year);
+
+/* Shares a year's amount among periods, given by their days. The first k shares sum to
+ * the whole kopecks of the part for the days of the first k periods, and all of them to
+ * the amount. Places past the last period are 0. Amount and year are as above; there
+ * are 1 to 12 periods, of at least one day each, that sum to the year. All twelve
+ * places are written, or none. Returns the number. */
+uint8_t kieselbrot_shares(uint64_t amount, uint32_t year, const uint32_t *periods,
+                          size_t periods_len, uint64_t shares[KIESELBROT_SHARE_PLACES]);
 
 #ifdef __cplusplus
 }

@@ -1,2 +1,4 @@
 pub mod Ranges
 pub mod Charging
+pub mod Parting
+pub mod Sharing

@@ -32,9 +32,13 @@ use Rattle.orders.specs.Pretest.{pretestAnswer, pretestTests, pretesting, Prete
 use Rattle.orders.specs.declared.pretest.Pretested.{Pretested}
 use Rattle.amounts.specs.Charge.{chargeTests, charging, chargeAnswer, Charges}
 use Rattle.amounts.specs.declared.charge.Charged.{Charged}
+use Rattle.amounts.specs.Part.{partTests, parting, partAnswer, Parts}
+use Rattle.amounts.specs.Shares.{shareTests, sharing, shareAnswer, Shares}
+use Rattle.amounts.specs.declared.part.Parted.{Parted}
+use Rattle.amounts.specs.declared.shares.Shared.{Shared}
 use Rattle.orders.specs.declared.complete.Completed.{Completed}
-use Rattle.capi.specs.Numbers.{numbered, numberAnswer, checkNumbers, checkOf, readNumbers, readOf, writeNumbers, writeOf, postNumbers, wordOf, postOf, completeNumbers, completeOf, pretestNumbers, pretestOf, chargeNumbers, chargeOf}
-use Rattle.capi.specs.Promises.{CheckReturns, ReadReturns, WriteReturns, FreshReturns, PostReturns, CopyReturns, CompleteReturns, PretestReturns, ChargeReturns}
+use Rattle.capi.specs.Numbers.{numbered, numberAnswer, checkNumbers, checkOf, readNumbers, readOf, writeNumbers, writeOf, postNumbers, wordOf, postOf, completeNumbers, completeOf, pretestNumbers, pretestOf, chargeNumbers, chargeOf, partNumbers, partOf}
+use Rattle.capi.specs.Promises.{CheckReturns, ReadReturns, WriteReturns, FreshReturns, PostReturns, CopyReturns, CompleteReturns, PretestReturns, ChargeReturns, PartReturns, SharesReturns}
 use Rattle.capi.specs.declared.Check.{Check}
 use Rattle.capi.specs.declared.Read.{Read}
 use Rattle.capi.specs.declared.Write.{Write}
@@ -42,6 +46,7 @@ use Rattle.capi.specs.declared.Post.{Post}
 use Rattle.capi.specs.declared.Complete.{Complete}
 use Rattle.capi.specs.declared.Pretest.{Pretest}
 use Rattle.capi.specs.declared.Charge.{Charge}
+use Rattle.capi.specs.declared.Part.{Part}
 
 -- ---- reading an answer back
 
@@ -111,6 +116,14 @@ charge-back : (a p l g : ℕ) → Back chargeNumbers chargeOf (charging a p l g)
 unfolding charging chargeTests chargeNumbers chargeOf numbered
 charge-back a p l g = tested (Back chargeNumbers chargeOf) (chargeTests a p l g) _ refl (search depth 12)
 
+part-back : (a d y : ℕ) → Back partNumbers partOf (parting a d y)
+unfolding parting partTests partNumbers partOf numbered
+part-back a d y = tested (Back partNumbers partOf) (partTests a d y) _ refl (search depth 12)
+
+shares-back : (a y : ℕ) (ps : List ℕ) → Back numberOf numberAnswer (sharing a y ps)
+unfolding sharing shareTests numberAnswer numbered
+shares-back a y ps = tested (Back numberOf numberAnswer) (shareTests a y ps) _ refl (search depth 12)
+
 -- ---- what each function returned: v is what it called, and k the case of v in an arm
 
 module _ (s : List ℕ) (v : Verdict) (p : Checked s v) (k : Verdict) (e : v ≡ k) (r : Check) (q : r ≡ checkNumbers (verdictAnswer k)) where
@@ -170,3 +183,11 @@ module _ (d : List ℕ) (v : Pretested) (p : Pretests d v) (k : Pretested) (e : 
 module _ (a p l g : ℕ) (v : Charged) (w : Charges a p l g v) (k : Charged) (e : v ≡ k) (r : Charge) (q : r ≡ chargeNumbers (chargeAnswer k)) where
   pub charged-is : ChargeReturns a p l g r
   charged-is = record { numbers = cc; answer = cc (charge-back a p l g) }
+
+module _ (a d y : ℕ) (v : Parted) (w : Parts a d y v) (k : Parted) (e : v ≡ k) (r : Part) (q : r ≡ partNumbers (partAnswer k)) where
+  pub parted-is : PartReturns a d y r
+  parted-is = record { numbers = cc; answer = cc (part-back a d y) }
+
+module _ (a y : ℕ) (ps b : List ℕ) (v : Shared) (x : List ℕ) (w : Shares a y ps b v x) (k : Shared) (e : v ≡ k) (r : ℕ) (q : r ≡ numberOf (shareAnswer k)) where
+  pub shared-is : SharesReturns a y ps b r x
+  shared-is = record { numbers = cc; answer = cc (shares-back a y ps); places = w .places }

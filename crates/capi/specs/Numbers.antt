@@ -16,6 +16,7 @@ use Rattle.capi.specs.declared.Post.{Post}
 use Rattle.capi.specs.declared.Complete.{Complete}
 use Rattle.capi.specs.declared.Pretest.{Pretest}
 use Rattle.capi.specs.declared.Charge.{Charge}
+use Rattle.capi.specs.declared.Part.{Part}
 
 -- number 0 is success, which returns vs; another number is a refusal, with ws beside it
 unfoldable pub numbered : ℕ → List ℕ → List ℕ → Answer
@@ -92,3 +93,11 @@ chargeNumbers (refusal n vs) = record { number = n; kopecks = 0 }
 
 unfoldable pub chargeOf : Charge → Answer
 chargeOf r = numbered (r .number) (r .kopecks ∷ []) []
+
+-- the whole kopecks and the remainder
+unfoldable pub partNumbers : Answer → Part
+partNumbers (success vs) = record { number = 0; remainder = getD vs 1 0; kopecks = getD vs 0 0 }
+partNumbers (refusal n vs) = record { number = n; remainder = 0; kopecks = 0 }
+
+unfoldable pub partOf : Part → Answer
+partOf r = numbered (r .number) (r .kopecks ∷ r .remainder ∷ []) []

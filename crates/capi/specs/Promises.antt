@@ -13,7 +13,9 @@ use Rattle.drafts.specs.Draft.{beginningOf, begunFrom, postingOf, postedTo, cop
 use Rattle.orders.specs.Complete.{completing, completed}
 use Rattle.orders.specs.Pretest.{pretesting}
 use Rattle.amounts.specs.Charge.{charging}
-use Rattle.capi.specs.Numbers.{numberAnswer, checkNumbers, checkOf, readNumbers, readOf, writeNumbers, writeOf, postNumbers, postOf, completeNumbers, completeOf, pretestNumbers, pretestOf, chargeNumbers, chargeOf}
+use Rattle.amounts.specs.Part.{parting}
+use Rattle.amounts.specs.Shares.{sharing, sharedTo}
+use Rattle.capi.specs.Numbers.{numberAnswer, checkNumbers, checkOf, readNumbers, readOf, writeNumbers, writeOf, postNumbers, postOf, completeNumbers, completeOf, pretestNumbers, pretestOf, chargeNumbers, chargeOf, partNumbers, partOf}
 use Rattle.capi.specs.declared.Check.{Check}
 use Rattle.capi.specs.declared.Read.{Read}
 use Rattle.capi.specs.declared.Write.{Write}
@@ -21,6 +23,7 @@ use Rattle.capi.specs.declared.Post.{Post}
 use Rattle.capi.specs.declared.Complete.{Complete}
 use Rattle.capi.specs.declared.Pretest.{Pretest}
 use Rattle.capi.specs.declared.Charge.{Charge}
+use Rattle.capi.specs.declared.Part.{Part}
 
 -- checking the sheet s returned r
 pub record CheckReturns (s : List ℕ) (r : Check) : Type 0 where
@@ -74,3 +77,14 @@ pub record PretestReturns (d : List ℕ) (r : Pretest) : Type 0 where
 pub record ChargeReturns (a p l g : ℕ) (r : Charge) : Type 0 where
   pub numbers : r ≡ chargeNumbers (charging a p l g)
   pub answer : chargeOf r ≡ charging a p l g
+
+-- the part of an amount a for d days of a year of y returned r
+pub record PartReturns (a d y : ℕ) (r : Part) : Type 0 where
+  pub numbers : r ≡ partNumbers (parting a d y)
+  pub answer : partOf r ≡ parting a d y
+
+-- sharing an amount a of a year of y days among the periods ps, in the places b, returned the number r and left e
+pub record SharesReturns (a y : ℕ) (ps b : List ℕ) (r : ℕ) (e : List ℕ) : Type 0 where
+  pub numbers : r ≡ numberOf (sharing a y ps)
+  pub answer : numberAnswer r ≡ sharing a y ps
+  pub places : e ≡ sharedTo a y ps b

@@ -1,8 +1,11 @@
 // The library for C and for what links like C. Each function forwards to a proved one, and gives document 01's numbers.
-ghost use Rattle.capi.specs.Promises.{CheckReturns, ReadReturns, WriteReturns, FreshReturns, PostReturns, CopyReturns, CompleteReturns, PretestReturns, ChargeReturns};
+ghost use Rattle.capi.specs.Promises.{CheckReturns, ReadReturns, WriteReturns, FreshReturns, PostReturns, CopyReturns, CompleteReturns, PretestReturns, ChargeReturns, PartReturns, SharesReturns};
 use amounts::amount::Kopecks;
 use amounts::charge::Charged;
 use amounts::charge::Rate;
+use amounts::part::Days;
+use amounts::part::Parted;
+use amounts::shares::Shared;
 use drafts::draft::Begun;
 use drafts::draft::Copied;
 use drafts::draft::Posted;
@@ -65,6 +68,13 @@ pub struct Pretest {
 #[repr(C)]
 pub struct Charge {
     pub number: u8,
+    pub kopecks: u64,
+}
+
+#[repr(C)]
+pub struct Part {
+    pub number: u8,
+    pub remainder: u32,
     pub kopecks: u64,
 }
 
@@ -293,5 +303,40 @@ pub extern "C" fn kieselbrot_charge(amount: u64, rate: u64, least: u64, greatest
             number: n.0,
             kopecks: 0,
         },
+    }
+}
+
+#[no_mangle]
+pub extern "C" fn kieselbrot_part(amount: u64, days: u32, year: u32) -> Part
+    ensures { λ r. ⌜ PartReturns amount days year r ⌝ }
+{
+    let v = amounts::part::part(Kopecks(amount), Days(days), Days(year));
+    match v {
+        Parted::Made(q, r) => Part {
+            number: 0,
+            remainder: r.0,
+            kopecks: q.0,
+        },
+        Parted::Refused(n) => Part {
+            number: n.0,
+            remainder: 0,
+            kopecks: 0,
+        },
+    }
+}
+
+#[no_mangle]
+pub extern "C" fn kieselbrot_shares(
+    amount: u64,
+    year: u32,
+    periods: &[u32],
+    shares: &mut [u64; 12],
+) -> u8
+    ensures { λ r. ⌜ SharesReturns amount year (now (periods .entry)) (now (shares .entry)) r (now (shares .exit)) ⌝ }
+{
+    let v = amounts::shares::shares(Kopecks(amount), Days(year), periods, shares);
+    match v {
+        Shared::Made => 0,
+        Shared::Refused(n) => n.0,
     }
 }

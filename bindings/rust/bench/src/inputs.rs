@@ -1,7 +1,7 @@
 //! What is measured with: for each row many inputs, all different.
 
 use cases::{blanked, budget, damaged_draft, disturb, message, with_forms, BLANKS, FIELDS};
-use cases::{charge_in_range, Charge};
+use cases::{charge_in_range, parting_in_range, sharing_of, Charge, Parting, Sharing};
 use cases::{Account, Basis, Code, Date, Document, Draft, Forms, Payer, Random, Sheet, Texts};
 
 /// How many inputs a row has.
@@ -191,6 +191,16 @@ pub fn charges(random: &mut Random) -> Vec<Charge> {
     many(random, charge_in_range)
 }
 
+/// Arguments of parts of a year, in range.
+pub fn parts(random: &mut Random) -> Vec<Parting> {
+    many(random, parting_in_range)
+}
+
+/// Arguments of shares among 12 periods, in range.
+pub fn shares(random: &mut Random) -> Vec<Sharing> {
+    many(random, |random| sharing_of(random, 12))
+}
+
 /// A book of mixed drafts: whole, with blanks, with mistakes, some damaged.
 pub fn book(random: &mut Random) -> Vec<Draft> {
     (0..BOOK).map(|_| entry(random)).collect()
@@ -295,6 +305,19 @@ mod tests {
             let answer =
                 reference::charge(charge.amount, charge.rate, charge.least, charge.greatest);
             assert!(answer.is_ok(), "{charge:?}");
+        }
+    }
+
+    #[test]
+    fn every_part_and_all_shares_are_made() {
+        for parting in parts(&mut random()) {
+            let answer = reference::part(parting.amount, parting.days, parting.year);
+            assert!(answer.is_ok(), "{parting:?}");
+        }
+        for sharing in shares(&mut random()) {
+            assert_eq!(sharing.periods.len(), 12);
+            let answer = reference::shares(sharing.amount, sharing.year, &sharing.periods);
+            assert!(answer.is_ok(), "{sharing:?}");
         }
     }
 

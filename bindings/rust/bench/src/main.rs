@@ -14,11 +14,12 @@ mod stack;
 
 use std::env;
 use std::fs;
+use std::hint::black_box;
 use std::io::{self, ErrorKind};
 use std::path::Path;
 use std::process::{Command, ExitCode};
 
-use cases::{Charge, Draft, Random, Sheet};
+use cases::{Charge, Draft, Parting, Random, Sharing, Sheet};
 use measure::{Goal, Row, NO_SLOWER};
 use report::Report;
 
@@ -62,6 +63,8 @@ fn measure_all() -> Report {
     let half_hopeless = inputs::half_hopeless_book(&mut other);
     rows.extend(book::rows(&book, &half_hopeless));
     rows.push(charge(inputs::charges(&mut inputs::random())));
+    rows.push(part(inputs::parts(&mut inputs::random())));
+    rows.push(shares(inputs::shares(&mut inputs::random())));
     Report {
         rows,
         growth: growth(
@@ -182,6 +185,37 @@ fn charge(charges: Vec<Charge>) -> Row {
         &charges,
         |charge| kieselbrot::charge(charge.amount, charge.rate, charge.least, charge.greatest),
         |charge| reference::charge(charge.amount, charge.rate, charge.least, charge.greatest),
+    )
+}
+
+fn part(parts: Vec<Parting>) -> Row {
+    Row::measure(
+        "part of a year, in range",
+        NO_SLOWER,
+        &parts,
+        |parting| kieselbrot::part(parting.amount, parting.days, parting.year),
+        |parting| reference::part(parting.amount, parting.days, parting.year),
+    )
+}
+
+fn shares(shares: Vec<Sharing>) -> Row {
+    Row::measure(
+        "shares, 12 periods, into lent places",
+        NO_SLOWER,
+        &shares,
+        |sharing| {
+            let mut places = [0; kieselbrot::SHARE_PLACES];
+            let Sharing {
+                amount,
+                year,
+                ref periods,
+            } = *sharing;
+            let answer = kieselbrot::shares_into(amount, year, periods, &mut places);
+            // Seen where they are: the caller has no need to copy them.
+            black_box(&places);
+            answer
+        },
+        |sharing| reference::shares(sharing.amount, sharing.year, &sharing.periods),
     )
 }
 

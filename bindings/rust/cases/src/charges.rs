@@ -117,12 +117,12 @@ fn just_below_half(random: &mut Random) -> (u64, u64) {
 }
 
 /// A number up to the bound, which is among them.
-fn up_to(random: &mut Random, bound: u64) -> u64 {
+pub(crate) fn up_to(random: &mut Random, bound: u64) -> u64 {
     random.below(bound as usize + 1) as u64
 }
 
 /// A number up to the bound: any, a small one, or one at the ends.
-fn in_range(random: &mut Random, bound: u64) -> u64 {
+pub(crate) fn in_range(random: &mut Random, bound: u64) -> u64 {
     let (any, small) = (up_to(random, bound), up_to(random, 1000));
     random.pick(&[any, any, small, small, 0, 1, bound - 1, bound])
 }
@@ -135,7 +135,7 @@ fn near(random: &mut Random, number: u64) -> u64 {
 }
 
 /// A number at an end of the range, one beyond it, or any.
-fn near_bounds(random: &mut Random, bound: u64) -> u64 {
+pub(crate) fn near_bounds(random: &mut Random, bound: u64) -> u64 {
     let any = random.number();
     random.pick(&[0, 1, bound - 1, bound, bound + 1, bound + 1, u64::MAX, any])
 }

@@ -1,6 +1,6 @@
 //! Sheets, drafts and messages to try the library with, laid out byte by byte from
-//! document 01, and arguments of a charge: without code of the library or of the
-//! second implementation.
+//! document 01, and arguments of a charge, of a part of a year and of shares: without
+//! code of the library or of the second implementation.
 
 #![forbid(unsafe_code)]
 #![warn(missing_docs)]
@@ -10,6 +10,7 @@ mod damage;
 mod fillings;
 mod forms;
 mod orders;
+mod parts;
 mod random;
 mod streams;
 mod table;
@@ -22,6 +23,8 @@ pub use forms::{inn_remainder, inn_weights, list, snils_remainder};
 pub use forms::{BASES, CLASS_A, CLASS_B, SNILS_BOUND, STATUSES};
 pub use orders::{accepted, blanked, budget, class_a, class_b, disturb, with_forms};
 pub use orders::{Account, Basis, Code, Date, Document, Forms, Payer};
+pub use parts::{parting, parting_in_range, sharing, sharing_in_range, sharing_of};
+pub use parts::{Parting, Sharing, SHARE_PLACES, YEARS};
 pub use random::Random;
 pub use streams::{draft_after, messages};
 pub use table::{sheets, Case};

@@ -56,11 +56,12 @@ pub enum Value {
     AtTheBound,
     OneBeyond,
     Beyond,
-    /// 2^64 - 1.
+    /// 2^64 - 1, or the highest number of its type.
     Highest,
 }
 
-const VALUES: [Value; 7] = [
+/// All of them.
+pub const VALUES: [Value; 7] = [
     Value::Zero,
     Value::One,
     Value::Between,
@@ -98,6 +99,22 @@ impl fmt::Display for Charged {
     }
 }
 
+impl Value {
+    /// Where a number stands in the range up to the bound, the highest of its type being
+    /// known.
+    pub const fn of(value: u64, bound: u64, highest: u64) -> Self {
+        match value {
+            0 => Self::Zero,
+            1 => Self::One,
+            _ if value == highest => Self::Highest,
+            _ if value < bound => Self::Between,
+            _ if value == bound => Self::AtTheBound,
+            _ if value == bound + 1 => Self::OneBeyond,
+            _ => Self::Beyond,
+        }
+    }
+}
+
 impl Argument {
     const fn of(self, charge: &Charge) -> u64 {
         match self {
@@ -116,16 +133,7 @@ impl Argument {
     }
 
     const fn value(self, charge: &Charge) -> Value {
-        let (value, bound) = (self.of(charge), self.bound());
-        match value {
-            0 => Value::Zero,
-            1 => Value::One,
-            u64::MAX => Value::Highest,
-            _ if value < bound => Value::Between,
-            _ if value == bound => Value::AtTheBound,
-            _ if value == bound + 1 => Value::OneBeyond,
-            _ => Value::Beyond,
-        }
+        Value::of(self.of(charge), self.bound(), u64::MAX)
     }
 
     fn in_range(self, charge: &Charge) -> bool {

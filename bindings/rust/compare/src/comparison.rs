@@ -3,7 +3,7 @@
 use std::fmt::{self, Debug, Write as _};
 use std::hint::black_box;
 
-use cases::{Charge, FIELDS};
+use cases::{Charge, Parting, Sharing, FIELDS, SHARE_PLACES};
 use kieselbrot::{Class, Completed, Message, Posted, Refusal};
 
 use crate::library::{Library, Reference};
@@ -106,6 +106,28 @@ impl Lent {
     fn difference(&self, other: &Self) -> Option<isize> {
         let place = (0..Self::AREA).find(|&place| self.area[place] != other.area[place])?;
         Some(place as isize - Self::GUARD as isize)
+    }
+}
+
+/// Places for shares to lend, amid others that nobody may touch.
+#[repr(C)]
+#[derive(Clone, Debug, PartialEq, Eq)]
+struct Places {
+    ahead: [u64; Self::GUARD],
+    lent: [u64; SHARE_PLACES],
+    behind: [u64; Self::GUARD],
+}
+
+impl Places {
+    const GUARD: usize = 6;
+
+    const fn new(lent: [u64; SHARE_PLACES]) -> Self {
+        let guard = [0xA5A5_A5A5_A5A5_A5A5; Self::GUARD];
+        Self {
+            ahead: guard,
+            lent,
+            behind: guard,
+        }
     }
 }
 
@@ -254,6 +276,39 @@ impl<'a, L: Library> Comparison<'a, L> {
         let answer = ask(self.library);
         same("charge", answer, ask(&Reference), || format!("{charge:?}"))?;
         self.reached.charge(charge, answer);
+        Ok(())
+    }
+
+    /// Asks for a part of a year.
+    pub fn part(&mut self, parting: &Parting) -> Outcome<()> {
+        let ask = |library: &dyn Library| library.part(parting.amount, parting.days, parting.year);
+        let answer = ask(self.library);
+        same("part", answer, ask(&Reference), || format!("{parting:?}"))?;
+        self.reached.part(parting, answer);
+        Ok(())
+    }
+
+    /// Asks for shares, in places with this content. Answers, places and those around
+    /// them must agree, and be as before after a refusal; the periods must stay.
+    pub fn shares(&mut self, sharing: &Sharing, before: &[u64; SHARE_PLACES]) -> Outcome<()> {
+        let input = || format!("{sharing:?}, places {before:?}");
+        let lent = black_box(sharing.clone());
+        let ask = |library: &dyn Library| {
+            let mut places = Places::new(*before);
+            let given = &mut black_box(&mut places).lent;
+            let answer = library.shares(lent.amount, lent.year, &lent.periods, given);
+            (answer, black_box(places))
+        };
+        let (answer, places) = ask(self.library);
+        let (expected, right) = ask(&Reference);
+        same("shares", answer, expected, input)?;
+        same("shares", &places, &right, input)?;
+        if answer.is_err() {
+            same("shares", &places, &Places::new(*before), input)?;
+        }
+        same("shares", black_box(&lent), sharing, input)?;
+        let made = answer.map(|()| places.lent);
+        self.reached.shares(sharing, before, made);
         Ok(())
     }
 

@@ -2,7 +2,7 @@
 
 use cases::{blanked, with_forms, Account, Basis, Code, Date, Document, Forms, Payer};
 use cases::{budget, message, sheets, Random, Text, Texts, FIELDS, STATUSES};
-use cases::{Charge, KOPECKS_MAX, RATE_MAX};
+use cases::{Charge, Parting, Sharing, KOPECKS_MAX, RATE_MAX, SHARE_PLACES, YEARS};
 use kieselbrot::{Class, Refusal};
 
 use crate::comparison::{same, Comparison, Difference, Lent};
@@ -301,4 +301,139 @@ pub fn charges<L: Library>(comparison: &mut Comparison<'_, L>) -> Outcome {
         }
     }
     Ok(())
+}
+
+/// Year lengths that matter besides the two.
+const OTHER_YEARS: [u32; 10] = [
+    0,
+    1,
+    2,
+    363,
+    364,
+    367,
+    368,
+    365 + (1 << 16),
+    u32::MAX - 1,
+    u32::MAX,
+];
+
+/// Parts: every day of both years, and two beyond, with the amounts that matter and
+/// those from 1 to 40; the highest numbers; other years.
+pub fn parts<L: Library>(comparison: &mut Comparison<'_, L>) -> Outcome {
+    for amount in KOPECKS.into_iter().chain(1..=40) {
+        for year in YEARS {
+            let beyond = [u32::MAX - 1, u32::MAX];
+            for days in (0..=year + 2).chain(beyond) {
+                comparison.part(&Parting { amount, days, year })?;
+            }
+        }
+    }
+    for amount in KOPECKS {
+        for year in OTHER_YEARS {
+            let days = [0, 1, 2, 31, 364, 365, 366, 367, u32::MAX - 1, u32::MAX];
+            for days in days.into_iter().chain([year]) {
+                comparison.part(&Parting { amount, days, year })?;
+            }
+        }
+    }
+    Ok(())
+}
+
+/// What the places held before.
+const HELD: [u64; SHARE_PLACES] = [0xEEEE_EEEE_EEEE_EEEE; SHARE_PLACES];
+
+/// Shares: every two periods of both years, and what is a day off; one to twenty periods,
+/// and each of them changed in every place; the amounts that matter, other years.
+pub fn shares<L: Library>(comparison: &mut Comparison<'_, L>) -> Outcome {
+    for year in YEARS {
+        for first in 0..=year + 1 {
+            for second in (year + 1).saturating_sub(first + 2)..=year + 1 - first {
+                for amount in [1, 1000, KOPECKS_MAX] {
+                    share(comparison, amount, year, &[first, second])?;
+                }
+            }
+        }
+        for count in 0..=20 {
+            for periods in lists(year, count) {
+                for amount in KOPECKS.into_iter().chain(1..=25) {
+                    share(comparison, amount, year, &periods)?;
+                }
+                changes(&periods).try_for_each(|periods| share(comparison, 7, year, &periods))?;
+            }
+        }
+    }
+    for year in OTHER_YEARS {
+        for count in 0..=13.min(year as usize) {
+            for periods in lists(year, count) {
+                share(comparison, 1000, year, &periods)?;
+            }
+        }
+        share(comparison, u64::MAX, year, &[u32::MAX; SHARE_PLACES])?;
+        share(comparison, 1000, year, &[0])?;
+    }
+    Ok(())
+}
+
+fn share<L: Library>(
+    comparison: &mut Comparison<'_, L>,
+    amount: u64,
+    year: u32,
+    periods: &[u32],
+) -> Outcome {
+    let sharing = Sharing {
+        amount,
+        year,
+        periods: periods.to_vec(),
+    };
+    comparison.shares(&sharing, &HELD)
+}
+
+/// So many periods that make the year: as equal as can be, the longest first, the longest
+/// last. None make none.
+fn lists(year: u32, count: usize) -> [Vec<u32>; 3] {
+    let many = count as u32;
+    let equal = (0..many).map(|place| year / many + u32::from(place < year % many));
+    let long = |longest| {
+        let days = move |place| if place == longest { year - many + 1 } else { 1 };
+        (0..many).map(days).collect()
+    };
+    [equal.collect(), long(0), long(many.wrapping_sub(1))]
+}
+
+/// The periods with one of them a day longer, a day shorter, its days given to the next
+/// one, 2^32 - 1, and with 2^32 more in it and the next one together; the last also in as
+/// many pairs as there are; the periods without the last.
+fn changes(periods: &[u32]) -> impl Iterator<Item = Vec<u32>> + '_ {
+    let count = periods.len();
+    let changed = move |place: usize, change: fn(&mut u32, &mut u32)| {
+        let mut changed = periods.to_vec();
+        let (mut one, mut other) = (changed[place], changed[(place + 1) % count]);
+        change(&mut one, &mut other);
+        changed[(place + 1) % count] = other;
+        changed[place] = one;
+        changed
+    };
+    let short = periods[..count.saturating_sub(1)].to_vec();
+    let mut again = periods.to_vec();
+    for pair in again.chunks_exact_mut(2) {
+        pair.iter_mut().for_each(|days| *days += 1 << 31);
+    }
+    (0..count)
+        .flat_map(move |place| {
+            [
+                changed(place, |one, _| *one += 1),
+                changed(place, |one, _| *one -= 1),
+                changed(place, |one, other| *other += std::mem::take(one)),
+                changed(place, |one, _| *one = u32::MAX),
+                changed(place, |one, other| {
+                    *other += 1 + *one;
+                    *one = u32::MAX;
+                }),
+                changed(place, |one, other| {
+                    *one += 1 << 31;
+                    *other += 1 << 31;
+                }),
+            ]
+        })
+        .chain([again, short])
 }

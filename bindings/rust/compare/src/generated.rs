@@ -1,7 +1,7 @@
 //! Generated cases, one after another.
 
 use cases::{accepted, blanked, budget, disturb, message, size_near, Random, Text, Texts, FIELDS};
-use cases::{charge, damaged_draft, damaged_message, damaged_sheet, Draft};
+use cases::{charge, damaged_draft, damaged_message, damaged_sheet, parting, sharing, Draft};
 
 use crate::comparison::{same, Comparison, Difference, Lent};
 use crate::library::Library;
@@ -11,7 +11,7 @@ type Outcome = Result<(), Difference>;
 
 /// One case: mostly one call, sometimes a list of them.
 pub fn case<L: Library>(comparison: &mut Comparison<'_, L>, random: &mut Random) -> Outcome {
-    match random.below(210) {
+    match random.below(226) {
         0..80 => check(comparison, random),
         80..100 => read(comparison, random),
         100..120 => write(comparison, random),
@@ -22,7 +22,13 @@ pub fn case<L: Library>(comparison: &mut Comparison<'_, L>, random: &mut Random)
         189..191 => complete_by_list(comparison, random),
         191..199 => streams::stream(comparison, random),
         199 => streams::arrangements(comparison, random, 4),
-        _ => comparison.charge(&charge(random)),
+        200..210 => comparison.charge(&charge(random)),
+        210..216 => comparison.part(&parting(random)),
+        _ => {
+            let sharing = sharing(random);
+            let before = std::array::from_fn(|_| random.number());
+            comparison.shares(&sharing, &before)
+        }
     }
 }
 

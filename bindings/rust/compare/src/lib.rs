@@ -13,10 +13,12 @@ mod exhaustive;
 mod fillings;
 mod generated;
 mod library;
+mod parts;
 mod planted;
 mod pretest;
 mod reached;
 mod run;
+mod shares;
 mod streams;
 
 pub use comparison::{Comparison, Difference};

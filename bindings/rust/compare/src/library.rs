@@ -1,9 +1,9 @@
 //! The library and the second implementation under one trait.
 
-use kieselbrot::{Broken, Class, Completed, Message, Posted, Refusal};
+use kieselbrot::{Broken, Class, Completed, Message, Part, Posted, Refusal, SHARE_PLACES};
 
-/// The seven functions of document 01, the test ahead of completion, and the bank's
-/// charge.
+/// The seven functions of document 01, the test ahead of completion, the bank's
+/// charge, and part of a year.
 pub trait Library: Sync {
     /// Checks a sheet.
     fn check(&self, sheet: &[u8]) -> Result<Class, Refusal>;
@@ -29,6 +29,16 @@ pub trait Library: Sync {
     fn complete(&self, draft: &[u8], sheet: &mut [u8]) -> Result<Completed, Refusal>;
     /// The bank's charge for an amount.
     fn charge(&self, amount: u64, rate: u64, least: u64, greatest: u64) -> Result<u64, Refusal>;
+    /// The part of a year's amount for so many days.
+    fn part(&self, amount: u64, days: u32, year: u32) -> Result<Part, Refusal>;
+    /// A year's amount shared among periods.
+    fn shares(
+        &self,
+        amount: u64,
+        year: u32,
+        periods: &[u32],
+        places: &mut [u64; SHARE_PLACES],
+    ) -> Result<(), Refusal>;
 }
 
 /// The proved library, as linked.
@@ -75,6 +85,20 @@ impl Library for Linked {
 
     fn charge(&self, amount: u64, rate: u64, least: u64, greatest: u64) -> Result<u64, Refusal> {
         kieselbrot::charge(amount, rate, least, greatest)
+    }
+
+    fn part(&self, amount: u64, days: u32, year: u32) -> Result<Part, Refusal> {
+        kieselbrot::part(amount, days, year)
+    }
+
+    fn shares(
+        &self,
+        amount: u64,
+        year: u32,
+        periods: &[u32],
+        places: &mut [u64; SHARE_PLACES],
+    ) -> Result<(), Refusal> {
+        kieselbrot::shares_into(amount, year, periods, places)
     }
 }
 
@@ -139,6 +163,28 @@ impl Library for Reference {
     fn charge(&self, amount: u64, rate: u64, least: u64, greatest: u64) -> Result<u64, Refusal> {
         reference::charge(amount, rate, least, greatest).map_err(refusal)
     }
+
+    fn part(&self, amount: u64, days: u32, year: u32) -> Result<Part, Refusal> {
+        let reference::Part {
+            quotient,
+            remainder,
+        } = reference::part(amount, days, year).map_err(refusal)?;
+        Ok(Part {
+            kopecks: quotient,
+            remainder,
+        })
+    }
+
+    fn shares(
+        &self,
+        amount: u64,
+        year: u32,
+        periods: &[u32],
+        places: &mut [u64; SHARE_PLACES],
+    ) -> Result<(), Refusal> {
+        *places = reference::shares(amount, year, periods).map_err(refusal)?;
+        Ok(())
+    }
 }
 
 const fn class(class: reference::Class) -> Class {
@@ -177,5 +223,6 @@ const fn refusal(refusal: reference::Refusal) -> Refusal {
             count: count as usize,
         },
         reference::Refusal::Tariff => Refusal::Tariff,
+        reference::Refusal::YearPart => Refusal::YearPart,
     }
 }

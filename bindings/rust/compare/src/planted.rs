@@ -1,7 +1,7 @@
 //! Differences planted on purpose: each must be found.
 
-use cases::{inn_remainder, slot_of, snils_remainder, Text, Texts, KOPECKS_MAX, RATE_MAX};
-use kieselbrot::{Broken, Class, Completed, Message, Posted, Refusal};
+use cases::{inn_remainder, slot_of, snils_remainder, Text, Texts, KOPECKS_MAX, RATE_MAX, YEARS};
+use kieselbrot::{Broken, Class, Completed, Message, Part, Posted, Refusal, SHARE_PLACES};
 
 use crate::library::{Library, Reference};
 
@@ -70,10 +70,26 @@ pub enum Planted {
     EqualLimits,
     /// A charge below the least is not raised.
     NotRaised,
+    /// A part for all days of a year is refused.
+    WholeYear,
+    /// Of a part for a leap year the remainder is by 365.
+    RemainderBy365,
+    /// Each share is by itself, without what the ones before it left.
+    ShareByItself,
+    /// Places past the last period are not written.
+    PastNotWritten,
+    /// A period of 0 days is taken.
+    Period0,
+    /// 13 periods are taken, the last two as one.
+    Periods13,
+    /// The sum of the periods wraps in 32 bits.
+    SumWraps,
+    /// Refused shares clear the places.
+    PlacesCleared,
 }
 
 /// All of them.
-pub const PLANTS: [Planted; 31] = [
+pub const PLANTS: [Planted; 39] = [
     Planted::Century,
     Planted::Status01,
     Planted::Without03252,
@@ -105,6 +121,14 @@ pub const PLANTS: [Planted; 31] = [
     Planted::GreatestAmount,
     Planted::EqualLimits,
     Planted::NotRaised,
+    Planted::WholeYear,
+    Planted::RemainderBy365,
+    Planted::ShareByItself,
+    Planted::PastNotWritten,
+    Planted::Period0,
+    Planted::Periods13,
+    Planted::SumWraps,
+    Planted::PlacesCleared,
 ];
 
 impl Planted {
@@ -218,6 +242,28 @@ fn breaks_27(draft: &[u8]) -> bool {
         10 => !kpp && !matches!(text(&sheet, 101), b"" | b"01"),
         5 => !kpp,
         _ => false,
+    }
+}
+
+impl Planted {
+    /// The periods that changed shares see in place of these.
+    fn seen_periods(self, year: u32, periods: &[u32]) -> Vec<u32> {
+        let mut seen = periods.to_vec();
+        match self {
+            Self::Period0 => seen.retain(|&days| days != 0),
+            Self::Periods13 if seen.len() == 13 => {
+                let last = seen.pop().unwrap_or_default();
+                seen[11] = seen[11].wrapping_add(last);
+            }
+            Self::SumWraps if YEARS.contains(&year) && (1..=12).contains(&seen.len()) => {
+                let sum = seen.iter().fold(0_u32, |sum, &days| sum.wrapping_add(days));
+                if sum == year && !seen.contains(&0) && seen.iter().any(|&days| days > year) {
+                    seen = vec![year];
+                }
+            }
+            _ => {}
+        }
+        seen
     }
 }
 
@@ -347,5 +393,42 @@ impl Library for Planted {
             Self::NotRaised => Ok(rounded(5_000).min(greatest)),
             _ => Ok(charge),
         }
+    }
+    fn part(&self, amount: u64, days: u32, year: u32) -> Result<Part, Refusal> {
+        let part = Reference.part(amount, days, year)?;
+        match self {
+            Self::WholeYear if days == year => Err(Refusal::YearPart),
+            Self::RemainderBy365 => Ok(Part {
+                remainder: (amount * u64::from(days) % 365) as u32,
+                ..part
+            }),
+            _ => Ok(part),
+        }
+    }
+
+    fn shares(
+        &self,
+        amount: u64,
+        year: u32,
+        periods: &[u32],
+        places: &mut [u64; SHARE_PLACES],
+    ) -> Result<(), Refusal> {
+        let before = *places;
+        let seen = self.seen_periods(year, periods);
+        let answer = Reference.shares(amount, year, &seen, places);
+        match (self, answer) {
+            (Self::ShareByItself, Ok(())) => {
+                for (place, &days) in places.iter_mut().zip(periods) {
+                    *place = amount * u64::from(days) / u64::from(year);
+                }
+            }
+            (Self::PastNotWritten, Ok(())) => {
+                let past = periods.len();
+                places[past..].copy_from_slice(&before[past..]);
+            }
+            (Self::PlacesCleared, Err(_)) => places.fill(0),
+            _ => {}
+        }
+        answer
     }
 }

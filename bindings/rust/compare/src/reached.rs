@@ -3,11 +3,13 @@
 use std::collections::BTreeMap;
 use std::fmt;
 
-use cases::{Charge, BASES, CLASS_A, CLASS_B, STATUSES};
-use kieselbrot::{Class, Completed, Posted, Refusal};
+use cases::{Charge, Parting, Sharing, BASES, CLASS_A, CLASS_B, SHARE_PLACES, STATUSES};
+use kieselbrot::{Class, Completed, Part, Posted, Refusal};
 
 use crate::charges::{self, Charged};
+use crate::parts::{self, Parted};
 use crate::pretest::{Tested, NAMED};
+use crate::shares::{self, Shared};
 
 /// How often each thing was reached. What a thing is called is part of the
 /// report: "check 8", "rule 27", "status 04 in class A".
@@ -29,6 +31,8 @@ pub struct Reached {
     named: BTreeMap<(u8, u8), u64>,
     unnamed: BTreeMap<u8, u64>,
     charges: BTreeMap<Charged, u64>,
+    parts: BTreeMap<Parted, u64>,
+    shares: BTreeMap<Shared, u64>,
 }
 
 /// What the first nine of a pension number's eleven digits are to rule 35.
@@ -123,7 +127,7 @@ enum Accepted {
 }
 
 /// The numbers that each function returns.
-const ANSWERS: [(&str, &[u8]); 9] = [
+const ANSWERS: [(&str, &[u8]); 11] = [
     ("check", &[0, 1, 8]),
     ("read", &[0, 2, 3, 4, 5]),
     ("write", &[0, 2, 4, 5, 7]),
@@ -133,6 +137,8 @@ const ANSWERS: [(&str, &[u8]); 9] = [
     ("pretest", &[0, 1, 8, 9]),
     ("complete", &[0, 1, 7, 8, 9, 10]),
     ("charge", &[0, 14]),
+    ("part", &[0, 15]),
+    ("shares", &[0, 15]),
 ];
 
 /// The field that each rule names; rule 6 names twelve.
@@ -353,6 +359,27 @@ impl Reached {
         }
     }
 
+    /// A part of a year.
+    pub fn part(&mut self, parting: &Parting, answer: Result<Part, Refusal>) {
+        self.answer("part", answer);
+        for what in parts::reached(parting, answer) {
+            *self.parts.entry(what).or_default() += 1;
+        }
+    }
+
+    /// Shares, in places that held something before.
+    pub fn shares(
+        &mut self,
+        sharing: &Sharing,
+        before: &[u64; SHARE_PLACES],
+        answer: Result<[u64; SHARE_PLACES], Refusal>,
+    ) {
+        self.answer("shares", answer);
+        for what in shares::reached(sharing, before, answer) {
+            *self.shares.entry(what).or_default() += 1;
+        }
+    }
+
     /// Adds what another comparison reached.
     pub fn add(&mut self, other: &Self) {
         self.calls += other.calls;
@@ -369,6 +396,8 @@ impl Reached {
         add(&mut self.named, &other.named);
         add(&mut self.unnamed, &other.unnamed);
         add(&mut self.charges, &other.charges);
+        add(&mut self.parts, &other.parts);
+        add(&mut self.shares, &other.shares);
         for (sum, more) in self.standings.iter_mut().zip(other.standings) {
             *sum += more;
         }
@@ -425,6 +454,12 @@ impl Reached {
         list.push((format!("{sets} of 1024 sets of blanks"), sets / 1024));
         for what in charges::all() {
             list.push((format!("a charge: {what}"), get(&self.charges, what)));
+        }
+        for what in parts::all() {
+            list.push((format!("a part: {what}"), get(&self.parts, what)));
+        }
+        for what in shares::all() {
+            list.push((format!("shares: {what}"), get(&self.shares, what)));
         }
         list
     }

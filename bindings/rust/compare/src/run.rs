@@ -106,6 +106,8 @@ enum Piece {
     Places,
     Messages,
     Charges,
+    Parts,
+    Shares,
     Arrangements,
     Blanks(usize),
     Forms(usize),
@@ -158,7 +160,8 @@ impl Run {
         let mut pieces = Vec::new();
         if self.exhaustive {
             pieces.extend([Piece::Table, Piece::Sizes, Piece::Places, Piece::Messages]);
-            pieces.extend([Piece::Charges, Piece::Arrangements]);
+            pieces.extend([Piece::Charges, Piece::Parts, Piece::Shares]);
+            pieces.push(Piece::Arrangements);
             pieces.extend(generated.by_ref().take(10));
             pieces.extend((0..exhaustive::BLANK_PARTS).map(Piece::Blanks));
             pieces.extend((0..exhaustive::FORM_PARTS).map(Piece::Forms));
@@ -179,6 +182,8 @@ impl Run {
             Piece::Places => exhaustive::places(comparison),
             Piece::Messages => exhaustive::messages(comparison),
             Piece::Charges => exhaustive::charges(comparison),
+            Piece::Parts => exhaustive::parts(comparison),
+            Piece::Shares => exhaustive::shares(comparison),
             Piece::Arrangements => (1..=6)
                 .try_for_each(|size| streams::arrangements(comparison, &mut random(size), size)),
             Piece::Blanks(part) => exhaustive::blanks(comparison, &mut random(100 + part), part),

@@ -57,6 +57,17 @@ pub struct Completed {
     pub ones: u32,
 }
 
+/// A part of a year's amount: kopecks times year plus remainder is amount times days
+/// exactly.
+#[derive(Clone, Copy, Debug, PartialEq, Eq, Hash)]
+pub struct Part {
+    /// The whole kopecks.
+    pub kopecks: u64,
+    /// What is left of a kopeck, in parts of which the year's length makes one: below
+    /// that length.
+    pub remainder: u32,
+}
+
 /// An answer other than success. A refusal changes no buffer.
 #[derive(Clone, Copy, Debug, PartialEq, Eq, Hash)]
 pub enum Refusal {
@@ -93,6 +104,11 @@ pub enum Refusal {
     /// 14: for [`charge`](crate::charge()), an argument is out of range or the least
     /// is above the greatest.
     Tariff,
+    /// 15: for [`part`](crate::part()) and [`shares`](crate::shares()), the amount is
+    /// out of range or the year not of 365 or 366 days; for a part, the days are outside
+    /// 1 to the year; for shares, there are not 1 to 12 periods, one is of 0 days, or they
+    /// do not sum to the year.
+    YearPart,
     /// An answer that the library of this version never gives: another library
     /// is linked.
     Unknown {
@@ -117,6 +133,7 @@ impl Refusal {
             Self::Ordinary => 9,
             Self::NoFilling { .. } => 10,
             Self::Tariff => 14,
+            Self::YearPart => 15,
             Self::Unknown { number } => *number,
         }
     }
@@ -133,6 +150,7 @@ impl Refusal {
             7 => Self::Output,
             9 => Self::Ordinary,
             14 => Self::Tariff,
+            15 => Self::YearPart,
             _ => Self::Unknown { number },
         }
     }
@@ -278,17 +296,32 @@ impl From<ffi::Charge> for Result<u64, Refusal> {
     }
 }
 
+impl From<ffi::Part> for Result<Part, Refusal> {
+    fn from(answer: ffi::Part) -> Self {
+        let ffi::Part {
+            number,
+            remainder,
+            kopecks,
+        } = answer;
+        match (number, kopecks, remainder) {
+            (0, 0..=KOPECKS_MAX, 0..=365) => Ok(Part { kopecks, remainder }),
+            (number, 0, 0) => Err(Refusal::plain(number)),
+            _ => Err(Refusal::Unknown { number }),
+        }
+    }
+}
+
 #[cfg(test)]
 mod tests {
     use super::*;
 
     #[test]
     fn numbers_are_those_of_the_table() {
-        for number in (1..=7).chain([9, 14]) {
+        for number in (1..=7).chain([9, 14, 15]) {
             assert_eq!(Refusal::plain(number).number(), number);
             assert!(!matches!(Refusal::plain(number), Refusal::Unknown { .. }));
         }
-        for number in [0, 8, 10, 11, 12, 13, 15, 255] {
+        for number in [0, 8, 10, 11, 12, 13, 16, 255] {
             assert_eq!(Refusal::plain(number), Refusal::Unknown { number });
         }
         let broken = Refusal::Broken {
@@ -302,6 +335,7 @@ mod tests {
         let none = Refusal::NoFilling { count: 1056 };
         assert_eq!((none.number(), none.to_string().as_str()), (10, "10 1056"));
         assert_eq!(Refusal::Tariff.to_string(), "14");
+        assert_eq!(Refusal::YearPart.to_string(), "15");
     }
 
     #[test]
@@ -364,8 +398,35 @@ mod tests {
             assert_eq!(charge(0, kopecks), Ok(kopecks));
         }
         assert_eq!(charge(14, 0), Err(Refusal::Tariff));
-        for (number, kopecks) in [(0, KOPECKS_MAX + 1), (14, 1), (15, 0)] {
+        for (number, kopecks) in [(0, KOPECKS_MAX + 1), (14, 1), (16, 0)] {
             assert_eq!(charge(number, kopecks), Err(Refusal::Unknown { number }));
+        }
+    }
+
+    #[test]
+    fn a_part_is_kopecks_with_a_remainder_or_15() {
+        let part = |number, kopecks, remainder| {
+            Result::<Part, Refusal>::from(ffi::Part {
+                number,
+                remainder,
+                kopecks,
+            })
+        };
+        for (kopecks, remainder) in [(0, 1), (84, 340), (KOPECKS_MAX, 0), (1, 365)] {
+            assert_eq!(part(0, kopecks, remainder), Ok(Part { kopecks, remainder }));
+        }
+        assert_eq!(part(15, 0, 0), Err(Refusal::YearPart));
+        for (number, kopecks, remainder) in [
+            (0, KOPECKS_MAX + 1, 0),
+            (0, 0, 366),
+            (15, 1, 0),
+            (15, 0, 1),
+            (16, 0, 0),
+        ] {
+            assert_eq!(
+                part(number, kopecks, remainder),
+                Err(Refusal::Unknown { number })
+            );
         }
     }
 

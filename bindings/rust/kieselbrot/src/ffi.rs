@@ -3,6 +3,8 @@
 //! The functions are total: a slice of any length may be lent, and no byte
 //! outside it is touched.
 
+use crate::SHARE_PLACES;
+
 /// The answer of a check.
 #[repr(C)]
 #[derive(Clone, Copy)]
@@ -70,6 +72,15 @@ pub struct Charge {
     pub kopecks: u64,
 }
 
+/// The answer of a part of a year.
+#[repr(C)]
+#[derive(Clone, Copy)]
+pub struct Part {
+    pub number: u8,
+    pub remainder: u32,
+    pub kopecks: u64,
+}
+
 // The sizes that bindings/c/kieselbrot.h has.
 const _: () = assert!(size_of::<Check>() == 4);
 const _: () = assert!(size_of::<Read>() == 24);
@@ -78,6 +89,7 @@ const _: () = assert!(size_of::<Post>() == 2);
 const _: () = assert!(size_of::<Pretest>() == 3);
 const _: () = assert!(size_of::<Complete>() == 24);
 const _: () = assert!(size_of::<Charge>() == 16);
+const _: () = assert!(size_of::<Part>() == 16);
 
 extern "C" {
     fn kieselbrot_check(sheet: *const u8, sheet_len: usize) -> Check;
@@ -106,12 +118,21 @@ extern "C" {
         sheet_len: usize,
     ) -> Complete;
     fn kieselbrot_charge(amount: u64, rate: u64, least: u64, greatest: u64) -> Charge;
+    fn kieselbrot_part(amount: u64, days: u32, year: u32) -> Part;
+    fn kieselbrot_shares(
+        amount: u64,
+        year: u32,
+        periods: *const u32,
+        periods_len: usize,
+        shares: *mut [u64; SHARE_PLACES],
+    ) -> u8;
 }
 
 // SAFETY, for each call below: pointer and length come from one slice, which is
 // valid for as long as the call lasts; what is written through is borrowed
-// mutably, so that no other argument overlaps it; the library keeps no pointer. A
-// number may be any.
+// mutably, so that no other argument overlaps it; the library keeps no pointer. The
+// places for shares are an array of as many as the library writes. A number may be
+// any.
 
 pub fn check(sheet: &[u8]) -> Check {
     unsafe { kieselbrot_check(sheet.as_ptr(), sheet.len()) }
@@ -163,4 +184,12 @@ pub fn complete(draft: &[u8], sheet: &mut [u8]) -> Complete {
 
 pub fn charge(amount: u64, rate: u64, least: u64, greatest: u64) -> Charge {
     unsafe { kieselbrot_charge(amount, rate, least, greatest) }
+}
+
+pub fn part(amount: u64, days: u32, year: u32) -> Part {
+    unsafe { kieselbrot_part(amount, days, year) }
+}
+
+pub fn shares(amount: u64, year: u32, periods: &[u32], shares: &mut [u64; SHARE_PLACES]) -> u8 {
+    unsafe { kieselbrot_shares(amount, year, periods.as_ptr(), periods.len(), shares) }
 }

@@ -1,5 +1,5 @@
 //! Budget payment orders under 107n: field messages, the draft, the rules,
-//! completion, and the bank's charge.
+//! completion, the bank's charge, and part of a year.
 //!
 //! This crate is a thin, safe layer over a library whose code is proved: each
 //! function's answer, and every buffer that it was lent, equals a definition, for
@@ -56,7 +56,7 @@ mod ffi;
 mod fillings;
 pub mod words;
 
-pub use answers::{Broken, Class, Completed, Message, Posted, Refusal};
+pub use answers::{Broken, Class, Completed, Message, Part, Posted, Refusal};
 
 /// The numbers of the fifteen fields, in the order of their slots.
 pub const FIELDS: [u8; 15] = [
@@ -93,6 +93,9 @@ pub const KOPECKS_MAX: u64 = 1_000_000_000_000;
 
 /// The greatest rate, in hundredths of a percent: the whole amount.
 pub const RATE_MAX: u64 = 10_000;
+
+/// How many places for shares there are: the greatest number of periods.
+pub const SHARE_PLACES: usize = 12;
 
 const _: () = assert!(SHEET_SIZE == FIELDS.len() * SHEET_SLOT_SIZE);
 const _: () = assert!(DRAFT_SIZE == FIELDS.len() * DRAFT_SLOT_SIZE);
@@ -225,4 +228,93 @@ pub fn complete(draft: &[u8], sheet: &mut [u8]) -> Result<Completed, Refusal> {
 #[inline]
 pub fn charge(amount: u64, rate: u64, least: u64, greatest: u64) -> Result<u64, Refusal> {
     ffi::charge(amount, rate, least, greatest).into()
+}
+
+/// The part of a year's amount for so many days: amount times days over the year's
+/// length, in whole kopecks, with the remainder.
+///
+/// The amount is 1 to [`KOPECKS_MAX`], the year 365 or 366 days long, the days 1 to
+/// that length.
+///
+/// # Errors
+///
+/// [`Refusal::YearPart`] if one of these is otherwise.
+///
+/// # Examples
+///
+/// ```
+/// use kieselbrot::{part, Part, Refusal};
+///
+/// let (kopecks, remainder) = (84, 340);
+/// assert_eq!(part(1_000, 31, 365), Ok(Part { kopecks, remainder }));
+/// assert_eq!(kopecks * 365 + u64::from(remainder), 1_000 * 31);
+/// assert_eq!(part(1_000, 366, 365), Err(Refusal::YearPart));
+/// ```
+#[inline]
+pub fn part(amount: u64, days: u32, year: u32) -> Result<Part, Refusal> {
+    ffi::part(amount, days, year).into()
+}
+
+/// A year's amount shared among periods, given by their days.
+///
+/// The first k shares sum to the whole kopecks of the part for the days of the first k
+/// periods, and all of them to the amount; places past the last period are 0. The
+/// amount is 1 to [`KOPECKS_MAX`], the year 365 or 366 days long; there are 1 to
+/// [`SHARE_PLACES`] periods, of at least one day each, that sum to the year.
+///
+/// # Errors
+///
+/// [`Refusal::YearPart`] if one of these is otherwise.
+///
+/// # Examples
+///
+/// Ten months and two, then the twelve months:
+///
+/// ```
+/// use kieselbrot::{shares, Refusal};
+///
+/// # fn main() -> Result<(), Refusal> {
+/// let [first, second, rest @ ..] = shares(1_000, 365, &[306, 59])?;
+/// assert_eq!((first, second, rest), (838, 162, [0; 10]));
+///
+/// let months = [31, 28, 31, 30, 31, 30, 31, 31, 30, 31, 30, 31];
+/// let by_months = shares(1_000, 365, &months)?;
+/// assert_eq!(by_months, [84, 77, 85, 82, 85, 82, 85, 85, 82, 85, 83, 85]);
+/// assert_eq!(by_months.iter().sum::<u64>(), 1_000);
+/// assert_eq!(shares(1_000, 366, &months), Err(Refusal::YearPart));
+/// # Ok(())
+/// # }
+/// ```
+#[inline]
+pub fn shares(amount: u64, year: u32, periods: &[u32]) -> Result<[u64; SHARE_PLACES], Refusal> {
+    let mut shares = [0; SHARE_PLACES];
+    shares_into(amount, year, periods, &mut shares)?;
+    Ok(shares)
+}
+
+/// As [`shares`](shares()), into places that are lent, whatever they held.
+///
+/// # Errors
+///
+/// [`Refusal::YearPart`], as there; the places are then as they were.
+///
+/// # Examples
+///
+/// ```
+/// use kieselbrot::{shares_into, Refusal};
+///
+/// let mut places = [9; kieselbrot::SHARE_PLACES];
+/// let answer = shares_into(1_000, 365, &[365, 0], &mut places);
+/// assert_eq!((answer, places), (Err(Refusal::YearPart), [9; 12]));
+/// let answer = shares_into(1_000, 365, &[365], &mut places);
+/// assert_eq!((answer, places[0], places[1]), (Ok(()), 1_000, 0));
+/// ```
+#[inline]
+pub fn shares_into(
+    amount: u64,
+    year: u32,
+    periods: &[u32],
+    places: &mut [u64; SHARE_PLACES],
+) -> Result<(), Refusal> {
+    answers::number(ffi::shares(amount, year, periods, places))
 }

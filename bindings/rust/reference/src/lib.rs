@@ -1,13 +1,13 @@
 //! Budget payment orders under 107n: field messages, the draft, the rules,
 //! completion and the test ahead of it, the message writer, the report of one
-//! program and the bank's charge.
+//! program, the bank's charge and the part of a year.
 //!
 //! This is a second implementation, written from the paper "Budget payment
 //! orders under 107n: draft, check and completion" and its change requests
 //! alone. Doc comments quote the sentence of the paper or the request they
 //! follow. Of the requests it has R-1 (pension numbers), R-2 (letters in a KPP),
 //! R-3 (a test ahead of the search), R-4 (check digits of the INN), R-5 (rule
-//! 22 ahead of rule 21) and R-10 (the bank's charge).
+//! 22 ahead of rule 21), R-10 (the bank's charge) and R-11 (part of a year).
 //!
 //! Every public function is total, and "Refusals change no buffer".
 
@@ -19,6 +19,7 @@ mod completion;
 mod draft;
 mod field;
 mod message;
+mod part;
 mod pretest;
 mod program;
 mod refusal;
@@ -29,6 +30,7 @@ pub use charge::charge;
 pub use completion::{complete, Completed};
 pub use draft::{copy, fresh, post, Posted};
 pub use message::{read, write, Message};
+pub use part::{part, shares, Part};
 pub use pretest::pretest;
 pub use program::report;
 pub use refusal::{Broken, Refusal};

@@ -53,6 +53,10 @@ pub enum Refusal {
     },
     /// 14: "an argument out of range or a least above the greatest".
     Tariff,
+    /// 15: "a year length other than 365 or 366, days outside 1 to that length, 0
+    /// or over 12 periods, periods not summing to the year, or an amount out of
+    /// range".
+    YearPart,
 }
 
 impl Refusal {
@@ -71,6 +75,7 @@ impl Refusal {
             Self::Ordinary => 9,
             Self::NoFilling { .. } => 10,
             Self::Tariff => 14,
+            Self::YearPart => 15,
         }
     }
 }
