@@ -1,7 +1,8 @@
 /* A small order: its messages are written, posted in the order of their arrival,
  * tested and completed, and the sheet is printed; then the bank's charge for a few
- * amounts, parts of a year, and a year's amount shared among its months. The program
- * checks its own results and returns 1 if one is not as expected. */
+ * amounts, parts of a year, a year's amount shared among its months, and the pooled
+ * lines of a register. The program checks its own results and returns 1 if one is not
+ * as expected. */
 
 #include <inttypes.h>
 #include <stdio.h>
@@ -17,9 +18,11 @@ _Static_assert(sizeof(kieselbrot_pretest_answer) == 3, "the answers' layout");
 _Static_assert(sizeof(kieselbrot_complete_answer) == 24, "the answers' layout");
 _Static_assert(sizeof(kieselbrot_charge_answer) == 16, "the answers' layout");
 _Static_assert(sizeof(kieselbrot_part_answer) == 16, "the answers' layout");
+_Static_assert(sizeof(kieselbrot_pool_answer) == 24, "the answers' layout");
 
 _Static_assert(KIESELBROT_SHEET_SIZE == KIESELBROT_FIELDS * KIESELBROT_SHEET_SLOT_SIZE, "a sheet");
 _Static_assert(KIESELBROT_DRAFT_SIZE == KIESELBROT_FIELDS * KIESELBROT_DRAFT_SLOT_SIZE, "a draft");
+_Static_assert(KIESELBROT_POOL_SIZE == KIESELBROT_LINES_MAX * KIESELBROT_LINE_SIZE, "the output");
 _Static_assert(KIESELBROT_MESSAGE_MAX == KIESELBROT_MESSAGE_HEAD_SIZE + KIESELBROT_TEXT_MAX,
                "a message");
 
@@ -260,6 +263,62 @@ static void ask_shares(void)
         expect(shares[i] == 0, "a place past the last period");
 }
 
+/* Writes a line of a register. */
+static void put_line(uint8_t *line, const char *inn, uint64_t kopecks)
+{
+    memcpy(line, inn, 12);
+    for (int i = 0; i < 8; i++)
+        line[12 + i] = (uint8_t)(kopecks >> (56 - 8 * i));
+}
+
+/* Three lines of two persons, an order that is a kopeck more, and what is refused. */
+static void ask_pool(void)
+{
+    static const char a[] = "781023456779", b[] = "123456789047", wrong[] = "781023456789";
+    static uint8_t output[KIESELBROT_POOL_SIZE], before[KIESELBROT_POOL_SIZE];
+    uint8_t lines[3 * KIESELBROT_LINE_SIZE], pooled[2 * KIESELBROT_LINE_SIZE];
+    kieselbrot_pool_answer pool;
+
+    put_line(lines, a, 5);
+    put_line(lines + KIESELBROT_LINE_SIZE, b, 7);
+    put_line(lines + 2 * KIESELBROT_LINE_SIZE, a, 1);
+    put_line(pooled, a, 6);
+    put_line(pooled + KIESELBROT_LINE_SIZE, b, 7);
+    memset(output, 0xEE, sizeof output);
+    memcpy(before, output, sizeof before);
+
+    pool = kieselbrot_pool(lines, sizeof lines, 14, output, sizeof output);
+    printf("register of 13, order of 14: number %d, difference %" PRId64 "\n", pool.number,
+           pool.difference);
+    expect(pool.number == KIESELBROT_DISCREPANCY && pool.difference == -1 && pool.lines == 0,
+           "an order that differs");
+    expect(kieselbrot_pool(lines, sizeof lines, 0, output, sizeof output).number ==
+                   KIESELBROT_REGISTER &&
+               kieselbrot_pool(lines, sizeof lines - 1, 13, output, sizeof output).number ==
+                   KIESELBROT_REGISTER &&
+               kieselbrot_pool(lines, 0, 13, output, sizeof output).number ==
+                   KIESELBROT_REGISTER &&
+               kieselbrot_pool(lines, sizeof lines, 13, output, sizeof output - 1).number ==
+                   KIESELBROT_OUTPUT,
+           "registers that are refused");
+    expect(memcmp(output, before, sizeof output) == 0, "the output after a refusal");
+
+    pool = kieselbrot_pool(lines, sizeof lines, 13, output, sizeof output);
+    printf("register of 13, order of 13: number %d, %d pooled lines\n", pool.number,
+           (int)pool.lines);
+    expect(pool.number == KIESELBROT_OK && pool.lines == 2 && pool.difference == 0,
+           "pooled lines");
+    expect(memcmp(output, pooled, sizeof pooled) == 0, "what the pooled lines are");
+    expect(memcmp(output + sizeof pooled, before + sizeof pooled,
+                  sizeof output - sizeof pooled) == 0,
+           "the output past the pooled lines");
+
+    put_line(lines + KIESELBROT_LINE_SIZE, wrong, 7);
+    expect(kieselbrot_pool(lines, sizeof lines, 13, output, sizeof output).number ==
+               KIESELBROT_REGISTER,
+           "a wrong check digit");
+}
+
 int main(void)
 {
     uint8_t draft[KIESELBROT_DRAFT_SIZE];
@@ -293,6 +352,7 @@ int main(void)
     ask_charges();
     ask_parts();
     ask_shares();
+    ask_pool();
 
     return failures != 0;
 }

@@ -1,5 +1,5 @@
 /* Budget payment orders under 107n: field messages, the draft, the rules,
- * completion, the bank's charge, and part of a year.
+ * completion, the bank's charge, part of a year, and the register of an order.
  *
  * The functions are proved: each one's answer, and every buffer that it is lent,
  * equals a definition, for all inputs. They are total: buffers of any length may
@@ -29,6 +29,10 @@
  *   draft         slot i at 30 * i:
  *                 0  4 bytes   the revision, 0 = never given
  *                 4  26 bytes  as in a sheet
+ *
+ *   register      line i at 20 * i:
+ *                 0  12 bytes  the INN, 12 digits
+ *                12  8 bytes   the kopecks
  *
  * A sheet or draft is malformed if it has another size, a length above 25 or a
  * byte behind a text that is not zero; a draft also if a slot has revision 0 and
@@ -72,6 +76,17 @@ extern "C" {
 /* How many places for shares there are: the greatest number of periods. */
 #define KIESELBROT_SHARE_PLACES 12
 
+/* The size of a register's line, and the greatest number of lines. */
+#define KIESELBROT_LINE_SIZE 20
+#define KIESELBROT_LINES_MAX 500
+
+/* The least size of the output for pooled lines: as many places as a register can
+ * have lines. */
+#define KIESELBROT_POOL_SIZE 10000
+
+/* The greatest amount of an order with a register, in kopecks. */
+#define KIESELBROT_ORDER_MAX UINT64_C(1000000000000000)
+
 /* The numbers of the answers, in the order in which they are tested. */
 enum {
     KIESELBROT_OK = 0,
@@ -82,16 +97,21 @@ enum {
     KIESELBROT_UNKNOWN_FIELD = 4, /* field not listed */
     KIESELBROT_REVISION_ZERO = 5, /* revision 0 */
     KIESELBROT_CLASH = 6,         /* equal revision, other text */
-    KIESELBROT_OUTPUT = 7,        /* a sheet not of 390, a message buffer too short */
+    KIESELBROT_OUTPUT = 7,        /* a sheet not of 390, a message buffer too short; for pool, an
+                                     output under 10,000 */
     KIESELBROT_BROKEN = 8,        /* a broken rule; in completion and its pretest only 1 to 3 */
     KIESELBROT_ORDINARY = 9,      /* completion or pretest of class O */
     KIESELBROT_NO_FILLING = 10,   /* no filling keeps the rules */
     KIESELBROT_TARIFF = 14,       /* for charge, an argument out of range or a least above the
                                      greatest */
-    KIESELBROT_YEAR_PART = 15     /* for part and shares, an amount out of range or a year not of
+    KIESELBROT_YEAR_PART = 15,    /* for part and shares, an amount out of range or a year not of
                                      365 or 366 days; for part, days outside 1 to the year; for
                                      shares, not 1 to 12 periods, a period of 0 days, or periods
                                      that do not sum to the year */
+    KIESELBROT_REGISTER = 16,     /* for pool, a register not of 1 to 500 whole lines, a line whose
+                                     INN is none or whose kopecks are out of range, or an order's
+                                     amount out of range */
+    KIESELBROT_DISCREPANCY = 17   /* for pool, the register's total is not the order's amount */
 };
 
 /* The answer of a check. */
@@ -160,6 +180,13 @@ typedef struct {
     uint64_t kopecks;   /* the whole kopecks */
 } kieselbrot_part_answer;
 
+/* The answer of pooling a register. */
+typedef struct {
+    uint8_t number;     /* 0, 7, 16 or 17 */
+    size_t lines;       /* how many pooled lines stand at the output's start, 1 to 500 */
+    int64_t difference; /* with 17: the register's total less the order's amount */
+} kieselbrot_pool_answer;
+
 /* Checks a sheet against the rules, in their order, and tells its class. */
 kieselbrot_check_answer kieselbrot_check(const uint8_t *sheet, size_t sheet_len);
 
@@ -212,6 +239,15 @@ kieselbrot_part_answer kieselbrot_part(uint64_t amount, uint32_t days, uint32_t 
  * places are written, or none. Returns the number. */
 uint8_t kieselbrot_shares(uint64_t amount, uint32_t year, const uint32_t *periods,
                           size_t periods_len, uint64_t shares[KIESELBROT_SHARE_PLACES]);
+
+/* Pools the lines of an order's register: those of one INN become one line with their
+ * sum, in the order of first appearance, at the start of the output; the rest of the
+ * output is left. The register has 1 to 500 lines, each with an INN of 12 digits, whose
+ * check digits are right, and 1 to 10^12 kopecks; the order's amount is 1 to 10^15 kopecks
+ * and the register's total. The output has at least 10,000 bytes, however few lines
+ * there are. */
+kieselbrot_pool_answer kieselbrot_pool(const uint8_t *register_, size_t register_len,
+                                       uint64_t amount, uint8_t *output, size_t output_len);
 
 #ifdef __cplusplus
 }

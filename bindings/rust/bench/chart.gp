@@ -1,8 +1,8 @@
 # gnuplot -c chart.gp TABLE.md CHART.svg draws the ratios of the first table and the growth with the fillings.
-rows = "< grep -E '(reached|missed) [|]$' '".ARG1."'"
-growth = "< grep -E '^[|] [0-9]+ [|]' '".ARG1."'"
+rows = "< grep -E '(reached|missed|measured) [|]$' '".ARG1."'"
+growth = "< grep -E '^[|] [0-9]+ [|]([^|]+[|]){6}$' '".ARG1."'"
 item(column) = word(strcol(column), 1)
-# A goal that is no part of the second implementation's time has further words, and is not drawn.
+# A goal that is no part of the second implementation's time, or not set, has further words, and is not drawn.
 goal(column) = words(strcol(column)) > 1 ? NaN : item(column) + 0
 set terminal svg size 940,860 font "sans-serif,12" background "white"
 set output ARG2

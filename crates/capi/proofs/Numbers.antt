@@ -1,10 +1,12 @@
 -- An answer is read back from its numbers, and what each function for C returned. Assumes nothing.
-use mathlib.Core.Path.{_≡_, refl, ap, _∙_}
+use mathlib.Core.Path.{_≡_, refl, ap, sym, _∙_}
 use mathlib.Core.Bool.{Bool, true, false, cond}
 use mathlib.Core.List.{List, [], _∷_}
-use Prim.Native.Nat.{ℕ, _+_, _-_}
+use Prim.Native.Nat.{ℕ, suc, _+_, _-_}
 use native.Mathlib.Omega.{arith}
-use lib.Dec.{eqb}
+use borrow.Author.Tests.{ltb-true, ltb-false, lt-ltb, le-ltb}
+use lib.Dec.{ltb, eqb}
+use lib.IntN.{ℤ, pos, negsuc, subℕ}
 use lib.ListN.{length, take, drop}
 use lib.Seq.{take-all}
 use Rattle.texts.specs.Texts.{between, same}
@@ -36,9 +38,13 @@ use Rattle.amounts.specs.Part.{partTests, parting, partAnswer, Parts}
 use Rattle.amounts.specs.Shares.{shareTests, sharing, shareAnswer, Shares}
 use Rattle.amounts.specs.declared.part.Parted.{Parted}
 use Rattle.amounts.specs.declared.shares.Shared.{Shared}
+use Rattle.registers.specs.Register.{linesOf, totalOf}
+use Rattle.registers.specs.Pool.{more, less, poolTests, pooling, poolAnswer, Pools}
+use Rattle.registers.specs.declared.pool.Pooled.{Pooled}
+use Rattle.registers.specs.declared.pool.Pooled.the-variants.{Differs}
 use Rattle.orders.specs.declared.complete.Completed.{Completed}
-use Rattle.capi.specs.Numbers.{numbered, numberAnswer, checkNumbers, checkOf, readNumbers, readOf, writeNumbers, writeOf, postNumbers, wordOf, postOf, completeNumbers, completeOf, pretestNumbers, pretestOf, chargeNumbers, chargeOf, partNumbers, partOf}
-use Rattle.capi.specs.Promises.{CheckReturns, ReadReturns, WriteReturns, FreshReturns, PostReturns, CopyReturns, CompleteReturns, PretestReturns, ChargeReturns, PartReturns, SharesReturns}
+use Rattle.capi.specs.Numbers.{numbered, numberAnswer, checkNumbers, checkOf, readNumbers, readOf, writeNumbers, writeOf, postNumbers, wordOf, postOf, completeNumbers, completeOf, pretestNumbers, pretestOf, chargeNumbers, chargeOf, partNumbers, partOf, poolNumbers, poolOf}
+use Rattle.capi.specs.Promises.{CheckReturns, ReadReturns, WriteReturns, FreshReturns, PostReturns, CopyReturns, CompleteReturns, PretestReturns, ChargeReturns, PartReturns, SharesReturns, PoolReturns}
 use Rattle.capi.specs.declared.Check.{Check}
 use Rattle.capi.specs.declared.Read.{Read}
 use Rattle.capi.specs.declared.Write.{Write}
@@ -47,6 +53,7 @@ use Rattle.capi.specs.declared.Complete.{Complete}
 use Rattle.capi.specs.declared.Pretest.{Pretest}
 use Rattle.capi.specs.declared.Charge.{Charge}
 use Rattle.capi.specs.declared.Part.{Part}
+use Rattle.capi.specs.declared.Pool.{Pool}
 
 -- ---- reading an answer back
 
@@ -124,6 +131,24 @@ shares-back : (a y : ℕ) (ps : List ℕ) → Back numberOf numberAnswer (sharin
 unfolding sharing shareTests numberAnswer numbered
 shares-back a y ps = tested (Back numberOf numberAnswer) (shareTests a y ps) _ refl (search depth 12)
 
+-- the signed difference of two numbers, read back as by how much the first is more and by how much less
+difference-case : (m n : ℕ) (b : Bool) → ltb (m - n) (n - m) ≡ b → (more (cond b (negsuc (n - m - suc (m - n))) (pos (m - n - (n - m)))) ≡ m - n) × (less (cond b (negsuc (n - m - suc (m - n))) (pos (m - n - (n - m)))) ≡ n - m)
+difference-case m n true e = let h = ltb-true (m - n) (n - m) e in (omega (arith, h), omega (arith, h))
+difference-case m n false e = let h = ltb-false (m - n) (n - m) e in (omega (arith, h), omega (arith, h))
+
+difference-back : (m n : ℕ) → Back poolNumbers poolOf (refusal 17 ((m - n) ∷ (n - m) ∷ []))
+unfolding poolNumbers poolOf numbered
+difference-back m n = let q = difference-case m n _ refl in λ i. refusal 17 (q .0 i ∷ q .1 i ∷ [])
+
+-- a signed number is what these two make
+pub signed-of : (d : ℤ) → subℕ (more d) (less d) ≡ d
+signed-of (pos n) = rw (le-ltb n 0 (omega arith)) (ap pos (omega arith))
+signed-of (negsuc n) = rw (lt-ltb 0 (suc n) (omega arith)) (ap negsuc (omega arith))
+
+pool-back : (t : List ℕ) (a : ℕ) (o : List ℕ) → Back poolNumbers poolOf (pooling t a o)
+unfolding pooling poolTests poolNumbers poolOf numbered
+pool-back t a o = tested (Back poolNumbers poolOf) (poolTests t a o) _ refl (refl, (refl, (difference-back (totalOf (linesOf t)) a, tt)))
+
 -- ---- what each function returned: v is what it called, and k the case of v in an arm
 
 module _ (s : List ℕ) (v : Verdict) (p : Checked s v) (k : Verdict) (e : v ≡ k) (r : Check) (q : r ≡ checkNumbers (verdictAnswer k)) where
@@ -191,3 +216,11 @@ module _ (a d y : ℕ) (v : Parted) (w : Parts a d y v) (k : Parted) (e : v ≡ 
 module _ (a y : ℕ) (ps b : List ℕ) (v : Shared) (x : List ℕ) (w : Shares a y ps b v x) (k : Shared) (e : v ≡ k) (r : ℕ) (q : r ≡ numberOf (shareAnswer k)) where
   pub shared-is : SharesReturns a y ps b r x
   shared-is = record { numbers = cc; answer = cc (shares-back a y ps); places = w .places }
+
+module _ (t : List ℕ) (a : ℕ) (o : List ℕ) (v : Pooled) (x : List ℕ) (w : Pools t a o v x) (k : Pooled) (e : v ≡ k) (r : Pool) (q : r ≡ poolNumbers (poolAnswer k)) where
+  pub pooled-is : PoolReturns t a o r x
+  pooled-is = record { numbers = cc; answer = cc (pool-back t a o); output = w .output }
+
+pub differs-is : (t : List ℕ) (a : ℕ) (o : List ℕ) (v : Pooled) (x : List ℕ) → Pools t a o v x → (d : ℤ) → v ≡ Differs d → (r : Pool) → r ≡ record { number = 17; lines = 0; difference = d } → PoolReturns t a o r x
+unfolding poolNumbers poolAnswer
+differs-is t a o v x w d e r q = pooled-is t a o v x w (Differs d) e r (q ∙ (λ i. record { number = 17; lines = 0; difference = sym (signed-of d) i }))

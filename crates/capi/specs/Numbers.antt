@@ -4,11 +4,13 @@ use mathlib.Core.Bool.{cond}
 use mathlib.Core.List.{List, [], _∷_}
 use Prim.Native.Nat.{ℕ}
 use lib.Dec.{eqb}
+use lib.IntN.{ℤ, pos, subℕ}
 use lib.ListN.{length, getD}
 use Rattle.texts.specs.Quoted.{Text, bytes}
 use Rattle.texts.specs.Texts.{_is_}
 use Rattle.texts.specs.Answers.{Answer, success, refusal}
 use Rattle.drafts.specs.Message.{headSize}
+use Rattle.registers.specs.Pool.{more, less}
 use Rattle.capi.specs.declared.Check.{Check}
 use Rattle.capi.specs.declared.Read.{Read}
 use Rattle.capi.specs.declared.Write.{Write}
@@ -17,6 +19,7 @@ use Rattle.capi.specs.declared.Complete.{Complete}
 use Rattle.capi.specs.declared.Pretest.{Pretest}
 use Rattle.capi.specs.declared.Charge.{Charge}
 use Rattle.capi.specs.declared.Part.{Part}
+use Rattle.capi.specs.declared.Pool.{Pool}
 
 -- number 0 is success, which returns vs; another number is a refusal, with ws beside it
 unfoldable pub numbered : ℕ → List ℕ → List ℕ → Answer
@@ -101,3 +104,12 @@ partNumbers (refusal n vs) = record { number = n; remainder = 0; kopecks = 0 }
 
 unfoldable pub partOf : Part → Answer
 partOf r = numbered (r .number) (r .kopecks ∷ r .remainder ∷ []) []
+
+-- how many pooled lines; with 17 the signed difference
+unfoldable pub poolNumbers : Answer → Pool
+poolNumbers (success vs) = record { number = 0; lines = getD vs 0 0; difference = pos 0 }
+poolNumbers (refusal n []) = record { number = n; lines = 0; difference = pos 0 }
+poolNumbers (refusal n (m ∷ vs)) = record { number = n; lines = 0; difference = subℕ m (getD vs 0 0) }
+
+unfoldable pub poolOf : Pool → Answer
+poolOf r = numbered (r .number) (r .lines ∷ []) (cond (eqb (r .number) 17) (more (r .difference) ∷ less (r .difference) ∷ []) [])

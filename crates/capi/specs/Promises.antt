@@ -15,7 +15,8 @@ use Rattle.orders.specs.Pretest.{pretesting}
 use Rattle.amounts.specs.Charge.{charging}
 use Rattle.amounts.specs.Part.{parting}
 use Rattle.amounts.specs.Shares.{sharing, sharedTo}
-use Rattle.capi.specs.Numbers.{numberAnswer, checkNumbers, checkOf, readNumbers, readOf, writeNumbers, writeOf, postNumbers, postOf, completeNumbers, completeOf, pretestNumbers, pretestOf, chargeNumbers, chargeOf, partNumbers, partOf}
+use Rattle.registers.specs.Pool.{pooling, pooledTo}
+use Rattle.capi.specs.Numbers.{numberAnswer, checkNumbers, checkOf, readNumbers, readOf, writeNumbers, writeOf, postNumbers, postOf, completeNumbers, completeOf, pretestNumbers, pretestOf, chargeNumbers, chargeOf, partNumbers, partOf, poolNumbers, poolOf}
 use Rattle.capi.specs.declared.Check.{Check}
 use Rattle.capi.specs.declared.Read.{Read}
 use Rattle.capi.specs.declared.Write.{Write}
@@ -24,6 +25,7 @@ use Rattle.capi.specs.declared.Complete.{Complete}
 use Rattle.capi.specs.declared.Pretest.{Pretest}
 use Rattle.capi.specs.declared.Charge.{Charge}
 use Rattle.capi.specs.declared.Part.{Part}
+use Rattle.capi.specs.declared.Pool.{Pool}
 
 -- checking the sheet s returned r
 pub record CheckReturns (s : List ℕ) (r : Check) : Type 0 where
@@ -88,3 +90,9 @@ pub record SharesReturns (a y : ℕ) (ps b : List ℕ) (r : ℕ) (e : List ℕ) 
   pub numbers : r ≡ numberOf (sharing a y ps)
   pub answer : numberAnswer r ≡ sharing a y ps
   pub places : e ≡ sharedTo a y ps b
+
+-- pooling the register t for an order of the amount a, to the output o, returned r and left e
+pub record PoolReturns (t : List ℕ) (a : ℕ) (o : List ℕ) (r : Pool) (e : List ℕ) : Type 0 where
+  pub numbers : r ≡ poolNumbers (pooling t a o)
+  pub answer : poolOf r ≡ pooling t a o
+  pub output : e ≡ pooledTo t a o

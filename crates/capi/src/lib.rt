@@ -1,5 +1,5 @@
 // The library for C and for what links like C. Each function forwards to a proved one, and gives document 01's numbers.
-ghost use Rattle.capi.specs.Promises.{CheckReturns, ReadReturns, WriteReturns, FreshReturns, PostReturns, CopyReturns, CompleteReturns, PretestReturns, ChargeReturns, PartReturns, SharesReturns};
+ghost use Rattle.capi.specs.Promises.{CheckReturns, ReadReturns, WriteReturns, FreshReturns, PostReturns, CopyReturns, CompleteReturns, PretestReturns, ChargeReturns, PartReturns, SharesReturns, PoolReturns};
 use amounts::amount::Kopecks;
 use amounts::charge::Charged;
 use amounts::charge::Rate;
@@ -15,6 +15,7 @@ use drafts::message::Written;
 use drafts::revision::Revision;
 use orders::complete::Completed;
 use orders::pretest::Pretested;
+use registers::pool::Pooled;
 use rules::check::Verdict;
 use rules::class::Class;
 use sheets::sheet::Field;
@@ -76,6 +77,13 @@ pub struct Part {
     pub number: u8,
     pub remainder: u32,
     pub kopecks: u64,
+}
+
+#[repr(C)]
+pub struct Pool {
+    pub number: u8,
+    pub lines: usize,
+    pub difference: i64,
 }
 
 #[no_mangle]
@@ -338,5 +346,29 @@ pub extern "C" fn kieselbrot_shares(
     match v {
         Shared::Made => 0,
         Shared::Refused(n) => n.0,
+    }
+}
+
+#[no_mangle]
+pub extern "C" fn kieselbrot_pool(register: &[u8], amount: u64, output: &mut [u8]) -> Pool
+    ensures { λ r. ⌜ PoolReturns (now (register .entry)) amount (now (output .entry)) r (now (output .exit)) ⌝ }
+{
+    let v = registers::pool::pool(register, Kopecks(amount), output);
+    match v {
+        Pooled::Made(n) => Pool {
+            number: 0,
+            lines: n,
+            difference: 0,
+        },
+        Pooled::Differs(d) => Pool {
+            number: 17,
+            lines: 0,
+            difference: d,
+        },
+        Pooled::Refused(n) => Pool {
+            number: n.0,
+            lines: 0,
+            difference: 0,
+        },
     }
 }

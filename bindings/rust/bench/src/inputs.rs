@@ -1,8 +1,9 @@
 //! What is measured with: for each row many inputs, all different.
 
 use cases::{blanked, budget, damaged_draft, disturb, message, with_forms, BLANKS, FIELDS};
-use cases::{charge_in_range, parting_in_range, sharing_of, Charge, Parting, Sharing};
+use cases::{charge_in_range, parting_in_range, register_of, sharing_of};
 use cases::{Account, Basis, Code, Date, Document, Draft, Forms, Payer, Random, Sheet, Texts};
+use cases::{Charge, Parting, Pooling, Sharing};
 
 /// How many inputs a row has.
 const INPUTS: usize = 256;
@@ -201,6 +202,13 @@ pub fn shares(random: &mut Random) -> Vec<Sharing> {
     many(random, |random| sharing_of(random, 12))
 }
 
+/// Registers of so many lines, which pool to so many.
+pub fn registers(random: &mut Random, lines: usize, inns: usize) -> Vec<Pooling> {
+    many(random, |random| {
+        Pooling::new(&register_of(random, lines, inns))
+    })
+}
+
 /// A book of mixed drafts: whole, with blanks, with mistakes, some damaged.
 pub fn book(random: &mut Random) -> Vec<Draft> {
     (0..BOOK).map(|_| entry(random)).collect()
@@ -318,6 +326,19 @@ mod tests {
             assert_eq!(sharing.periods.len(), 12);
             let answer = reference::shares(sharing.amount, sharing.year, &sharing.periods);
             assert!(answer.is_ok(), "{sharing:?}");
+        }
+    }
+
+    #[test]
+    fn every_register_is_pooled_to_as_many_lines() {
+        let random = &mut random();
+        for (lines, inns) in [(1, 1), (60, 20), (125, 125), (500, 500)] {
+            for pooling in registers(random, lines, inns) {
+                let Pooling { register, amount } = pooling;
+                assert_eq!(register.len(), lines * cases::LINE_SIZE);
+                let output = &mut [0; cases::POOL_SIZE];
+                assert_eq!(reference::pool(&register, amount, output), Ok(inns));
+            }
         }
     }
 

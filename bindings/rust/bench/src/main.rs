@@ -12,6 +12,7 @@ mod report;
 #[allow(unsafe_code)]
 mod stack;
 
+use std::cell::RefCell;
 use std::env;
 use std::fs;
 use std::hint::black_box;
@@ -19,7 +20,7 @@ use std::io::{self, ErrorKind};
 use std::path::Path;
 use std::process::{Command, ExitCode};
 
-use cases::{Charge, Draft, Parting, Random, Sharing, Sheet};
+use cases::{Charge, Draft, Parting, Pooling, Random, Sharing, Sheet, POOL_SIZE};
 use measure::{Goal, Row, NO_SLOWER};
 use report::Report;
 
@@ -65,8 +66,19 @@ fn measure_all() -> Report {
     rows.push(charge(inputs::charges(&mut inputs::random())));
     rows.push(part(inputs::parts(&mut inputs::random())));
     rows.push(shares(inputs::shares(&mut inputs::random())));
+    rows.push(pool(
+        "pool, 60 lines of 20 INNs",
+        NO_SLOWER,
+        inputs::registers(&mut inputs::random(), 60, 20),
+    ));
+    rows.push(pool(
+        "pool, 500 lines of 500 INNs",
+        Goal::NotSet,
+        inputs::registers(&mut inputs::random(), 500, 500),
+    ));
     Report {
         rows,
+        pools: pools(),
         growth: growth(
             inputs::growth(&mut random),
             inputs::uncaught_growth(&mut other),
@@ -217,6 +229,35 @@ fn shares(shares: Vec<Sharing>) -> Row {
         },
         |sharing| reference::shares(sharing.amount, sharing.year, &sharing.periods),
     )
+}
+
+fn pool(name: &'static str, goal: Goal, registers: Vec<Pooling>) -> Row {
+    // One output for all calls: the caller has no need to clear it.
+    let output = RefCell::new([0; POOL_SIZE]);
+    Row::measure(
+        name,
+        goal,
+        &registers,
+        |pooling| {
+            let output = &mut output.borrow_mut()[..];
+            kieselbrot::pool(&pooling.register, pooling.amount, output)
+        },
+        |pooling| {
+            let output = &mut output.borrow_mut()[..];
+            reference::pool(&pooling.register, pooling.amount, output)
+        },
+    )
+}
+
+/// Pooling by the number of lines, each of its own INN.
+fn pools() -> Vec<(usize, Row)> {
+    let random = &mut inputs::random();
+    [1, 60, 125, 250, 500]
+        .map(|lines| {
+            let registers = inputs::registers(random, lines, lines);
+            (lines, pool("", NO_SLOWER, registers))
+        })
+        .into()
 }
 
 /// Writes the table, then the chart that is drawn from it.

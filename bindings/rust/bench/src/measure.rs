@@ -25,9 +25,11 @@ pub enum Goal {
         /// The library in the other row.
         library: f64,
     },
+    /// No goal was set.
+    NotSet,
 }
 
-/// The goal of every row: the library is no slower.
+/// The goal of most rows: the library is no slower.
 pub const NO_SLOWER: Goal = Goal::OfSecond(1.0);
 
 impl fmt::Display for Goal {
@@ -35,6 +37,7 @@ impl fmt::Display for Goal {
         match self {
             Self::OfSecond(part) => write!(f, "{part:.1}"),
             Self::OfOwn { part, name, .. } => write!(f, "{part:.1} of {name}"),
+            Self::NotSet => write!(f, "not set"),
         }
     }
 }
@@ -86,16 +89,22 @@ impl Row {
     /// is of one.
     pub fn own_ratio(&self) -> Option<f64> {
         match self.goal {
-            Goal::OfSecond(_) => None,
+            Goal::OfSecond(_) | Goal::NotSet => None,
             Goal::OfOwn { library, .. } => Some(self.library / library),
         }
     }
 
-    /// Whether the goal is reached.
-    pub fn reached(&self) -> bool {
-        match self.goal {
+    /// What became of the goal.
+    pub fn outcome(&self) -> &'static str {
+        let reached = match self.goal {
             Goal::OfSecond(part) => self.ratio() <= part,
             Goal::OfOwn { part, library, .. } => self.library <= part * library,
+            Goal::NotSet => return "measured",
+        };
+        if reached {
+            "reached"
+        } else {
+            "missed"
         }
     }
 }

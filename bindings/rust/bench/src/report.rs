@@ -14,6 +14,8 @@ pub struct Report {
     /// Completions without a filling, by the count of fillings: hopeless from the
     /// start, and not caught by the test.
     pub growth: Vec<(usize, Row, Row)>,
+    /// Pooling by the number of lines.
+    pub pools: Vec<(usize, Row)>,
     /// The stack used.
     pub stack: Vec<Stack>,
 }
@@ -34,22 +36,23 @@ impl Report {
         text.push_str("|---|--:|--:|--:|--:|---|\n");
         for row in &self.rows {
             let own = row.own_ratio().map(|ratio| format!("{ratio:.2}, "));
-            let reached = if row.reached() { "reached" } else { "missed" };
             writeln!(
                 text,
-                "| {} | {} | {} | {:.2} | {} | {}{reached} |",
+                "| {} | {} | {} | {:.2} | {} | {}{} |",
                 row.name,
                 number(row.library),
                 number(row.reference),
                 row.ratio(),
                 row.goal,
-                own.unwrap_or_default()
+                own.unwrap_or_default(),
+                row.outcome()
             )?;
         }
         if let Some(chart) = chart {
             writeln!(text, "\n![Nanoseconds of both]({chart})")?;
         }
         self.write_growth(text)?;
+        self.write_pools(text)?;
         self.write_stack(text)
     }
 
@@ -62,6 +65,16 @@ impl Report {
                 write!(text, " {library} | {reference} | {:.2} |", row.ratio())?;
             }
             writeln!(text)?;
+        }
+        Ok(())
+    }
+
+    fn write_pools(&self, text: &mut String) -> fmt::Result {
+        text.push_str(POOLS);
+        for (lines, row) in &self.pools {
+            let (library, reference) = (number(row.library), number(row.reference));
+            let ratio = row.ratio();
+            writeln!(text, "| {lines} | {library} | {reference} | {ratio:.2} |")?;
         }
         Ok(())
     }
@@ -104,6 +117,16 @@ from the start (rule 22), on the right those that are not caught by the test.
 
 | fillings | library, ns | second, ns | ratio | not caught: library, ns | second, ns | ratio |
 |--:|--:|--:|--:|--:|--:|--:|
+";
+
+const POOLS: &str = "
+## How the cost of pooling grows with the lines
+
+Registers whose lines have different INNs, into one output that is not cleared between
+calls.
+
+| lines | library, ns | second, ns | ratio |
+|--:|--:|--:|--:|
 ";
 
 const STACK: &str = "

@@ -1,6 +1,6 @@
 //! Sheets, drafts and messages to try the library with, laid out byte by byte from
-//! document 01, and arguments of a charge, of a part of a year and of shares: without
-//! code of the library or of the second implementation.
+//! document 01, arguments of a charge, of a part of a year and of shares, and registers:
+//! without code of the library or of the second implementation.
 
 #![forbid(unsafe_code)]
 #![warn(missing_docs)]
@@ -12,6 +12,7 @@ mod forms;
 mod orders;
 mod parts;
 mod random;
+mod registers;
 mod streams;
 mod table;
 mod texts;
@@ -26,6 +27,8 @@ pub use orders::{Account, Basis, Code, Date, Document, Forms, Payer};
 pub use parts::{parting, parting_in_range, sharing, sharing_in_range, sharing_of};
 pub use parts::{Parting, Sharing, SHARE_PLACES, YEARS};
 pub use random::Random;
+pub use registers::{inn_of, pool_size, pooling, register_of, Inn, Line, Pooling};
+pub use registers::{LINES_MAX, LINE_SIZE, ORDER_MAX, POOL_SIZE};
 pub use streams::{draft_after, messages};
 pub use table::{sheets, Case};
 pub use texts::{message, slot_of, Draft, Sheet, Text, Texts, BLANKS, FIELDS, FILLABLE};

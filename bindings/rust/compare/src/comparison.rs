@@ -3,7 +3,7 @@
 use std::fmt::{self, Debug, Write as _};
 use std::hint::black_box;
 
-use cases::{Charge, Parting, Sharing, FIELDS, SHARE_PLACES};
+use cases::{Charge, Parting, Pooling, Sharing, FIELDS, SHARE_PLACES};
 use kieselbrot::{Class, Completed, Message, Posted, Refusal};
 
 use crate::library::{Library, Reference};
@@ -68,12 +68,11 @@ fn shown_draft(draft: &[u8]) -> String {
 /// A buffer to lend, amid bytes that nobody may touch.
 #[derive(Clone, PartialEq, Eq)]
 pub struct Lent {
-    area: [u8; Self::AREA],
+    area: Vec<u8>,
     size: usize,
 }
 
 impl Lent {
-    const AREA: usize = 1024;
     const GUARD: usize = 48;
 
     /// A buffer with this content.
@@ -86,7 +85,7 @@ impl Lent {
     /// A buffer of this size, each byte the same.
     pub fn filled(size: usize, byte: u8) -> Self {
         let mut lent = Self {
-            area: [0xA5; Self::AREA],
+            area: vec![0xA5; Self::GUARD + size + Self::GUARD],
             size,
         };
         lent.bytes_mut().fill(byte);
@@ -99,12 +98,13 @@ impl Lent {
     }
 
     fn bytes_mut(&mut self) -> &mut [u8] {
-        &mut self.area[Self::GUARD..Self::AREA - Self::GUARD][..self.size]
+        &mut self.area[Self::GUARD..][..self.size]
     }
 
     /// Where the bytes, with those around them, first differ.
     fn difference(&self, other: &Self) -> Option<isize> {
-        let place = (0..Self::AREA).find(|&place| self.area[place] != other.area[place])?;
+        let mut both = self.area.iter().zip(&other.area);
+        let place = both.position(|(byte, other)| byte != other)?;
         Some(place as isize - Self::GUARD as isize)
     }
 }
@@ -312,6 +312,26 @@ impl<'a, L: Library> Comparison<'a, L> {
         Ok(())
     }
 
+    /// Pools the lines of a register, which must stay, into an output.
+    pub fn pool(&mut self, pooling: &Pooling, before: &Lent) -> Outcome<()> {
+        let Pooling {
+            ref register,
+            amount,
+        } = *pooling;
+        let input = || {
+            let (register, output) = (hex(register), hex(before.bytes()));
+            format!("register {register}, amount {amount}, output {output}")
+        };
+        let (answer, after) = lend_to_read("pool", register, input, |register| {
+            self.lend("pool", before, input, |library, output| {
+                library.pool(register, amount, output)
+            })
+        })?;
+        let (before, after) = (before.bytes(), after.bytes());
+        self.reached.pool(pooling, before, after, answer);
+        Ok(())
+    }
+
     /// Lends a copy of the buffer to each; answers, buffers and the bytes around
     /// them must agree, and be as before after a refusal.
     fn lend<T: Copy + Debug + PartialEq>(
@@ -334,17 +354,17 @@ impl<'a, L: Library> Comparison<'a, L> {
     }
 }
 
-/// Lends a draft, which must stay as it is, with the bytes around it.
+/// Lends a draft or a register, which must stay as it is, with the bytes around it.
 fn lend_to_read<T>(
     function: &'static str,
-    draft: &[u8],
+    bytes: &[u8],
     input: impl Fn() -> String,
     call: impl FnOnce(&[u8]) -> Outcome<T>,
 ) -> Outcome<T> {
-    let lent = Lent::new(draft);
+    let lent = Lent::new(bytes);
     let outcome = call(black_box(lent.bytes()))?;
     // A shared borrow is no proof against a library that writes all the same.
-    same_buffer(function, black_box(&lent), &Lent::new(draft), input)?;
+    same_buffer(function, black_box(&lent), &Lent::new(bytes), input)?;
     Ok(outcome)
 }
 

@@ -2,6 +2,7 @@
 
 use cases::{blanked, with_forms, Account, Basis, Code, Date, Document, Forms, Payer};
 use cases::{budget, message, sheets, Random, Text, Texts, FIELDS, STATUSES};
+use cases::{inn_of, Inn, Line, Pooling, LINES_MAX, LINE_SIZE, ORDER_MAX, POOL_SIZE};
 use cases::{Charge, Parting, Sharing, KOPECKS_MAX, RATE_MAX, SHARE_PLACES, YEARS};
 use kieselbrot::{Class, Refusal};
 
@@ -436,4 +437,122 @@ fn changes(periods: &[u32]) -> impl Iterator<Item = Vec<u32>> + '_ {
             ]
         })
         .chain([again, short])
+}
+
+/// Pooling: every list of up to six lines of three INNs; every byte in every place of
+/// three lines; every size of a register up to 503 lines, and of an output about the
+/// least; a wrong line in every place of 500; the amounts that matter.
+pub fn pools<L: Library>(comparison: &mut Comparison<'_, L>) -> Outcome {
+    let held: Vec<u8> = (0..=u8::MAX).cycle().take(POOL_SIZE + 60).collect();
+    let output = Lent::new(&held[..POOL_SIZE]);
+    for lines in small_registers() {
+        let pooling = Pooling::new(&lines);
+        for amount in pooling.amount - 1..=pooling.amount + 1 {
+            let register = pooling.register.clone();
+            comparison.pool(&Pooling { register, amount }, &output)?;
+        }
+        comparison.pool(&pooling, &Lent::new(&output_like(&pooling)))?;
+    }
+    let three = &numbered(3, 2);
+    for place in 0..3 * LINE_SIZE {
+        for byte in 0..=u8::MAX {
+            let mut pooling = Pooling::new(three);
+            pooling.register[place] = byte;
+            comparison.pool(&pooling, &output)?;
+        }
+    }
+    let long = Pooling::new(&numbered(503, 30)).register;
+    for size in 0..=long.len() {
+        comparison.pool(&Pooling::of(long[..size].to_vec()), &output)?;
+    }
+    for lines in [three, &numbered(LINES_MAX, LINES_MAX), &vec![]] {
+        let pooling = Pooling::new(lines);
+        for size in (0..100).chain(POOL_SIZE - 60..=POOL_SIZE + 60) {
+            let output = Lent::new(&held[..size]);
+            for amount in [pooling.amount, pooling.amount + 1] {
+                let register = pooling.register.clone();
+                comparison.pool(&Pooling { register, amount }, &output)?;
+            }
+        }
+    }
+    wrong_lines(comparison, &output)?;
+    for kopecks in KOPECKS {
+        for amount in KOPECKS.into_iter().chain(AMOUNTS) {
+            for count in [1, 2, LINES_MAX] {
+                let mut pooling = Pooling::new(&vec![
+                    Line {
+                        kopecks,
+                        ..three[0]
+                    };
+                    count
+                ]);
+                comparison.pool(&pooling, &output)?;
+                pooling.amount = amount;
+                comparison.pool(&pooling, &output)?;
+            }
+        }
+    }
+    Ok(())
+}
+
+/// Amounts of an order that matter.
+const AMOUNTS: [u64; 7] = [
+    500 * KOPECKS_MAX - 1,
+    500 * KOPECKS_MAX,
+    500 * KOPECKS_MAX + 1,
+    ORDER_MAX - 1,
+    ORDER_MAX,
+    ORDER_MAX + 1,
+    ORDER_MAX + 2,
+];
+
+/// Every list of one to six lines of three INNs. The kopecks tell which lines a sum has.
+fn small_registers() -> impl Iterator<Item = Vec<Line>> {
+    let inns = [7_810_234_567, 1_234_567_890, 7_810_234_568].map(inn_of);
+    (1..=6).flat_map(move |count: u32| {
+        (0..3_usize.pow(count)).map(move |number| {
+            let line = |place| Line {
+                inn: inns[number / 3_usize.pow(place) % 3],
+                kopecks: 3 << (4 * place),
+            };
+            (0..count).map(line).collect()
+        })
+    })
+}
+
+/// So many lines of so many INNs in turn, with 1, 2, 3 kopecks and so on.
+fn numbered(count: usize, inns: usize) -> Vec<Line> {
+    let line = |place| Line {
+        inn: inn_of(7_700_000_000 + 37 * (place % inns) as u64),
+        kopecks: place as u64 + 1,
+    };
+    (0..count).map(line).collect()
+}
+
+/// An output that holds the register's own lines, again and again.
+fn output_like(pooling: &Pooling) -> Vec<u8> {
+    let lines = pooling.register.iter().copied();
+    lines.cycle().take(POOL_SIZE).collect()
+}
+
+/// A register of 500 lines with one of them wrong, in every place.
+fn wrong_lines<L: Library>(comparison: &mut Comparison<'_, L>, output: &Lent) -> Outcome {
+    let right = numbered(LINES_MAX, 30);
+    for (place, line) in right.iter().enumerate() {
+        let digit = |at: usize| {
+            let mut inn = line.inn;
+            inn[at] = if inn[at] == b'9' { b'0' } else { inn[at] + 1 };
+            inn
+        };
+        let inns: [Inn; 4] = [digit(11), digit(place % 12), inn_of(7), inn_of(0)];
+        let wrong_inns = inns.map(|inn| Line { inn, ..*line });
+        let kopecks = [0, KOPECKS_MAX + 1, u64::MAX];
+        let wrong_kopecks = kopecks.map(|kopecks| Line { kopecks, ..*line });
+        for wrong in wrong_inns.into_iter().chain(wrong_kopecks) {
+            let mut lines = right.clone();
+            lines[place] = wrong;
+            comparison.pool(&Pooling::new(&lines), output)?;
+        }
+    }
+    Ok(())
 }

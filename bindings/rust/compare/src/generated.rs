@@ -1,7 +1,8 @@
 //! Generated cases, one after another.
 
 use cases::{accepted, blanked, budget, disturb, message, size_near, Random, Text, Texts, FIELDS};
-use cases::{charge, damaged_draft, damaged_message, damaged_sheet, parting, sharing, Draft};
+use cases::{charge, parting, pool_size, pooling, sharing};
+use cases::{damaged_draft, damaged_message, damaged_sheet, Draft, Pooling};
 
 use crate::comparison::{same, Comparison, Difference, Lent};
 use crate::library::Library;
@@ -11,7 +12,7 @@ type Outcome = Result<(), Difference>;
 
 /// One case: mostly one call, sometimes a list of them.
 pub fn case<L: Library>(comparison: &mut Comparison<'_, L>, random: &mut Random) -> Outcome {
-    match random.below(226) {
+    match random.below(236) {
         0..80 => check(comparison, random),
         80..100 => read(comparison, random),
         100..120 => write(comparison, random),
@@ -24,12 +25,31 @@ pub fn case<L: Library>(comparison: &mut Comparison<'_, L>, random: &mut Random)
         199 => streams::arrangements(comparison, random, 4),
         200..210 => comparison.charge(&charge(random)),
         210..216 => comparison.part(&parting(random)),
-        _ => {
+        216..226 => {
             let sharing = sharing(random);
             let before = std::array::from_fn(|_| random.number());
             comparison.shares(&sharing, &before)
         }
+        _ => {
+            let pooling = pooling(random);
+            let before = pool_output(random, &pooling);
+            comparison.pool(&pooling, &before)
+        }
     }
+}
+
+/// An output for pooled lines: any bytes, one byte everywhere, or lines of the register.
+fn pool_output(random: &mut Random, pooling: &Pooling) -> Lent {
+    let size = pool_size(random);
+    let mut held: Vec<u8> = match random.below(4) {
+        0 => vec![random.byte()],
+        1 if !pooling.register.is_empty() => pooling.register.clone(),
+        _ => (0..100)
+            .flat_map(|_| random.number().to_ne_bytes())
+            .collect(),
+    };
+    held = held.into_iter().cycle().take(size).collect();
+    Lent::new(&held)
 }
 
 /// An order that keeps the rules, or one with a few texts changed.

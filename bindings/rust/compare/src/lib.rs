@@ -15,6 +15,7 @@ mod generated;
 mod library;
 mod parts;
 mod planted;
+mod pools;
 mod pretest;
 mod reached;
 mod run;

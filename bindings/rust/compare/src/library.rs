@@ -3,7 +3,7 @@
 use kieselbrot::{Broken, Class, Completed, Message, Part, Posted, Refusal, SHARE_PLACES};
 
 /// The seven functions of document 01, the test ahead of completion, the bank's
-/// charge, and part of a year.
+/// charge, part of a year, and pooling a register.
 pub trait Library: Sync {
     /// Checks a sheet.
     fn check(&self, sheet: &[u8]) -> Result<Class, Refusal>;
@@ -39,6 +39,8 @@ pub trait Library: Sync {
         periods: &[u32],
         places: &mut [u64; SHARE_PLACES],
     ) -> Result<(), Refusal>;
+    /// Pools the lines of a register.
+    fn pool(&self, register: &[u8], amount: u64, output: &mut [u8]) -> Result<usize, Refusal>;
 }
 
 /// The proved library, as linked.
@@ -99,6 +101,10 @@ impl Library for Linked {
         places: &mut [u64; SHARE_PLACES],
     ) -> Result<(), Refusal> {
         kieselbrot::shares_into(amount, year, periods, places)
+    }
+
+    fn pool(&self, register: &[u8], amount: u64, output: &mut [u8]) -> Result<usize, Refusal> {
+        kieselbrot::pool(register, amount, output)
     }
 }
 
@@ -185,6 +191,10 @@ impl Library for Reference {
         *places = reference::shares(amount, year, periods).map_err(refusal)?;
         Ok(())
     }
+
+    fn pool(&self, register: &[u8], amount: u64, output: &mut [u8]) -> Result<usize, Refusal> {
+        reference::pool(register, amount, output).map_err(refusal)
+    }
 }
 
 const fn class(class: reference::Class) -> Class {
@@ -224,5 +234,7 @@ const fn refusal(refusal: reference::Refusal) -> Refusal {
         },
         reference::Refusal::Tariff => Refusal::Tariff,
         reference::Refusal::YearPart => Refusal::YearPart,
+        reference::Refusal::Register => Refusal::Register,
+        reference::Refusal::Discrepancy { difference } => Refusal::Discrepancy { difference },
     }
 }

@@ -1,6 +1,7 @@
 //! Differences planted on purpose: each must be found.
 
-use cases::{inn_remainder, slot_of, snils_remainder, Text, Texts, KOPECKS_MAX, RATE_MAX, YEARS};
+use cases::{inn_remainder, slot_of, snils_remainder, Text, Texts};
+use cases::{Line, Pooling, KOPECKS_MAX, LINE_SIZE, POOL_SIZE, RATE_MAX, YEARS};
 use kieselbrot::{Broken, Class, Completed, Message, Part, Posted, Refusal, SHARE_PLACES};
 
 use crate::library::{Library, Reference};
@@ -86,10 +87,32 @@ pub enum Planted {
     SumWraps,
     /// Refused shares clear the places.
     PlacesCleared,
+    /// The last line of a register is not pooled.
+    LastLineDropped,
+    /// A pooled sum is the last of its lines.
+    SumOverwritten,
+    /// Pooled lines stand in the order of their INNs.
+    ByInn,
+    /// Pooled lines stand in the order of last appearance.
+    ByLastAppearance,
+    /// The difference is order minus register.
+    OtherSign,
+    /// With 17 the pooled lines are written all the same.
+    WrittenBefore17,
+    /// The output past the pooled lines is zeroed.
+    RestZeroed,
+    /// An INN that begins 00 is taken.
+    Begins00,
+    /// An output of more than 10,000 bytes is refused.
+    LongOutput,
+    /// 16 is tested before 7.
+    RegisterFirst,
+    /// A pooled sum above 10^12 is refused.
+    SumAsALine,
 }
 
 /// All of them.
-pub const PLANTS: [Planted; 39] = [
+pub const PLANTS: [Planted; 50] = [
     Planted::Century,
     Planted::Status01,
     Planted::Without03252,
@@ -129,6 +152,17 @@ pub const PLANTS: [Planted; 39] = [
     Planted::Periods13,
     Planted::SumWraps,
     Planted::PlacesCleared,
+    Planted::LastLineDropped,
+    Planted::SumOverwritten,
+    Planted::ByInn,
+    Planted::ByLastAppearance,
+    Planted::OtherSign,
+    Planted::WrittenBefore17,
+    Planted::RestZeroed,
+    Planted::Begins00,
+    Planted::LongOutput,
+    Planted::RegisterFirst,
+    Planted::SumAsALine,
 ];
 
 impl Planted {
@@ -264,6 +298,46 @@ impl Planted {
             _ => {}
         }
         seen
+    }
+}
+
+impl Planted {
+    /// Pooled lines as they should be, changed.
+    fn changed_pool(self, lines: &[Line], pooled: &mut [Line]) {
+        let last = |pooled: &Line| lines.iter().rposition(|line| line.inn == pooled.inn);
+        match self {
+            Self::SumOverwritten => {
+                for line in pooled {
+                    line.kopecks = last(line).map_or(0, |place| lines[place].kopecks);
+                }
+            }
+            Self::ByInn => pooled.sort_by_key(|line| line.inn),
+            Self::ByLastAppearance => pooled.sort_by_key(last),
+            _ => {}
+        }
+    }
+
+    /// What a changed pooling does where lines are pooled, after it was done.
+    fn made_pool(self, pooling: &Pooling, count: usize, output: &mut [u8], before: &[u8]) -> usize {
+        let lines: Vec<Line> = pooling.lines().collect();
+        let size = LINE_SIZE * count;
+        match self {
+            Self::LastLineDropped if lines.len() > 1 => {
+                output.copy_from_slice(before);
+                let shorter = Pooling::new(&lines[..lines.len() - 1]);
+                let pool = Reference.pool(&shorter.register, shorter.amount, output);
+                return pool.unwrap_or(count);
+            }
+            Self::SumOverwritten | Self::ByInn | Self::ByLastAppearance => {
+                let mut pooled: Vec<Line> =
+                    output[..size].as_chunks().0.iter().map(Line::of).collect();
+                self.changed_pool(&lines, &mut pooled);
+                output[..size].copy_from_slice(&Pooling::new(&pooled).register);
+            }
+            Self::RestZeroed => output[size..].fill(0),
+            _ => {}
+        }
+        count
     }
 }
 
@@ -430,5 +504,58 @@ impl Library for Planted {
             _ => {}
         }
         answer
+    }
+
+    fn pool(&self, register: &[u8], amount: u64, output: &mut [u8]) -> Result<usize, Refusal> {
+        let before = output.to_vec();
+        let pooling = Pooling {
+            register: register.to_vec(),
+            amount,
+        };
+        let answer = Reference.pool(register, amount, output);
+        match (self, answer) {
+            (Self::OtherSign, Err(Refusal::Discrepancy { difference })) => {
+                let difference = -difference;
+                Err(Refusal::Discrepancy { difference })
+            }
+            (Self::WrittenBefore17, Err(Refusal::Discrepancy { .. })) => {
+                let total = pooling.total() as u64;
+                Reference.pool(register, total, output).and(answer)
+            }
+            (Self::Begins00, Err(Refusal::Register)) => {
+                let mut lines: Vec<Line> = pooling.lines().collect();
+                let begins = |line: &&mut Line| {
+                    line.inn.starts_with(b"00") && {
+                        let weights = cases::inn_weights(12);
+                        let digits = line.inn.iter().all(u8::is_ascii_digit);
+                        digits && weights.iter().all(|weights| fits(&line.inn, weights))
+                    }
+                };
+                let seen = lines.iter_mut().filter(begins);
+                seen.for_each(|line| line.inn = *b"781023456779");
+                Reference.pool(&Pooling::new(&lines).register, amount, output)
+            }
+            (Self::RegisterFirst, Err(Refusal::Output)) => {
+                let enough = &mut [0; POOL_SIZE];
+                match Reference.pool(register, amount, enough) {
+                    Err(Refusal::Register) => Err(Refusal::Register),
+                    _ => answer,
+                }
+            }
+            (Self::LongOutput, Ok(_)) if output.len() > POOL_SIZE => {
+                output.copy_from_slice(&before);
+                Err(Refusal::Output)
+            }
+            (Self::SumAsALine, Ok(count)) => {
+                let pooled = output[..LINE_SIZE * count].as_chunks().0.iter();
+                if pooled.map(Line::of).any(|line| line.kopecks > KOPECKS_MAX) {
+                    output.copy_from_slice(&before);
+                    return Err(Refusal::Register);
+                }
+                answer
+            }
+            (_, Ok(count)) => Ok(self.made_pool(&pooling, count, output, &before)),
+            _ => answer,
+        }
     }
 }

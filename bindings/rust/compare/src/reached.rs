@@ -3,11 +3,13 @@
 use std::collections::BTreeMap;
 use std::fmt;
 
-use cases::{Charge, Parting, Sharing, BASES, CLASS_A, CLASS_B, SHARE_PLACES, STATUSES};
+use cases::{Charge, Parting, Pooling, Sharing};
+use cases::{BASES, CLASS_A, CLASS_B, SHARE_PLACES, STATUSES};
 use kieselbrot::{Class, Completed, Part, Posted, Refusal};
 
 use crate::charges::{self, Charged};
 use crate::parts::{self, Parted};
+use crate::pools::{self, Pooled};
 use crate::pretest::{Tested, NAMED};
 use crate::shares::{self, Shared};
 
@@ -33,6 +35,7 @@ pub struct Reached {
     charges: BTreeMap<Charged, u64>,
     parts: BTreeMap<Parted, u64>,
     shares: BTreeMap<Shared, u64>,
+    pools: BTreeMap<Pooled, u64>,
 }
 
 /// What the first nine of a pension number's eleven digits are to rule 35.
@@ -127,7 +130,7 @@ enum Accepted {
 }
 
 /// The numbers that each function returns.
-const ANSWERS: [(&str, &[u8]); 11] = [
+const ANSWERS: [(&str, &[u8]); 12] = [
     ("check", &[0, 1, 8]),
     ("read", &[0, 2, 3, 4, 5]),
     ("write", &[0, 2, 4, 5, 7]),
@@ -139,6 +142,7 @@ const ANSWERS: [(&str, &[u8]); 11] = [
     ("charge", &[0, 14]),
     ("part", &[0, 15]),
     ("shares", &[0, 15]),
+    ("pool", &[0, 7, 16, 17]),
 ];
 
 /// The field that each rule names; rule 6 names twelve.
@@ -380,6 +384,20 @@ impl Reached {
         }
     }
 
+    /// Pooling a register, by what the output held before and holds afterwards.
+    pub fn pool(
+        &mut self,
+        pooling: &Pooling,
+        before: &[u8],
+        after: &[u8],
+        answer: Result<usize, Refusal>,
+    ) {
+        self.answer("pool", answer);
+        for what in pools::reached(pooling, before, after, answer) {
+            *self.pools.entry(what).or_default() += 1;
+        }
+    }
+
     /// Adds what another comparison reached.
     pub fn add(&mut self, other: &Self) {
         self.calls += other.calls;
@@ -398,6 +416,7 @@ impl Reached {
         add(&mut self.charges, &other.charges);
         add(&mut self.parts, &other.parts);
         add(&mut self.shares, &other.shares);
+        add(&mut self.pools, &other.pools);
         for (sum, more) in self.standings.iter_mut().zip(other.standings) {
             *sum += more;
         }
@@ -460,6 +479,9 @@ impl Reached {
         }
         for what in shares::all() {
             list.push((format!("shares: {what}"), get(&self.shares, what)));
+        }
+        for what in pools::all() {
+            list.push((format!("pooling: {what}"), get(&self.pools, what)));
         }
         list
     }

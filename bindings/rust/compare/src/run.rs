@@ -108,6 +108,7 @@ enum Piece {
     Charges,
     Parts,
     Shares,
+    Pools,
     Arrangements,
     Blanks(usize),
     Forms(usize),
@@ -160,7 +161,7 @@ impl Run {
         let mut pieces = Vec::new();
         if self.exhaustive {
             pieces.extend([Piece::Table, Piece::Sizes, Piece::Places, Piece::Messages]);
-            pieces.extend([Piece::Charges, Piece::Parts, Piece::Shares]);
+            pieces.extend([Piece::Charges, Piece::Parts, Piece::Shares, Piece::Pools]);
             pieces.push(Piece::Arrangements);
             pieces.extend(generated.by_ref().take(10));
             pieces.extend((0..exhaustive::BLANK_PARTS).map(Piece::Blanks));
@@ -184,6 +185,7 @@ impl Run {
             Piece::Charges => exhaustive::charges(comparison),
             Piece::Parts => exhaustive::parts(comparison),
             Piece::Shares => exhaustive::shares(comparison),
+            Piece::Pools => exhaustive::pools(comparison),
             Piece::Arrangements => (1..=6)
                 .try_for_each(|size| streams::arrangements(comparison, &mut random(size), size)),
             Piece::Blanks(part) => exhaustive::blanks(comparison, &mut random(100 + part), part),

@@ -38,7 +38,7 @@ pub enum Shared {
     Kept,
 }
 
-/// Where a period stands.
+/// Where a period or a line stands.
 #[derive(Clone, Copy, Debug, PartialEq, Eq, PartialOrd, Ord)]
 pub enum Place {
     First,
@@ -63,7 +63,8 @@ pub enum Sum {
 /// The lengths of a year that must be reached.
 const LENGTHS: [u32; 5] = [364, 365, 366, 367, u32::MAX];
 
-const PLACES: [Place; 3] = [Place::First, Place::Middle, Place::Last];
+/// All of them.
+pub const PLACES: [Place; 3] = [Place::First, Place::Middle, Place::Last];
 
 const SUMS: [Sum; 7] = [
     Sum::Below,
@@ -96,6 +97,17 @@ pub fn all() -> impl Iterator<Item = Shared> {
         .chain(PLACES.map(Shared::NoDays))
         .chain(SUMS.map(Shared::Sum))
         .chain(OTHERS)
+}
+
+impl Place {
+    /// What a place is, of so many.
+    pub const fn of(place: usize, count: usize) -> Self {
+        match place {
+            0 => Self::First,
+            _ if place + 1 == count => Self::Last,
+            _ => Self::Middle,
+        }
+    }
 }
 
 impl fmt::Display for Shared {
@@ -177,11 +189,7 @@ fn cause(sharing: &Sharing) -> Option<Shared> {
 /// Where the period of 0 days stands.
 fn place(periods: &[u32]) -> Option<Place> {
     let place = periods.iter().position(|&days| days == 0)?;
-    Some(match place {
-        0 => Place::First,
-        _ if place == periods.len() - 1 => Place::Last,
-        _ => Place::Middle,
-    })
+    Some(Place::of(place, periods.len()))
 }
 
 /// What a sum is that is not the year.

@@ -2,7 +2,7 @@
 
 use std::fmt;
 
-use crate::{ffi, KOPECKS_MAX};
+use crate::{ffi, KOPECKS_MAX, LINES_MAX};
 
 /// The class of an accepted sheet.
 #[derive(Clone, Copy, Debug, PartialEq, Eq, Hash, PartialOrd, Ord)]
@@ -85,7 +85,8 @@ pub enum Refusal {
     RevisionZero,
     /// 6: the draft has this revision with another text.
     Clash,
-    /// 7: the output sheet's size is not 390, or the message buffer is too short.
+    /// 7: the output sheet's size is not 390, or the message buffer is too short; for
+    /// [`pool`](crate::pool), the output has under 10,000 bytes.
     Output,
     /// 8: a rule is broken; in completion and its pretest only rules 1 to 3.
     Broken {
@@ -109,6 +110,14 @@ pub enum Refusal {
     /// 1 to the year; for shares, there are not 1 to 12 periods, one is of 0 days, or they
     /// do not sum to the year.
     YearPart,
+    /// 16: for [`pool`](crate::pool), the register has not 1 to 500 whole lines, the INN
+    /// of a line is none or its kopecks are out of range, or the order's amount is.
+    Register,
+    /// 17: for [`pool`](crate::pool), the register's total is not the order's amount.
+    Discrepancy {
+        /// The register's total less the order's amount, in kopecks.
+        difference: i64,
+    },
     /// An answer that the library of this version never gives: another library
     /// is linked.
     Unknown {
@@ -134,6 +143,8 @@ impl Refusal {
             Self::NoFilling { .. } => 10,
             Self::Tariff => 14,
             Self::YearPart => 15,
+            Self::Register => 16,
+            Self::Discrepancy { .. } => 17,
             Self::Unknown { number } => *number,
         }
     }
@@ -151,6 +162,7 @@ impl Refusal {
             9 => Self::Ordinary,
             14 => Self::Tariff,
             15 => Self::YearPart,
+            16 => Self::Register,
             _ => Self::Unknown { number },
         }
     }
@@ -163,6 +175,7 @@ impl fmt::Display for Refusal {
         match self {
             Self::Broken { field, rule } => write!(f, " {field} {rule}"),
             Self::NoFilling { count } => write!(f, " {count}"),
+            Self::Discrepancy { difference } => write!(f, " {difference}"),
             _ => Ok(()),
         }
     }
@@ -311,17 +324,33 @@ impl From<ffi::Part> for Result<Part, Refusal> {
     }
 }
 
+impl From<ffi::Pool> for Result<usize, Refusal> {
+    fn from(answer: ffi::Pool) -> Self {
+        let ffi::Pool {
+            number,
+            lines,
+            difference,
+        } = answer;
+        match (number, lines, difference) {
+            (0, 1..=LINES_MAX, 0) => Ok(lines),
+            (number, 0, 0) => Err(Refusal::plain(number)),
+            (17, 0, _) => Err(Refusal::Discrepancy { difference }),
+            _ => Err(Refusal::Unknown { number }),
+        }
+    }
+}
+
 #[cfg(test)]
 mod tests {
     use super::*;
 
     #[test]
     fn numbers_are_those_of_the_table() {
-        for number in (1..=7).chain([9, 14, 15]) {
+        for number in (1..=7).chain([9, 14, 15, 16]) {
             assert_eq!(Refusal::plain(number).number(), number);
             assert!(!matches!(Refusal::plain(number), Refusal::Unknown { .. }));
         }
-        for number in [0, 8, 10, 11, 12, 13, 16, 255] {
+        for number in [0, 8, 10, 11, 12, 13, 17, 18, 255] {
             assert_eq!(Refusal::plain(number), Refusal::Unknown { number });
         }
         let broken = Refusal::Broken {
@@ -336,6 +365,9 @@ mod tests {
         assert_eq!((none.number(), none.to_string().as_str()), (10, "10 1056"));
         assert_eq!(Refusal::Tariff.to_string(), "14");
         assert_eq!(Refusal::YearPart.to_string(), "15");
+        assert_eq!(Refusal::Register.to_string(), "16");
+        let less = Refusal::Discrepancy { difference: -1 };
+        assert_eq!((less.number(), less.to_string().as_str()), (17, "17 -1"));
     }
 
     #[test]
@@ -398,7 +430,7 @@ mod tests {
             assert_eq!(charge(0, kopecks), Ok(kopecks));
         }
         assert_eq!(charge(14, 0), Err(Refusal::Tariff));
-        for (number, kopecks) in [(0, KOPECKS_MAX + 1), (14, 1), (16, 0)] {
+        for (number, kopecks) in [(0, KOPECKS_MAX + 1), (14, 1), (18, 0)] {
             assert_eq!(charge(number, kopecks), Err(Refusal::Unknown { number }));
         }
     }
@@ -421,10 +453,45 @@ mod tests {
             (0, 0, 366),
             (15, 1, 0),
             (15, 0, 1),
-            (16, 0, 0),
+            (18, 0, 0),
         ] {
             assert_eq!(
                 part(number, kopecks, remainder),
+                Err(Refusal::Unknown { number })
+            );
+        }
+    }
+
+    #[test]
+    fn pooled_lines_or_7_or_16_or_17_with_the_difference() {
+        let pool = |number, lines, difference| {
+            Result::<usize, Refusal>::from(ffi::Pool {
+                number,
+                lines,
+                difference,
+            })
+        };
+        for lines in [1, 2, LINES_MAX] {
+            assert_eq!(pool(0, lines, 0), Ok(lines));
+        }
+        assert_eq!(pool(7, 0, 0), Err(Refusal::Output));
+        assert_eq!(pool(16, 0, 0), Err(Refusal::Register));
+        for difference in [-1, 1, i64::MIN, i64::MAX] {
+            let expected = Refusal::Discrepancy { difference };
+            assert_eq!(pool(17, 0, difference), Err(expected));
+        }
+        for (number, lines, difference) in [
+            (0, 0, 0),
+            (0, LINES_MAX + 1, 0),
+            (0, 1, 1),
+            (7, 1, 0),
+            (16, 0, -1),
+            (17, 0, 0),
+            (17, 1, 1),
+            (18, 0, 0),
+        ] {
+            assert_eq!(
+                pool(number, lines, difference),
                 Err(Refusal::Unknown { number })
             );
         }

@@ -81,6 +81,15 @@ pub struct Part {
     pub kopecks: u64,
 }
 
+/// The answer of pooling a register.
+#[repr(C)]
+#[derive(Clone, Copy)]
+pub struct Pool {
+    pub number: u8,
+    pub lines: usize,
+    pub difference: i64,
+}
+
 // The sizes that bindings/c/kieselbrot.h has.
 const _: () = assert!(size_of::<Check>() == 4);
 const _: () = assert!(size_of::<Read>() == 24);
@@ -90,6 +99,7 @@ const _: () = assert!(size_of::<Pretest>() == 3);
 const _: () = assert!(size_of::<Complete>() == 24);
 const _: () = assert!(size_of::<Charge>() == 16);
 const _: () = assert!(size_of::<Part>() == 16);
+const _: () = assert!(size_of::<Pool>() == 24);
 
 extern "C" {
     fn kieselbrot_check(sheet: *const u8, sheet_len: usize) -> Check;
@@ -126,6 +136,13 @@ extern "C" {
         periods_len: usize,
         shares: *mut [u64; SHARE_PLACES],
     ) -> u8;
+    fn kieselbrot_pool(
+        register: *const u8,
+        register_len: usize,
+        amount: u64,
+        output: *mut u8,
+        output_len: usize,
+    ) -> Pool;
 }
 
 // SAFETY, for each call below: pointer and length come from one slice, which is
@@ -192,4 +209,16 @@ pub fn part(amount: u64, days: u32, year: u32) -> Part {
 
 pub fn shares(amount: u64, year: u32, periods: &[u32], shares: &mut [u64; SHARE_PLACES]) -> u8 {
     unsafe { kieselbrot_shares(amount, year, periods.as_ptr(), periods.len(), shares) }
+}
+
+pub fn pool(register: &[u8], amount: u64, output: &mut [u8]) -> Pool {
+    unsafe {
+        kieselbrot_pool(
+            register.as_ptr(),
+            register.len(),
+            amount,
+            output.as_mut_ptr(),
+            output.len(),
+        )
+    }
 }

@@ -1,5 +1,5 @@
 //! Budget payment orders under 107n: field messages, the draft, the rules,
-//! completion, the bank's charge, and part of a year.
+//! completion, the bank's charge, part of a year, and the register of an order.
 //!
 //! This crate is a thin, safe layer over a library whose code is proved: each
 //! function's answer, and every buffer that it was lent, equals a definition, for
@@ -8,8 +8,8 @@
 //!
 //! Field, status and rule numbers are those of the form and of document 01.
 //! Texts are bytes of Windows-1251, 0 to 25 of them; the empty text is a blank. The
-//! constants have the sizes of a sheet, a draft and a message, and say how they are
-//! laid out. Amounts are in kopecks. The module [`words`] says in English what a rule
+//! constants have the sizes of a sheet, a draft, a message and a register's line, and
+//! say how they are laid out. Amounts are in kopecks. The module [`words`] says in English what a rule
 //! wants and why an order can't be completed.
 //!
 //! # Example
@@ -97,9 +97,24 @@ pub const RATE_MAX: u64 = 10_000;
 /// How many places for shares there are: the greatest number of periods.
 pub const SHARE_PLACES: usize = 12;
 
+/// The size of a register's line: the INN, 12 digits, then the kopecks (8 bytes,
+/// big-endian). Line i stands at i times this.
+pub const LINE_SIZE: usize = 20;
+
+/// The greatest number of a register's lines.
+pub const LINES_MAX: usize = 500;
+
+/// The least size of the output for pooled lines: as many places as a register can have
+/// lines.
+pub const POOL_SIZE: usize = 10_000;
+
+/// The greatest amount of an order with a register, in kopecks.
+pub const ORDER_MAX: u64 = 1_000_000_000_000_000;
+
 const _: () = assert!(SHEET_SIZE == FIELDS.len() * SHEET_SLOT_SIZE);
 const _: () = assert!(DRAFT_SIZE == FIELDS.len() * DRAFT_SLOT_SIZE);
 const _: () = assert!(MESSAGE_MAX == MESSAGE_HEAD_SIZE + TEXT_MAX);
+const _: () = assert!(POOL_SIZE == LINES_MAX * LINE_SIZE);
 
 /// Checks a sheet against the rules and tells its class.
 ///
@@ -317,4 +332,44 @@ pub fn shares_into(
     places: &mut [u64; SHARE_PLACES],
 ) -> Result<(), Refusal> {
     answers::number(ffi::shares(amount, year, periods, places))
+}
+
+/// Pools the lines of an order's register: those of one INN become one line with their
+/// sum, in the order of first appearance, at the start of the output. Tells how many
+/// pooled lines there are; the rest of the output stays as it is.
+///
+/// The register has 1 to [`LINES_MAX`] lines, each with an INN of 12 digits, whose check
+/// digits are right, and 1 to [`KOPECKS_MAX`] kopecks; the order's amount is 1 to
+/// [`ORDER_MAX`] and the register's total. The output has at least [`POOL_SIZE`] bytes,
+/// however few lines there are.
+///
+/// # Errors
+///
+/// In this order: [`Refusal::Output`], [`Refusal::Register`], [`Refusal::Discrepancy`].
+///
+/// # Examples
+///
+/// ```
+/// use kieselbrot::{pool, Refusal, LINE_SIZE, POOL_SIZE};
+///
+/// # fn main() -> Result<(), Refusal> {
+/// let line = |inn: &[u8; 12], kopecks: u64| [&inn[..], &kopecks.to_be_bytes()].concat();
+/// let (one, other) = (b"781023456779", b"123456789047");
+/// let register = [line(one, 5), line(other, 7), line(one, 1)].concat();
+/// let mut output = [0; POOL_SIZE];
+///
+/// // A kopeck less than the order.
+/// let difference = -1;
+/// let answer = pool(&register, 14, &mut output);
+/// assert_eq!(answer, Err(Refusal::Discrepancy { difference }));
+///
+/// assert_eq!(pool(&register, 13, &mut output)?, 2);
+/// let pooled = [line(one, 6), line(other, 7)].concat();
+/// assert_eq!(output[..2 * LINE_SIZE], pooled);
+/// # Ok(())
+/// # }
+/// ```
+#[inline]
+pub fn pool(register: &[u8], amount: u64, output: &mut [u8]) -> Result<usize, Refusal> {
+    ffi::pool(register, amount, output).into()
 }

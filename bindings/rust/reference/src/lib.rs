@@ -1,13 +1,14 @@
 //! Budget payment orders under 107n: field messages, the draft, the rules,
 //! completion and the test ahead of it, the message writer, the report of one
-//! program, the bank's charge and the part of a year.
+//! program, the bank's charge, the part of a year and the register of an order.
 //!
 //! This is a second implementation, written from the paper "Budget payment
 //! orders under 107n: draft, check and completion" and its change requests
 //! alone. Doc comments quote the sentence of the paper or the request they
 //! follow. Of the requests it has R-1 (pension numbers), R-2 (letters in a KPP),
 //! R-3 (a test ahead of the search), R-4 (check digits of the INN), R-5 (rule
-//! 22 ahead of rule 21), R-10 (the bank's charge) and R-11 (part of a year).
+//! 22 ahead of rule 21), R-10 (the bank's charge), R-11 (part of a year) and R-12
+//! (status 15 with its register).
 //!
 //! Every public function is total, and "Refusals change no buffer".
 
@@ -23,6 +24,7 @@ mod part;
 mod pretest;
 mod program;
 mod refusal;
+mod register;
 mod rules;
 mod sheet;
 
@@ -34,4 +36,5 @@ pub use part::{part, shares, Part};
 pub use pretest::pretest;
 pub use program::report;
 pub use refusal::{Broken, Refusal};
+pub use register::pool;
 pub use rules::{check, Class};

@@ -35,7 +35,8 @@ pub enum Refusal {
     RevisionZero,
     /// 6: "equal revision, other text".
     Clash,
-    /// 7: "output: a sheet not of 390, a message buffer too short".
+    /// 7: "output: a sheet not of 390, a message buffer too short"; "an output of
+    /// fewer than 500 places".
     Output,
     /// 8: "a broken rule; in completion only 1 to 3".
     Broken {
@@ -57,6 +58,14 @@ pub enum Refusal {
     /// or over 12 periods, periods not summing to the year, or an amount out of
     /// range".
     YearPart,
+    /// 16: "a line whose INN or amount isn't as said, a register not of 1 to 500
+    /// whole lines, or an order amount outside 1 to 10^15".
+    Register,
+    /// 17: "where the order's amount differs".
+    Discrepancy {
+        /// "The signed difference register minus order", in kopecks.
+        difference: i64,
+    },
 }
 
 impl Refusal {
@@ -76,6 +85,8 @@ impl Refusal {
             Self::NoFilling { .. } => 10,
             Self::Tariff => 14,
             Self::YearPart => 15,
+            Self::Register => 16,
+            Self::Discrepancy { .. } => 17,
         }
     }
 }
@@ -87,6 +98,7 @@ impl fmt::Display for Refusal {
         match self {
             Self::Broken { field, rule } => write!(f, " {field} {rule}"),
             Self::NoFilling { count } => write!(f, " {count}"),
+            Self::Discrepancy { difference } => write!(f, " {difference}"),
             _ => Ok(()),
         }
     }

@@ -341,7 +341,7 @@ fn is_inn10(text: &[u8]) -> bool {
 
 /// An INN of 12 digits not beginning 00. "Twelve: weights 7 2 4 10 3 5 9 4 6 8
 /// give the eleventh, then 3 7 2 4 10 3 5 9 4 6 8 give the twelfth."
-fn is_inn12(text: &[u8]) -> bool {
+pub(crate) fn is_inn12(text: &[u8]) -> bool {
     is_registered(text, 12)
         && is_checked(text, &INN_ELEVENTH_WEIGHTS)
         && is_checked(text, &INN_TWELFTH_WEIGHTS)

@@ -3,6 +3,7 @@
 mod fixture;
 mod r10;
 mod r11;
+mod r12;
 mod r1_r2;
 mod r3;
 mod r4;

@@ -1,0 +1,159 @@
+// Pooling a register's lines (R-12).
+ghost use mathlib.Core.Path.{_≡_};
+ghost use mathlib.Core.Bool.{true};
+ghost use Prim.Native.Nat.{_+_, _-_, _*_, _^_, _≤_, _<_};
+ghost use lib.ListN.{length};
+ghost use Rattle.texts.specs.Texts.{digits, number};
+ghost use Rattle.texts.specs.Numbers.{bytesOf};
+ghost use Rattle.texts.specs.Buffers.{put};
+ghost use Rattle.registers.specs.Register.{linesBytes, linesOf, registerRight, orderRight, pooled, mostOrder};
+ghost use Rattle.registers.specs.Pool.{more, less, Pools};
+ghost use Rattle.registers.specs.Working.Parts.{bigAt, Finds};
+use crate::lines::INN_SIZE;
+use crate::lines::LINE_SIZE;
+use crate::lines::inn_at;
+use crate::lines::is_register;
+use crate::lines::kopecks_at;
+use crate::lines::number_at;
+use crate::lines::total_of;
+use amounts::amount::Kopecks;
+use texts::answers::Refusal;
+use texts::buffers::put;
+use texts::digits::digit_value;
+use texts::parts::part;
+
+// How many pooled lines there are; 17 with the signed difference register minus order; 7 or 16.
+pub enum Pooled {
+    Made(usize),
+    Differs(i64),
+    Refused(Refusal),
+}
+
+// "an output of fewer than 500 places"
+const OUTPUT_SIZE: usize = 10_000;
+
+// "an order amount outside 1 to 10^15"
+const MOST_ORDER: u64 = 1_000_000_000_000_000;
+
+fn is_order(amount: Kopecks) -> bool
+    ensures { λ r. ⌜ r ≡ orderRight (amount .0) ⌝ }
+{
+    (1 <= amount.0) & (amount.0 <= MOST_ORDER)
+}
+
+// "the signed difference register minus order"
+fn difference(total: Kopecks, amount: Kopecks) -> i64
+    requires { ⌜ (total .0 ≤ mostOrder) × (amount .0 ≤ mostOrder) ⌝ }
+    ensures { λ r. ⌜ (more r ≡ total .0 - amount .0) × (less r ≡ amount .0 - total .0) ⌝ }
+{
+    if amount.0 <= total.0 {
+        return (total.0 - amount.0) as i64;
+    }
+    0 - (amount.0 - total.0) as i64
+}
+
+fn wide(b: u8) -> u64
+    ensures { λ r. ⌜ r ≡ b ⌝ }
+{
+    b as u64
+}
+
+// The number of an INN, by which INNs are compared.
+fn inn_number(inn: &[u8]) -> u64
+    requires { ⌜ digits 12 (now inn) ≡ true ⌝ }
+    ensures { λ r. ⌜ (r ≡ number 12 (now (inn .entry))) × (r < 10 ^ 12) ⌝ }
+{
+    let mut n: u64 = 0;
+    let mut i = 0;
+    while i < inn.len() {
+        n = n * 10 + wide(digit_value(inn[i]));
+        i += 1;
+    }
+    n
+}
+
+// A place of a number among the first count; count where it is not among them.
+fn find(numbers: &[u64; 500], count: usize, number: u64) -> usize
+    requires { ⌜ count ≤ 500 ⌝ }
+    ensures { λ r. ⌜ Finds (now (numbers .entry)) count number r ⌝ }
+{
+    let mut found = count;
+    let mut j = 0;
+    while j < count {
+        if numbers[j] == number {
+            found = j;
+        }
+        j += 1;
+    }
+    found
+}
+
+fn bytes_of_8(n: u64) -> [u8; 8]
+    ensures { λ r. ⌜ r ≡ bytesOf 8 n ⌝ }
+{
+    [
+        (n / 256 / 256 / 256 / 256 / 256 / 256 / 256 % 256) as u8,
+        (n / 256 / 256 / 256 / 256 / 256 / 256 % 256) as u8,
+        (n / 256 / 256 / 256 / 256 / 256 % 256) as u8,
+        (n / 256 / 256 / 256 / 256 % 256) as u8,
+        (n / 256 / 256 / 256 % 256) as u8,
+        (n / 256 / 256 % 256) as u8,
+        (n / 256 % 256) as u8,
+        (n % 256) as u8,
+    ]
+}
+
+// Adds to the sum of a pooled line.
+fn add(output: &mut [u8], place: usize, kopecks: Kopecks)
+    requires { ⌜ (place * 20 + 20 ≤ length (now output)) × (bigAt (now output) (place * 20 + 12) + kopecks .0 < 2 ^ 64) ⌝ }
+    ensures { λ _. ⌜ now (output .exit) ≡ put (now (output .entry)) (place * 20 + 12) (bytesOf 8 (bigAt (now (output .entry)) (place * 20 + 12) + kopecks .0)) ⌝ }
+{
+    let at = place * LINE_SIZE + INN_SIZE;
+    let sum = number_at(output, at) + kopecks.0;
+    put(output, at, &bytes_of_8(sum));
+}
+
+// "Pool lines of one INN into one, in the order of first appearance": a line of a new INN is copied behind those in the output.
+fn pool_lines(register: &[u8], output: &mut [u8]) -> usize
+    requires { ⌜ (registerRight (now register) ≡ true) × (10000 ≤ length (now output)) ⌝ }
+    ensures { λ r. ⌜ (r ≡ length (pooled (linesOf (now (register .entry))))) × (now (output .exit) ≡ put (now (output .entry)) 0 (linesBytes (pooled (linesOf (now (register .entry)))))) ⌝ }
+{
+    let lines = register.len() / LINE_SIZE;
+    let mut numbers = [0u64; 500];
+    let mut count = 0;
+    let mut i = 0;
+    while i < lines {
+        let number = inn_number(inn_at(register, i));
+        let place = find(&numbers, count, number);
+        if place < count {
+            add(output, place, kopecks_at(register, i));
+        } else {
+            let at = i * LINE_SIZE;
+            put(
+                output,
+                count * LINE_SIZE,
+                part(register, at, at + LINE_SIZE),
+            );
+            numbers[count] = number;
+            count += 1;
+        }
+        i += 1;
+    }
+    count
+}
+
+pub fn pool(register: &[u8], amount: Kopecks, output: &mut [u8]) -> Pooled
+    ensures { λ r. ⌜ Pools (now (register .entry)) (amount .0) (now (output .entry)) r (now (output .exit)) ⌝ }
+{
+    if output.len() < OUTPUT_SIZE {
+        return Pooled::Refused(Refusal(7));
+    }
+    if !(is_register(register) & is_order(amount)) {
+        return Pooled::Refused(Refusal(16));
+    }
+    let total = total_of(register);
+    if total.0 != amount.0 {
+        return Pooled::Differs(difference(total, amount));
+    }
+    Pooled::Made(pool_lines(register, output))
+}
