@@ -1,8 +1,8 @@
 /* A small order: its messages are written, posted in the order of their arrival,
  * tested and completed, and the sheet is printed; then the bank's charge for a few
- * amounts, parts of a year, a year's amount shared among its months, and the pooled
- * lines of a register. The program checks its own results and returns 1 if one is not
- * as expected. */
+ * amounts, parts of a year, a year's amount shared among its months, the pooled lines
+ * of a register, and which payments leave first. The program checks its own results and
+ * returns 1 if one is not as expected. */
 
 #include <inttypes.h>
 #include <stdio.h>
@@ -19,6 +19,7 @@ _Static_assert(sizeof(kieselbrot_complete_answer) == 24, "the answers' layout");
 _Static_assert(sizeof(kieselbrot_charge_answer) == 16, "the answers' layout");
 _Static_assert(sizeof(kieselbrot_part_answer) == 16, "the answers' layout");
 _Static_assert(sizeof(kieselbrot_pool_answer) == 24, "the answers' layout");
+_Static_assert(sizeof(kieselbrot_leave_answer) == 32, "the answers' layout");
 
 _Static_assert(KIESELBROT_SHEET_SIZE == KIESELBROT_FIELDS * KIESELBROT_SHEET_SLOT_SIZE, "a sheet");
 _Static_assert(KIESELBROT_DRAFT_SIZE == KIESELBROT_FIELDS * KIESELBROT_DRAFT_SLOT_SIZE, "a draft");
@@ -319,6 +320,40 @@ static void ask_pool(void)
            "a wrong check digit");
 }
 
+/* Three payments of which the balance covers two, and what is refused. */
+static void ask_leave(void)
+{
+    const uint8_t priorities[] = {3, 1, 1}, wrong[] = {3, 1, 6};
+    const uint32_t arrivals[] = {7, 9, 2}, equal[] = {7, 9, 7};
+    const uint64_t amounts[] = {5, 5, 5};
+    uint32_t places[KIESELBROT_PAYMENT_PLACES], before[KIESELBROT_PAYMENT_PLACES];
+    kieselbrot_leave_answer leave;
+
+    memset(places, 0xEE, sizeof places);
+    memcpy(before, places, sizeof before);
+    expect(kieselbrot_leave(10, wrong, 3, arrivals, 3, amounts, 3, places).number ==
+                   KIESELBROT_QUEUE &&
+               kieselbrot_leave(10, priorities, 3, arrivals, 3, amounts, 2, places).number ==
+                   KIESELBROT_QUEUE &&
+               kieselbrot_leave(KIESELBROT_BALANCE_MAX + 1, priorities, 3, arrivals, 3, amounts, 3,
+                                places)
+                       .number == KIESELBROT_QUEUE &&
+               kieselbrot_leave(10, priorities, 3, equal, 3, amounts, 3, places).number ==
+                   KIESELBROT_EQUAL_ARRIVALS,
+           "payments that are refused");
+    expect(memcmp(places, before, sizeof places) == 0, "the places after a refusal");
+
+    leave = kieselbrot_leave(10, priorities, 3, arrivals, 3, amounts, 3, places);
+    printf("payments %" PRIu32 " %" PRIu32 " %" PRIu32 " from 10: number %d, %d paid, sum %" PRIu64
+           ", left %" PRIu64 "\n",
+           places[0], places[1], places[2], leave.number, (int)leave.paid, leave.sum, leave.left);
+    expect(leave.number == KIESELBROT_OK && leave.paid == 2 && leave.sum == 10 && leave.left == 0,
+           "the payments that leave");
+    expect(places[0] == 2 && places[1] == 9 && places[2] == 7, "the order of the payments");
+    for (size_t i = 3; i < KIESELBROT_PAYMENT_PLACES; i++)
+        expect(places[i] == 0, "a place past the last payment");
+}
+
 int main(void)
 {
     uint8_t draft[KIESELBROT_DRAFT_SIZE];
@@ -353,6 +388,7 @@ int main(void)
     ask_parts();
     ask_shares();
     ask_pool();
+    ask_leave();
 
     return failures != 0;
 }

@@ -1,5 +1,6 @@
 /* Budget payment orders under 107n: field messages, the draft, the rules,
- * completion, the bank's charge, part of a year, and the register of an order.
+ * completion, the bank's charge, part of a year, the register of an order, and which
+ * payments leave first.
  *
  * The functions are proved: each one's answer, and every buffer that it is lent,
  * equals a definition, for all inputs. They are total: buffers of any length may
@@ -87,6 +88,12 @@ extern "C" {
 /* The greatest amount of an order with a register, in kopecks. */
 #define KIESELBROT_ORDER_MAX UINT64_C(1000000000000000)
 
+/* How many places for arrival numbers there are: the greatest number of payments. */
+#define KIESELBROT_PAYMENT_PLACES 64
+
+/* The greatest balance, in kopecks. */
+#define KIESELBROT_BALANCE_MAX UINT64_C(1000000000000000)
+
 /* The numbers of the answers, in the order in which they are tested. */
 enum {
     KIESELBROT_OK = 0,
@@ -111,7 +118,10 @@ enum {
     KIESELBROT_REGISTER = 16,     /* for pool, a register not of 1 to 500 whole lines, a line whose
                                      INN is none or whose kopecks are out of range, or an order's
                                      amount out of range */
-    KIESELBROT_DISCREPANCY = 17   /* for pool, the register's total is not the order's amount */
+    KIESELBROT_DISCREPANCY = 17,  /* for pool, the register's total is not the order's amount */
+    KIESELBROT_QUEUE = 18,        /* for leave, a balance, priority or amount out of range, over 64
+                                     payments, or lists of different lengths */
+    KIESELBROT_EQUAL_ARRIVALS = 19 /* for leave, two equal arrival numbers */
 };
 
 /* The answer of a check. */
@@ -187,6 +197,14 @@ typedef struct {
     int64_t difference; /* with 17: the register's total less the order's amount */
 } kieselbrot_pool_answer;
 
+/* The answer of which payments leave: sum plus left is the balance. */
+typedef struct {
+    uint8_t number; /* 0, 18 or 19 */
+    size_t paid;    /* how many are paid: the first so many in the order */
+    uint64_t sum;   /* their sum */
+    uint64_t left;  /* what is left of the balance */
+} kieselbrot_leave_answer;
+
 /* Checks a sheet against the rules, in their order, and tells its class. */
 kieselbrot_check_answer kieselbrot_check(const uint8_t *sheet, size_t sheet_len);
 
@@ -248,6 +266,20 @@ uint8_t kieselbrot_shares(uint64_t amount, uint32_t year, const uint32_t *period
  * there are. */
 kieselbrot_pool_answer kieselbrot_pool(const uint8_t *register_, size_t register_len,
                                        uint64_t amount, uint8_t *output, size_t output_len);
+
+/* Which payments leave an account first: by priority and, within one, by arrival, lower
+ * numbers first, until the first that exceeds what is left; it and all after it wait.
+ * Payment i has priority, arrival number and amount i of the three lists, which are of
+ * one length. The balance is 0 to 10^15 kopecks; there are 0 to 64 payments, with
+ * priority 1 to 5, any arrival number, no two equal, and 1 to 10^12 kopecks. The places
+ * get the arrival numbers of all payments in that order, and 0 past the last; how many
+ * payments there are tells an arrival number of 0 from a place past the last. All 64
+ * places are written, or none. */
+kieselbrot_leave_answer kieselbrot_leave(uint64_t balance, const uint8_t *priorities,
+                                         size_t priorities_len, const uint32_t *arrivals,
+                                         size_t arrivals_len, const uint64_t *amounts,
+                                         size_t amounts_len,
+                                         uint32_t places[KIESELBROT_PAYMENT_PLACES]);
 
 #ifdef __cplusplus
 }

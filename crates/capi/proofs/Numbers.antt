@@ -41,10 +41,12 @@ use Rattle.amounts.specs.declared.shares.Shared.{Shared}
 use Rattle.registers.specs.Register.{linesOf, totalOf}
 use Rattle.registers.specs.Pool.{more, less, poolTests, pooling, poolAnswer, Pools}
 use Rattle.registers.specs.declared.pool.Pooled.{Pooled}
+use Rattle.payments.specs.Leave.{leaveTests, leaving, leaveAnswer, Leaves}
+use Rattle.payments.specs.declared.leave.Leaving.{Leaving}
 use Rattle.registers.specs.declared.pool.Pooled.the-variants.{Differs}
 use Rattle.orders.specs.declared.complete.Completed.{Completed}
-use Rattle.capi.specs.Numbers.{numbered, numberAnswer, checkNumbers, checkOf, readNumbers, readOf, writeNumbers, writeOf, postNumbers, wordOf, postOf, completeNumbers, completeOf, pretestNumbers, pretestOf, chargeNumbers, chargeOf, partNumbers, partOf, poolNumbers, poolOf}
-use Rattle.capi.specs.Promises.{CheckReturns, ReadReturns, WriteReturns, FreshReturns, PostReturns, CopyReturns, CompleteReturns, PretestReturns, ChargeReturns, PartReturns, SharesReturns, PoolReturns}
+use Rattle.capi.specs.Numbers.{numbered, numberAnswer, checkNumbers, checkOf, readNumbers, readOf, writeNumbers, writeOf, postNumbers, wordOf, postOf, completeNumbers, completeOf, pretestNumbers, pretestOf, chargeNumbers, chargeOf, partNumbers, partOf, poolNumbers, poolOf, leaveNumbers, leaveOf}
+use Rattle.capi.specs.Promises.{CheckReturns, ReadReturns, WriteReturns, FreshReturns, PostReturns, CopyReturns, CompleteReturns, PretestReturns, ChargeReturns, PartReturns, SharesReturns, PoolReturns, LeaveReturns}
 use Rattle.capi.specs.declared.Check.{Check}
 use Rattle.capi.specs.declared.Read.{Read}
 use Rattle.capi.specs.declared.Write.{Write}
@@ -54,6 +56,7 @@ use Rattle.capi.specs.declared.Pretest.{Pretest}
 use Rattle.capi.specs.declared.Charge.{Charge}
 use Rattle.capi.specs.declared.Part.{Part}
 use Rattle.capi.specs.declared.Pool.{Pool}
+use Rattle.capi.specs.declared.Leave.{Leave}
 
 -- ---- reading an answer back
 
@@ -149,6 +152,10 @@ pool-back : (t : List ℕ) (a : ℕ) (o : List ℕ) → Back poolNumbers poolOf 
 unfolding pooling poolTests poolNumbers poolOf numbered
 pool-back t a o = tested (Back poolNumbers poolOf) (poolTests t a o) _ refl (refl, (refl, (difference-back (totalOf (linesOf t)) a, tt)))
 
+leave-back : (b : ℕ) (ps ns ks : List ℕ) → Back leaveNumbers leaveOf (leaving b ps ns ks)
+unfolding leaving leaveTests leaveNumbers leaveOf numbered
+leave-back b ps ns ks = tested (Back leaveNumbers leaveOf) (leaveTests b ps ns ks) _ refl (search depth 12)
+
 -- ---- what each function returned: v is what it called, and k the case of v in an arm
 
 module _ (s : List ℕ) (v : Verdict) (p : Checked s v) (k : Verdict) (e : v ≡ k) (r : Check) (q : r ≡ checkNumbers (verdictAnswer k)) where
@@ -224,3 +231,7 @@ module _ (t : List ℕ) (a : ℕ) (o : List ℕ) (v : Pooled) (x : List ℕ) (w 
 pub differs-is : (t : List ℕ) (a : ℕ) (o : List ℕ) (v : Pooled) (x : List ℕ) → Pools t a o v x → (d : ℤ) → v ≡ Differs d → (r : Pool) → r ≡ record { number = 17; lines = 0; difference = d } → PoolReturns t a o r x
 unfolding poolNumbers poolAnswer
 differs-is t a o v x w d e r q = pooled-is t a o v x w (Differs d) e r (q ∙ (λ i. record { number = 17; lines = 0; difference = sym (signed-of d) i }))
+
+module _ (b : ℕ) (ps ns ks o : List ℕ) (v : Leaving) (x : List ℕ) (w : Leaves b ps ns ks o v x) (k : Leaving) (e : v ≡ k) (r : Leave) (q : r ≡ leaveNumbers (leaveAnswer k)) where
+  pub left-is : LeaveReturns b ps ns ks o r x
+  left-is = record { numbers = cc; answer = cc (leave-back b ps ns ks); places = w .places }

@@ -20,6 +20,7 @@ use Rattle.capi.specs.declared.Pretest.{Pretest}
 use Rattle.capi.specs.declared.Charge.{Charge}
 use Rattle.capi.specs.declared.Part.{Part}
 use Rattle.capi.specs.declared.Pool.{Pool}
+use Rattle.capi.specs.declared.Leave.{Leave}
 
 -- number 0 is success, which returns vs; another number is a refusal, with ws beside it
 unfoldable pub numbered : ℕ → List ℕ → List ℕ → Answer
@@ -113,3 +114,11 @@ poolNumbers (refusal n (m ∷ vs)) = record { number = n; lines = 0; difference 
 
 unfoldable pub poolOf : Pool → Answer
 poolOf r = numbered (r .number) (r .lines ∷ []) (cond (eqb (r .number) 17) (more (r .difference) ∷ less (r .difference) ∷ []) [])
+
+-- how many are paid, their sum and what is left
+unfoldable pub leaveNumbers : Answer → Leave
+leaveNumbers (success vs) = record { number = 0; paid = getD vs 0 0; sum = getD vs 1 0; left = getD vs 2 0 }
+leaveNumbers (refusal n vs) = record { number = n; paid = 0; sum = 0; left = 0 }
+
+unfoldable pub leaveOf : Leave → Answer
+leaveOf r = numbered (r .number) (r .paid ∷ r .sum ∷ r .left ∷ []) []

@@ -16,7 +16,8 @@ use Rattle.amounts.specs.Charge.{charging}
 use Rattle.amounts.specs.Part.{parting}
 use Rattle.amounts.specs.Shares.{sharing, sharedTo}
 use Rattle.registers.specs.Pool.{pooling, pooledTo}
-use Rattle.capi.specs.Numbers.{numberAnswer, checkNumbers, checkOf, readNumbers, readOf, writeNumbers, writeOf, postNumbers, postOf, completeNumbers, completeOf, pretestNumbers, pretestOf, chargeNumbers, chargeOf, partNumbers, partOf, poolNumbers, poolOf}
+use Rattle.payments.specs.Leave.{leaving, leftIn}
+use Rattle.capi.specs.Numbers.{numberAnswer, checkNumbers, checkOf, readNumbers, readOf, writeNumbers, writeOf, postNumbers, postOf, completeNumbers, completeOf, pretestNumbers, pretestOf, chargeNumbers, chargeOf, partNumbers, partOf, poolNumbers, poolOf, leaveNumbers, leaveOf}
 use Rattle.capi.specs.declared.Check.{Check}
 use Rattle.capi.specs.declared.Read.{Read}
 use Rattle.capi.specs.declared.Write.{Write}
@@ -26,6 +27,7 @@ use Rattle.capi.specs.declared.Pretest.{Pretest}
 use Rattle.capi.specs.declared.Charge.{Charge}
 use Rattle.capi.specs.declared.Part.{Part}
 use Rattle.capi.specs.declared.Pool.{Pool}
+use Rattle.capi.specs.declared.Leave.{Leave}
 
 -- checking the sheet s returned r
 pub record CheckReturns (s : List ℕ) (r : Check) : Type 0 where
@@ -96,3 +98,9 @@ pub record PoolReturns (t : List ℕ) (a : ℕ) (o : List ℕ) (r : Pool) (e : L
   pub numbers : r ≡ poolNumbers (pooling t a o)
   pub answer : poolOf r ≡ pooling t a o
   pub output : e ≡ pooledTo t a o
+
+-- asking which payments leave of the balance b, by their priorities, arrival numbers and kopecks, in the places o, returned r and left e
+pub record LeaveReturns (b : ℕ) (ps ns ks o : List ℕ) (r : Leave) (e : List ℕ) : Type 0 where
+  pub numbers : r ≡ leaveNumbers (leaving b ps ns ks)
+  pub answer : leaveOf r ≡ leaving b ps ns ks
+  pub places : e ≡ leftIn b ps ns ks o

@@ -1,5 +1,5 @@
 // The library for C and for what links like C. Each function forwards to a proved one, and gives document 01's numbers.
-ghost use Rattle.capi.specs.Promises.{CheckReturns, ReadReturns, WriteReturns, FreshReturns, PostReturns, CopyReturns, CompleteReturns, PretestReturns, ChargeReturns, PartReturns, SharesReturns, PoolReturns};
+ghost use Rattle.capi.specs.Promises.{CheckReturns, ReadReturns, WriteReturns, FreshReturns, PostReturns, CopyReturns, CompleteReturns, PretestReturns, ChargeReturns, PartReturns, SharesReturns, PoolReturns, LeaveReturns};
 use amounts::amount::Kopecks;
 use amounts::charge::Charged;
 use amounts::charge::Rate;
@@ -15,6 +15,7 @@ use drafts::message::Written;
 use drafts::revision::Revision;
 use orders::complete::Completed;
 use orders::pretest::Pretested;
+use payments::leave::Leaving;
 use registers::pool::Pooled;
 use rules::check::Verdict;
 use rules::class::Class;
@@ -84,6 +85,14 @@ pub struct Pool {
     pub number: u8,
     pub lines: usize,
     pub difference: i64,
+}
+
+#[repr(C)]
+pub struct Leave {
+    pub number: u8,
+    pub paid: usize,
+    pub sum: u64,
+    pub left: u64,
 }
 
 #[no_mangle]
@@ -369,6 +378,33 @@ pub extern "C" fn kieselbrot_pool(register: &[u8], amount: u64, output: &mut [u8
             number: n.0,
             lines: 0,
             difference: 0,
+        },
+    }
+}
+
+#[no_mangle]
+pub extern "C" fn kieselbrot_leave(
+    balance: u64,
+    priorities: &[u8],
+    arrivals: &[u32],
+    amounts: &[u64],
+    places: &mut [u32; 64],
+) -> Leave
+    ensures { λ r. ⌜ LeaveReturns balance (now (priorities .entry)) (now (arrivals .entry)) (now (amounts .entry)) (now (places .entry)) r (now (places .exit)) ⌝ }
+{
+    let v = payments::leave::leave(Kopecks(balance), priorities, arrivals, amounts, places);
+    match v {
+        Leaving::Made { paid, sum, left } => Leave {
+            number: 0,
+            paid: paid,
+            sum: sum.0,
+            left: left.0,
+        },
+        Leaving::Refused(n) => Leave {
+            number: n.0,
+            paid: 0,
+            sum: 0,
+            left: 0,
         },
     }
 }

@@ -1,7 +1,7 @@
 //! What is measured with: for each row many inputs, all different.
 
 use cases::{blanked, budget, damaged_draft, disturb, message, with_forms, BLANKS, FIELDS};
-use cases::{charge_in_range, parting_in_range, register_of, sharing_of};
+use cases::{charge_in_range, parting_in_range, queue_of, register_of, sharing_of};
 use cases::{Account, Basis, Code, Date, Document, Draft, Forms, Payer, Random, Sheet, Texts};
 use cases::{Charge, Parting, Pooling, Sharing};
 
@@ -209,6 +209,39 @@ pub fn registers(random: &mut Random, lines: usize, inns: usize) -> Vec<Pooling>
     })
 }
 
+/// A balance, and the payments that wait, for each in its own type.
+pub struct Waiting {
+    /// In kopecks.
+    pub balance: u64,
+    /// For the library.
+    pub library: Vec<kieselbrot::Payment>,
+    /// For the second implementation.
+    pub reference: Vec<reference::Payment>,
+}
+
+/// 64 payments each, in range, with a balance that covers some of them.
+pub fn payments(random: &mut Random) -> Vec<Waiting> {
+    many(random, |random| {
+        let queue = queue_of(random, cases::PAYMENT_PLACES);
+        let payments = queue.payments().unwrap_or_default();
+        let library = |payment: &cases::Payment| kieselbrot::Payment {
+            priority: payment.priority,
+            arrival: payment.arrival,
+            amount: payment.amount,
+        };
+        let reference = |payment: &cases::Payment| reference::Payment {
+            priority: payment.priority.into(),
+            arrival: payment.arrival,
+            amount: payment.amount,
+        };
+        Waiting {
+            balance: queue.balance,
+            library: payments.iter().map(library).collect(),
+            reference: payments.iter().map(reference).collect(),
+        }
+    })
+}
+
 /// A book of mixed drafts: whole, with blanks, with mistakes, some damaged.
 pub fn book(random: &mut Random) -> Vec<Draft> {
     (0..BOOK).map(|_| entry(random)).collect()
@@ -339,6 +372,14 @@ mod tests {
                 let output = &mut [0; cases::POOL_SIZE];
                 assert_eq!(reference::pool(&register, amount, output), Ok(inns));
             }
+        }
+    }
+
+    #[test]
+    fn every_64_payments_are_ordered() {
+        for waiting in payments(&mut random()) {
+            assert_eq!((waiting.library.len(), waiting.reference.len()), (64, 64));
+            assert!(reference::leave(waiting.balance, &waiting.reference).is_ok());
         }
     }
 

@@ -21,6 +21,7 @@ use std::path::Path;
 use std::process::{Command, ExitCode};
 
 use cases::{Charge, Draft, Parting, Pooling, Random, Sharing, Sheet, POOL_SIZE};
+use inputs::Waiting;
 use measure::{Goal, Row, NO_SLOWER};
 use report::Report;
 
@@ -76,6 +77,7 @@ fn measure_all() -> Report {
         Goal::NotSet,
         inputs::registers(&mut inputs::random(), 500, 500),
     ));
+    rows.push(leave(inputs::payments(&mut inputs::random())));
     Report {
         rows,
         pools: pools(),
@@ -258,6 +260,16 @@ fn pools() -> Vec<(usize, Row)> {
             (lines, pool("", NO_SLOWER, registers))
         })
         .into()
+}
+
+fn leave(waiting: Vec<Waiting>) -> Row {
+    Row::measure(
+        "leave, 64 payments",
+        Goal::OfSecond(1.5),
+        &waiting,
+        |waiting| kieselbrot::leave(waiting.balance, &waiting.library),
+        |waiting| reference::leave(waiting.balance, &waiting.reference),
+    )
 }
 
 /// Writes the table, then the chart that is drawn from it.

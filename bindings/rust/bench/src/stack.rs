@@ -6,7 +6,7 @@ use std::ptr;
 use std::sync::Mutex;
 use std::thread;
 
-use cases::{Draft, Random};
+use cases::{Draft, Pooling, Random};
 
 use crate::inputs;
 
@@ -42,24 +42,45 @@ pub fn rows(random: &mut Random) -> Vec<Stack> {
         ),
     ];
     rows.extend(drafts.map(|(name, draft)| completion(name, &draft)));
+    rows.push(pooling(&inputs::registers(random, 500, 500)[0]));
+    let payments = &inputs::payments(random)[0];
+    rows.push(Stack {
+        name: "leave, 64 payments",
+        library: used(&|| keep(kieselbrot::leave(payments.balance, &payments.library))),
+        reference: used(&|| keep(reference::leave(payments.balance, &payments.reference))),
+    });
     rows
 }
 
 fn completion(name: &'static str, draft: &Draft) -> Stack {
-    let mut sheet = [0; 390];
-    let lent = Mutex::new(&mut sheet[..]);
-    let call = |complete: fn(&[u8], &mut [u8]) -> bool| {
-        used(&|| {
-            if let Ok(mut sheet) = lent.lock() {
-                keep(complete(black_box(draft), &mut sheet));
-            }
-        })
-    };
     Stack {
         name,
-        library: call(|draft, sheet| kieselbrot::complete(draft, sheet).is_ok()),
-        reference: call(|draft, sheet| reference::complete(draft, sheet).is_ok()),
+        library: writing(390, &|sheet| kieselbrot::complete(draft, sheet).is_ok()),
+        reference: writing(390, &|sheet| reference::complete(draft, sheet).is_ok()),
     }
+}
+
+fn pooling(input: &Pooling) -> Stack {
+    let (register, amount) = (&input.register, input.amount);
+    Stack {
+        name: "pool, 500 lines of 500 INNs",
+        library: writing(10_000, &|output| {
+            kieselbrot::pool(register, amount, output).is_ok()
+        }),
+        reference: writing(10_000, &|output| {
+            reference::pool(register, amount, output).is_ok()
+        }),
+    }
+}
+
+/// The stack of a call that is lent a buffer of so many bytes, which lies elsewhere.
+fn writing(size: usize, call: &(dyn Fn(&mut [u8]) -> bool + Sync)) -> usize {
+    let lent = Mutex::new(vec![0; size]);
+    used(&|| {
+        if let Ok(mut buffer) = lent.lock() {
+            keep(call(black_box(&mut buffer)));
+        }
+    })
 }
 
 /// Keeps the compiler from leaving out what nobody looks at.

@@ -1,6 +1,6 @@
 //! Sheets, drafts and messages to try the library with, laid out byte by byte from
-//! document 01, arguments of a charge, of a part of a year and of shares, and registers:
-//! without code of the library or of the second implementation.
+//! document 01, arguments of a charge, of a part of a year and of shares, registers, and
+//! payments: without code of the library or of the second implementation.
 
 #![forbid(unsafe_code)]
 #![warn(missing_docs)]
@@ -11,6 +11,7 @@ mod fillings;
 mod forms;
 mod orders;
 mod parts;
+mod payments;
 mod random;
 mod registers;
 mod streams;
@@ -26,6 +27,7 @@ pub use orders::{accepted, blanked, budget, class_a, class_b, disturb, with_form
 pub use orders::{Account, Basis, Code, Date, Document, Forms, Payer};
 pub use parts::{parting, parting_in_range, sharing, sharing_in_range, sharing_of};
 pub use parts::{Parting, Sharing, SHARE_PLACES, YEARS};
+pub use payments::{queue, queue_of, Payment, Queue, BALANCE_MAX, PAYMENT_PLACES};
 pub use random::Random;
 pub use registers::{inn_of, pool_size, pooling, register_of, Inn, Line, Pooling};
 pub use registers::{LINES_MAX, LINE_SIZE, ORDER_MAX, POOL_SIZE};

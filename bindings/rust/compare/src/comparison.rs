@@ -3,7 +3,8 @@
 use std::fmt::{self, Debug, Write as _};
 use std::hint::black_box;
 
-use cases::{Charge, Parting, Pooling, Sharing, FIELDS, SHARE_PLACES};
+use cases::{Charge, Parting, Pooling, Queue, Sharing, FIELDS};
+use cases::{PAYMENT_PLACES, SHARE_PLACES};
 use kieselbrot::{Class, Completed, Message, Posted, Refusal};
 
 use crate::library::{Library, Reference};
@@ -109,24 +110,24 @@ impl Lent {
     }
 }
 
-/// Places for shares to lend, amid others that nobody may touch.
+/// Places to lend, amid others that nobody may touch.
 #[repr(C)]
 #[derive(Clone, Debug, PartialEq, Eq)]
-struct Places {
-    ahead: [u64; Self::GUARD],
-    lent: [u64; SHARE_PLACES],
-    behind: [u64; Self::GUARD],
+struct Places<T, const COUNT: usize> {
+    ahead: [T; GUARD_PLACES],
+    lent: [T; COUNT],
+    behind: [T; GUARD_PLACES],
 }
 
-impl Places {
-    const GUARD: usize = 6;
+/// How many places stand on either side.
+const GUARD_PLACES: usize = 6;
 
-    const fn new(lent: [u64; SHARE_PLACES]) -> Self {
-        let guard = [0xA5A5_A5A5_A5A5_A5A5; Self::GUARD];
+impl<T: Copy, const COUNT: usize> Places<T, COUNT> {
+    const fn amid(guard: T, lent: [T; COUNT]) -> Self {
         Self {
-            ahead: guard,
+            ahead: [guard; GUARD_PLACES],
             lent,
-            behind: guard,
+            behind: [guard; GUARD_PLACES],
         }
     }
 }
@@ -293,8 +294,9 @@ impl<'a, L: Library> Comparison<'a, L> {
     pub fn shares(&mut self, sharing: &Sharing, before: &[u64; SHARE_PLACES]) -> Outcome<()> {
         let input = || format!("{sharing:?}, places {before:?}");
         let lent = black_box(sharing.clone());
+        let fresh = || Places::amid(0xA5A5_A5A5_A5A5_A5A5, *before);
         let ask = |library: &dyn Library| {
-            let mut places = Places::new(*before);
+            let mut places = fresh();
             let given = &mut black_box(&mut places).lent;
             let answer = library.shares(lent.amount, lent.year, &lent.periods, given);
             (answer, black_box(places))
@@ -304,7 +306,7 @@ impl<'a, L: Library> Comparison<'a, L> {
         same("shares", answer, expected, input)?;
         same("shares", &places, &right, input)?;
         if answer.is_err() {
-            same("shares", &places, &Places::new(*before), input)?;
+            same("shares", &places, &fresh(), input)?;
         }
         same("shares", black_box(&lent), sharing, input)?;
         let made = answer.map(|()| places.lent);
@@ -329,6 +331,30 @@ impl<'a, L: Library> Comparison<'a, L> {
         })?;
         let (before, after) = (before.bytes(), after.bytes());
         self.reached.pool(pooling, before, after, answer);
+        Ok(())
+    }
+
+    /// Asks which payments leave first, in places with this content. Answers, places and
+    /// those around them must agree, and be as before after a refusal; the payments must
+    /// stay.
+    pub fn leave(&mut self, queue: &Queue, before: &[u32; PAYMENT_PLACES]) -> Outcome<()> {
+        let input = || format!("{queue:?}, places {before:?}");
+        let lent = black_box(queue.clone());
+        let fresh = || Places::amid(0xA5A5_A5A5, *before);
+        let ask = |library: &dyn Library| {
+            let mut places = fresh();
+            let answer = library.leave(&lent, &mut black_box(&mut places).lent);
+            (answer, black_box(places))
+        };
+        let (answer, places) = ask(self.library);
+        let (expected, right) = ask(&Reference);
+        same("leave", answer, expected, input)?;
+        same("leave", &places, &right, input)?;
+        if answer.is_err() {
+            same("leave", &places, &fresh(), input)?;
+        }
+        same("leave", black_box(&lent), queue, input)?;
+        self.reached.leave(queue, before, answer);
         Ok(())
     }
 

@@ -3,7 +3,8 @@
 use cases::{blanked, with_forms, Account, Basis, Code, Date, Document, Forms, Payer};
 use cases::{budget, message, sheets, Random, Text, Texts, FIELDS, STATUSES};
 use cases::{inn_of, Inn, Line, Pooling, LINES_MAX, LINE_SIZE, ORDER_MAX, POOL_SIZE};
-use cases::{Charge, Parting, Sharing, KOPECKS_MAX, RATE_MAX, SHARE_PLACES, YEARS};
+use cases::{Charge, Parting, Payment, Queue, Sharing};
+use cases::{BALANCE_MAX, KOPECKS_MAX, PAYMENT_PLACES, RATE_MAX, SHARE_PLACES, YEARS};
 use kieselbrot::{Class, Refusal};
 
 use crate::comparison::{same, Comparison, Difference, Lent};
@@ -552,6 +553,157 @@ fn wrong_lines<L: Library>(comparison: &mut Comparison<'_, L>, output: &Lent) ->
             let mut lines = right.clone();
             lines[place] = wrong;
             comparison.pool(&Pooling::new(&lines), output)?;
+        }
+    }
+    Ok(())
+}
+
+/// Payments: every list of up to four, with two priorities and four arrival numbers, on
+/// every balance about their sum; every priority; every number of payments up to 130; a
+/// balance about every opening sum of 64; a wrong one in every place of 64; every two of
+/// 64 equal; lists of different lengths; the balances and amounts that matter.
+pub fn queues<L: Library>(comparison: &mut Comparison<'_, L>) -> Outcome {
+    for payments in small_queues() {
+        for balance in 0..=16 {
+            leave(comparison, balance, &payments)?;
+        }
+    }
+    let three = &waiting(3);
+    for priority in 0..=u8::MAX {
+        for place in 0..3 {
+            let mut payments = three.clone();
+            payments[place].priority = priority;
+            leave(comparison, 100, &payments)?;
+        }
+    }
+    for count in 0..=130 {
+        let mut payments = waiting(count);
+        leave(comparison, 100, &payments)?;
+        payments.iter_mut().for_each(|payment| payment.arrival = 7);
+        leave(comparison, 100, &payments)?;
+    }
+    let most = &waiting(PAYMENT_PLACES);
+    let mut ordered = most.clone();
+    ordered.sort_by_key(|payment| (payment.priority, payment.arrival));
+    for paid in 0..=PAYMENT_PLACES {
+        let sum: u64 = ordered[..paid].iter().map(|payment| payment.amount).sum();
+        for balance in sum.saturating_sub(1)..=sum + 1 {
+            leave(comparison, balance, most)?;
+        }
+    }
+    wrong_payments(comparison, most)?;
+    lengths(comparison, most)?;
+    for amount in KOPECKS {
+        for balance in KOPECKS.into_iter().chain(BALANCES) {
+            for count in [0, 1, PAYMENT_PLACES] {
+                let mut payments = waiting(count);
+                let all = payments.iter_mut();
+                all.for_each(|payment| payment.amount = amount);
+                leave(comparison, balance, &payments)?;
+            }
+            let mut payments = three.clone();
+            payments[1].amount = amount;
+            leave(comparison, balance, &payments)?;
+        }
+    }
+    Ok(())
+}
+
+/// Balances that matter.
+const BALANCES: [u64; 7] = [
+    64 * KOPECKS_MAX - 1,
+    64 * KOPECKS_MAX,
+    64 * KOPECKS_MAX + 1,
+    BALANCE_MAX - 1,
+    BALANCE_MAX,
+    BALANCE_MAX + 1,
+    BALANCE_MAX + 2,
+];
+
+fn leave<L: Library>(
+    comparison: &mut Comparison<'_, L>,
+    balance: u64,
+    payments: &[Payment],
+) -> Outcome {
+    let held = [0xEEEE_EEEE; PAYMENT_PLACES];
+    comparison.leave(&Queue::new(balance, payments), &held)
+}
+
+/// Every list of up to four payments with two priorities and four arrival numbers, of 8,
+/// 4, 2 and 1 kopecks.
+fn small_queues() -> impl Iterator<Item = Vec<Payment>> {
+    let arrivals = [0, 1, (1 << 31) - 1, 1 << 31];
+    (0..=4).flat_map(move |count: u32| {
+        (0..8_usize.pow(count)).map(move |number| {
+            let payment = |place| {
+                let which = number / 8_usize.pow(place) % 8;
+                Payment {
+                    priority: [1, 5][which / 4],
+                    arrival: arrivals[which % 4],
+                    amount: 8 >> place,
+                }
+            };
+            (0..count).map(payment).collect()
+        })
+    })
+}
+
+/// So many payments of all priorities, with different arrival numbers, some of them above
+/// 2^31, and different amounts.
+fn waiting(count: usize) -> Vec<Payment> {
+    let payment = |place: u32| Payment {
+        priority: (place * 3 % 5) as u8 + 1,
+        arrival: place.wrapping_mul(0x9E37_79B9).wrapping_sub(1),
+        amount: u64::from(place * 7 % 11) + 1,
+    };
+    (0..count as u32).map(payment).collect()
+}
+
+/// One payment wrong in every place, and every two with one arrival number, of one
+/// priority and of two.
+fn wrong_payments<L: Library>(comparison: &mut Comparison<'_, L>, right: &[Payment]) -> Outcome {
+    for (place, &payment) in right.iter().enumerate() {
+        let priorities = [0, 6, 255].map(|priority| Payment {
+            priority,
+            ..payment
+        });
+        let amounts = [0, KOPECKS_MAX + 1, u64::MAX].map(|amount| Payment { amount, ..payment });
+        for wrong in priorities.into_iter().chain(amounts) {
+            let mut payments = right.to_vec();
+            payments[place] = wrong;
+            leave(comparison, 100, &payments)?;
+        }
+        for other in 0..place {
+            for arrival in [0, payment.arrival] {
+                for priority in [payment.priority, right[other].priority] {
+                    let mut payments = right.to_vec();
+                    payments[place].arrival = arrival;
+                    payments[other] = Payment {
+                        priority,
+                        arrival,
+                        ..right[other]
+                    };
+                    leave(comparison, 100, &payments)?;
+                }
+            }
+        }
+    }
+    Ok(())
+}
+
+/// Lists of every three lengths that matter.
+fn lengths<L: Library>(comparison: &mut Comparison<'_, L>, most: &[Payment]) -> Outcome {
+    let all = Queue::new(100, &[most, &waiting(66)[64..]].concat());
+    let lengths = [0, 1, 2, 3, 63, 64, 65, 66];
+    for priorities in lengths {
+        for arrivals in lengths {
+            for amounts in lengths {
+                let mut queue = all.clone();
+                queue.priorities.truncate(priorities);
+                queue.arrivals.truncate(arrivals);
+                queue.amounts.truncate(amounts);
+                comparison.leave(&queue, &[9; PAYMENT_PLACES])?;
+            }
         }
     }
     Ok(())

@@ -1,7 +1,7 @@
 //! Generated cases, one after another.
 
 use cases::{accepted, blanked, budget, disturb, message, size_near, Random, Text, Texts, FIELDS};
-use cases::{charge, parting, pool_size, pooling, sharing};
+use cases::{charge, parting, pool_size, pooling, queue, sharing};
 use cases::{damaged_draft, damaged_message, damaged_sheet, Draft, Pooling};
 
 use crate::comparison::{same, Comparison, Difference, Lent};
@@ -12,7 +12,7 @@ type Outcome = Result<(), Difference>;
 
 /// One case: mostly one call, sometimes a list of them.
 pub fn case<L: Library>(comparison: &mut Comparison<'_, L>, random: &mut Random) -> Outcome {
-    match random.below(236) {
+    match random.below(248) {
         0..80 => check(comparison, random),
         80..100 => read(comparison, random),
         100..120 => write(comparison, random),
@@ -30,10 +30,15 @@ pub fn case<L: Library>(comparison: &mut Comparison<'_, L>, random: &mut Random)
             let before = std::array::from_fn(|_| random.number());
             comparison.shares(&sharing, &before)
         }
-        _ => {
+        226..236 => {
             let pooling = pooling(random);
             let before = pool_output(random, &pooling);
             comparison.pool(&pooling, &before)
+        }
+        _ => {
+            let queue = queue(random);
+            let before = std::array::from_fn(|_| random.number() as u32);
+            comparison.leave(&queue, &before)
         }
     }
 }

@@ -17,6 +17,7 @@ mod parts;
 mod planted;
 mod pools;
 mod pretest;
+mod queues;
 mod reached;
 mod run;
 mod shares;

@@ -1,9 +1,11 @@
 //! The library and the second implementation under one trait.
 
-use kieselbrot::{Broken, Class, Completed, Message, Part, Posted, Refusal, SHARE_PLACES};
+use cases::Queue;
+use kieselbrot::{Broken, Class, Completed, Message, Paid, Part, Posted, Refusal};
+use kieselbrot::{PAYMENT_PLACES, SHARE_PLACES};
 
 /// The seven functions of document 01, the test ahead of completion, the bank's
-/// charge, part of a year, and pooling a register.
+/// charge, part of a year, pooling a register, and which payments leave first.
 pub trait Library: Sync {
     /// Checks a sheet.
     fn check(&self, sheet: &[u8]) -> Result<Class, Refusal>;
@@ -41,6 +43,8 @@ pub trait Library: Sync {
     ) -> Result<(), Refusal>;
     /// Pools the lines of a register.
     fn pool(&self, register: &[u8], amount: u64, output: &mut [u8]) -> Result<usize, Refusal>;
+    /// Which payments leave first.
+    fn leave(&self, queue: &Queue, places: &mut [u32; PAYMENT_PLACES]) -> Result<Paid, Refusal>;
 }
 
 /// The proved library, as linked.
@@ -105,6 +109,16 @@ impl Library for Linked {
 
     fn pool(&self, register: &[u8], amount: u64, output: &mut [u8]) -> Result<usize, Refusal> {
         kieselbrot::pool(register, amount, output)
+    }
+
+    fn leave(&self, queue: &Queue, places: &mut [u32; PAYMENT_PLACES]) -> Result<Paid, Refusal> {
+        let Queue {
+            balance,
+            ref priorities,
+            ref arrivals,
+            ref amounts,
+        } = *queue;
+        kieselbrot::leave_into(balance, priorities, arrivals, amounts, places)
     }
 }
 
@@ -195,6 +209,25 @@ impl Library for Reference {
     fn pool(&self, register: &[u8], amount: u64, output: &mut [u8]) -> Result<usize, Refusal> {
         reference::pool(register, amount, output).map_err(refusal)
     }
+
+    /// The second implementation has payments in one list; lists of different lengths are
+    /// refused for it.
+    fn leave(&self, queue: &Queue, places: &mut [u32; PAYMENT_PLACES]) -> Result<Paid, Refusal> {
+        let payments = queue.payments().ok_or(Refusal::Queue)?;
+        let payments: Vec<_> = payments.iter().map(payment).collect();
+        let reference::Leaving {
+            order,
+            paid,
+            sum,
+            left,
+        } = reference::leave(queue.balance, &payments).map_err(refusal)?;
+        *places = order;
+        Ok(Paid {
+            count: paid,
+            sum,
+            left,
+        })
+    }
 }
 
 const fn class(class: reference::Class) -> Class {
@@ -218,6 +251,19 @@ fn broken(broken: reference::Broken) -> Broken {
     Broken { field, rule }
 }
 
+fn payment(payment: &cases::Payment) -> reference::Payment {
+    let cases::Payment {
+        priority,
+        arrival,
+        amount,
+    } = *payment;
+    reference::Payment {
+        priority: priority.into(),
+        arrival,
+        amount,
+    }
+}
+
 const fn refusal(refusal: reference::Refusal) -> Refusal {
     match refusal {
         reference::Refusal::Malformed => Refusal::Malformed,
@@ -236,5 +282,7 @@ const fn refusal(refusal: reference::Refusal) -> Refusal {
         reference::Refusal::YearPart => Refusal::YearPart,
         reference::Refusal::Register => Refusal::Register,
         reference::Refusal::Discrepancy { difference } => Refusal::Discrepancy { difference },
+        reference::Refusal::Queue => Refusal::Queue,
+        reference::Refusal::EqualArrivals => Refusal::EqualArrivals,
     }
 }

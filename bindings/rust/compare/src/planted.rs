@@ -1,8 +1,10 @@
 //! Differences planted on purpose: each must be found.
 
 use cases::{inn_remainder, slot_of, snils_remainder, Text, Texts};
-use cases::{Line, Pooling, KOPECKS_MAX, LINE_SIZE, POOL_SIZE, RATE_MAX, YEARS};
-use kieselbrot::{Broken, Class, Completed, Message, Part, Posted, Refusal, SHARE_PLACES};
+use cases::{Line, Payment, Pooling, Queue};
+use cases::{KOPECKS_MAX, LINE_SIZE, POOL_SIZE, RATE_MAX, YEARS};
+use kieselbrot::{Broken, Class, Completed, Message, Paid, Part, Posted, Refusal};
+use kieselbrot::{PAYMENT_PLACES, SHARE_PLACES};
 
 use crate::library::{Library, Reference};
 
@@ -109,10 +111,32 @@ pub enum Planted {
     RegisterFirst,
     /// A pooled sum above 10^12 is refused.
     SumAsALine,
+    /// Payments leave by arrival, then by priority.
+    ArrivalFirst,
+    /// Payments of one priority leave as they are given.
+    PriorityAlone,
+    /// Arrival numbers have a sign.
+    SignedArrivals,
+    /// A payment behind one that waits is paid where it fits.
+    LaterPaid,
+    /// A payment of exactly what is left waits.
+    ExactWaits,
+    /// 19 is tested before 18.
+    EqualFirst,
+    /// Two arrival numbers of 0 are taken.
+    TwoZeros,
+    /// 65 payments are taken, without the last.
+    Payments65,
+    /// Lists are taken as far as the shortest goes.
+    Shortest,
+    /// The place past the last payment is not written.
+    PlacePastLast,
+    /// With 19 the places are cleared.
+    ClearedBy19,
 }
 
 /// All of them.
-pub const PLANTS: [Planted; 50] = [
+pub const PLANTS: [Planted; 61] = [
     Planted::Century,
     Planted::Status01,
     Planted::Without03252,
@@ -163,6 +187,17 @@ pub const PLANTS: [Planted; 50] = [
     Planted::LongOutput,
     Planted::RegisterFirst,
     Planted::SumAsALine,
+    Planted::ArrivalFirst,
+    Planted::PriorityAlone,
+    Planted::SignedArrivals,
+    Planted::LaterPaid,
+    Planted::ExactWaits,
+    Planted::EqualFirst,
+    Planted::TwoZeros,
+    Planted::Payments65,
+    Planted::Shortest,
+    Planted::PlacePastLast,
+    Planted::ClearedBy19,
 ];
 
 impl Planted {
@@ -338,6 +373,54 @@ impl Planted {
             _ => {}
         }
         count
+    }
+}
+
+impl Planted {
+    /// The payments that a changed order sees in place of these.
+    fn seen_queue(self, queue: &Queue) -> Queue {
+        let mut seen = queue.clone();
+        let Queue {
+            priorities,
+            arrivals,
+            amounts,
+            ..
+        } = &mut seen;
+        let shortest = priorities.len().min(arrivals.len()).min(amounts.len());
+        let count = match self {
+            Self::Shortest => shortest,
+            Self::Payments65 if shortest == 65 => 64,
+            _ => return seen,
+        };
+        priorities.truncate(count);
+        arrivals.truncate(count);
+        amounts.truncate(count);
+        seen
+    }
+
+    /// A changed order of payments that are in range, and how many of them it pays.
+    fn changed_order(self, balance: u64, payments: &mut [Payment]) -> Paid {
+        let right = |payment: &Payment| (payment.priority, payment.arrival);
+        match self {
+            Self::ArrivalFirst => payments.sort_by_key(|payment| payment.arrival),
+            Self::PriorityAlone => payments.sort_by_key(|payment| payment.priority),
+            Self::SignedArrivals => {
+                payments.sort_by_key(|payment| (payment.priority, payment.arrival as i32));
+            }
+            _ => payments.sort_by_key(right),
+        }
+        let (mut count, mut sum, mut left) = (0, 0, balance);
+        for payment in payments {
+            let exact = self == Self::ExactWaits && payment.amount == left;
+            if payment.amount <= left && !exact {
+                count += 1;
+                sum += payment.amount;
+                left -= payment.amount;
+            } else if self != Self::LaterPaid {
+                break;
+            }
+        }
+        Paid { count, sum, left }
     }
 }
 
@@ -555,6 +638,54 @@ impl Library for Planted {
                 answer
             }
             (_, Ok(count)) => Ok(self.made_pool(&pooling, count, output, &before)),
+            _ => answer,
+        }
+    }
+
+    fn leave(&self, queue: &Queue, places: &mut [u32; PAYMENT_PLACES]) -> Result<Paid, Refusal> {
+        let before = *places;
+        let seen = self.seen_queue(queue);
+        let zeros = seen.arrivals.iter().filter(|&&arrival| arrival == 0);
+        let two_zeros = *self == Self::TwoZeros && zeros.count() == 2;
+        let answer = Reference.leave(&seen, places);
+        let equal = |arrivals: &[u32]| {
+            let later = |place| arrivals[place + 1..].contains(&arrivals[place]);
+            (0..arrivals.len()).any(later)
+        };
+        let count = seen.arrivals.len();
+        match (self, answer) {
+            (Self::EqualFirst, Err(Refusal::Queue)) if equal(&seen.arrivals) => {
+                Err(Refusal::EqualArrivals)
+            }
+            (Self::TwoZeros, Err(Refusal::EqualArrivals)) if two_zeros => {
+                let mut one = seen;
+                let zero = one.arrivals.iter().position(|&arrival| arrival == 0);
+                one.arrivals[zero.unwrap_or_default()] = 1_234_567;
+                Reference.leave(&one, places)
+            }
+            (Self::ClearedBy19, Err(Refusal::EqualArrivals)) => {
+                places.fill(0);
+                answer
+            }
+            (Self::PlacePastLast, Ok(_)) if count < PAYMENT_PLACES => {
+                places[count] = before[count];
+                answer
+            }
+            (
+                Self::ArrivalFirst
+                | Self::PriorityAlone
+                | Self::SignedArrivals
+                | Self::LaterPaid
+                | Self::ExactWaits,
+                Ok(_),
+            ) => {
+                let mut payments = seen.payments().unwrap_or_default();
+                let paid = self.changed_order(seen.balance, &mut payments);
+                for (place, payment) in places.iter_mut().zip(payments) {
+                    *place = payment.arrival;
+                }
+                Ok(paid)
+            }
             _ => answer,
         }
     }

@@ -3,14 +3,15 @@
 use std::collections::BTreeMap;
 use std::fmt;
 
-use cases::{Charge, Parting, Pooling, Sharing};
-use cases::{BASES, CLASS_A, CLASS_B, SHARE_PLACES, STATUSES};
-use kieselbrot::{Class, Completed, Part, Posted, Refusal};
+use cases::{Charge, Parting, Pooling, Queue, Sharing};
+use cases::{BASES, CLASS_A, CLASS_B, PAYMENT_PLACES, SHARE_PLACES, STATUSES};
+use kieselbrot::{Class, Completed, Paid, Part, Posted, Refusal};
 
 use crate::charges::{self, Charged};
 use crate::parts::{self, Parted};
 use crate::pools::{self, Pooled};
 use crate::pretest::{Tested, NAMED};
+use crate::queues::{self, Queued};
 use crate::shares::{self, Shared};
 
 /// How often each thing was reached. What a thing is called is part of the
@@ -36,6 +37,7 @@ pub struct Reached {
     parts: BTreeMap<Parted, u64>,
     shares: BTreeMap<Shared, u64>,
     pools: BTreeMap<Pooled, u64>,
+    queues: BTreeMap<Queued, u64>,
 }
 
 /// What the first nine of a pension number's eleven digits are to rule 35.
@@ -130,7 +132,7 @@ enum Accepted {
 }
 
 /// The numbers that each function returns.
-const ANSWERS: [(&str, &[u8]); 12] = [
+const ANSWERS: [(&str, &[u8]); 13] = [
     ("check", &[0, 1, 8]),
     ("read", &[0, 2, 3, 4, 5]),
     ("write", &[0, 2, 4, 5, 7]),
@@ -143,6 +145,7 @@ const ANSWERS: [(&str, &[u8]); 12] = [
     ("part", &[0, 15]),
     ("shares", &[0, 15]),
     ("pool", &[0, 7, 16, 17]),
+    ("leave", &[0, 18, 19]),
 ];
 
 /// The field that each rule names; rule 6 names twelve.
@@ -398,6 +401,19 @@ impl Reached {
         }
     }
 
+    /// Which payments leave first, in places that held something before.
+    pub fn leave(
+        &mut self,
+        queue: &Queue,
+        before: &[u32; PAYMENT_PLACES],
+        answer: Result<Paid, Refusal>,
+    ) {
+        self.answer("leave", answer);
+        for what in queues::reached(queue, before, answer) {
+            *self.queues.entry(what).or_default() += 1;
+        }
+    }
+
     /// Adds what another comparison reached.
     pub fn add(&mut self, other: &Self) {
         self.calls += other.calls;
@@ -417,6 +433,7 @@ impl Reached {
         add(&mut self.parts, &other.parts);
         add(&mut self.shares, &other.shares);
         add(&mut self.pools, &other.pools);
+        add(&mut self.queues, &other.queues);
         for (sum, more) in self.standings.iter_mut().zip(other.standings) {
             *sum += more;
         }
@@ -482,6 +499,9 @@ impl Reached {
         }
         for what in pools::all() {
             list.push((format!("pooling: {what}"), get(&self.pools, what)));
+        }
+        for what in queues::all() {
+            list.push((format!("payments: {what}"), get(&self.queues, what)));
         }
         list
     }

@@ -109,6 +109,7 @@ enum Piece {
     Parts,
     Shares,
     Pools,
+    Queues,
     Arrangements,
     Blanks(usize),
     Forms(usize),
@@ -162,7 +163,7 @@ impl Run {
         if self.exhaustive {
             pieces.extend([Piece::Table, Piece::Sizes, Piece::Places, Piece::Messages]);
             pieces.extend([Piece::Charges, Piece::Parts, Piece::Shares, Piece::Pools]);
-            pieces.push(Piece::Arrangements);
+            pieces.extend([Piece::Queues, Piece::Arrangements]);
             pieces.extend(generated.by_ref().take(10));
             pieces.extend((0..exhaustive::BLANK_PARTS).map(Piece::Blanks));
             pieces.extend((0..exhaustive::FORM_PARTS).map(Piece::Forms));
@@ -186,6 +187,7 @@ impl Run {
             Piece::Parts => exhaustive::parts(comparison),
             Piece::Shares => exhaustive::shares(comparison),
             Piece::Pools => exhaustive::pools(comparison),
+            Piece::Queues => exhaustive::queues(comparison),
             Piece::Arrangements => (1..=6)
                 .try_for_each(|size| streams::arrangements(comparison, &mut random(size), size)),
             Piece::Blanks(part) => exhaustive::blanks(comparison, &mut random(100 + part), part),

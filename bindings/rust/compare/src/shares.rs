@@ -38,7 +38,7 @@ pub enum Shared {
     Kept,
 }
 
-/// Where a period or a line stands.
+/// Where a period, a line or a payment stands.
 #[derive(Clone, Copy, Debug, PartialEq, Eq, PartialOrd, Ord)]
 pub enum Place {
     First,

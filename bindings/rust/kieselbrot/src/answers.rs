@@ -2,7 +2,7 @@
 
 use std::fmt;
 
-use crate::{ffi, KOPECKS_MAX, LINES_MAX};
+use crate::{ffi, BALANCE_MAX, KOPECKS_MAX, LINES_MAX, PAYMENT_PLACES};
 
 /// The class of an accepted sheet.
 #[derive(Clone, Copy, Debug, PartialEq, Eq, Hash, PartialOrd, Ord)]
@@ -68,6 +68,37 @@ pub struct Part {
     pub remainder: u32,
 }
 
+/// A payment that waits to leave an account.
+#[derive(Clone, Copy, Debug, PartialEq, Eq, Hash)]
+pub struct Payment {
+    /// Its priority, 1 to 5.
+    pub priority: u8,
+    /// Its arrival number.
+    pub arrival: u32,
+    /// Its amount, in kopecks.
+    pub amount: u64,
+}
+
+/// How much of a balance leaves: sum plus left is the balance.
+#[derive(Clone, Copy, Debug, PartialEq, Eq, Hash)]
+pub struct Paid {
+    /// How many payments are paid: the first so many in the order.
+    pub count: usize,
+    /// Their sum, in kopecks.
+    pub sum: u64,
+    /// What is left of the balance, in kopecks.
+    pub left: u64,
+}
+
+/// Which payments leave, and in what order.
+#[derive(Clone, Copy, Debug, PartialEq, Eq, Hash)]
+pub struct Leaving {
+    /// The arrival numbers of all payments in the order, and 0 past the last.
+    pub places: [u32; PAYMENT_PLACES],
+    /// How many of them are paid, and with how much.
+    pub paid: Paid,
+}
+
 /// An answer other than success. A refusal changes no buffer.
 #[derive(Clone, Copy, Debug, PartialEq, Eq, Hash)]
 pub enum Refusal {
@@ -118,6 +149,12 @@ pub enum Refusal {
         /// The register's total less the order's amount, in kopecks.
         difference: i64,
     },
+    /// 18: for [`leave`](crate::leave()), the balance, a priority or an amount is out of
+    /// range, or there are over 64 payments; for [`leave_into`](crate::leave_into), also
+    /// if the lists are of different lengths.
+    Queue,
+    /// 19: for [`leave`](crate::leave()), two arrival numbers are equal.
+    EqualArrivals,
     /// An answer that the library of this version never gives: another library
     /// is linked.
     Unknown {
@@ -145,6 +182,8 @@ impl Refusal {
             Self::YearPart => 15,
             Self::Register => 16,
             Self::Discrepancy { .. } => 17,
+            Self::Queue => 18,
+            Self::EqualArrivals => 19,
             Self::Unknown { number } => *number,
         }
     }
@@ -163,6 +202,8 @@ impl Refusal {
             14 => Self::Tariff,
             15 => Self::YearPart,
             16 => Self::Register,
+            18 => Self::Queue,
+            19 => Self::EqualArrivals,
             _ => Self::Unknown { number },
         }
     }
@@ -340,17 +381,38 @@ impl From<ffi::Pool> for Result<usize, Refusal> {
     }
 }
 
+impl From<ffi::Leave> for Result<Paid, Refusal> {
+    fn from(answer: ffi::Leave) -> Self {
+        let ffi::Leave {
+            number,
+            paid,
+            sum,
+            left,
+        } = answer;
+        let covered = matches!(sum.checked_add(left), Some(0..=BALANCE_MAX));
+        match (number, paid, sum, left) {
+            (0, 0..=PAYMENT_PLACES, _, _) if covered => Ok(Paid {
+                count: paid,
+                sum,
+                left,
+            }),
+            (number, 0, 0, 0) => Err(Refusal::plain(number)),
+            _ => Err(Refusal::Unknown { number }),
+        }
+    }
+}
+
 #[cfg(test)]
 mod tests {
     use super::*;
 
     #[test]
     fn numbers_are_those_of_the_table() {
-        for number in (1..=7).chain([9, 14, 15, 16]) {
+        for number in (1..=7).chain([9, 14, 15, 16, 18, 19]) {
             assert_eq!(Refusal::plain(number).number(), number);
             assert!(!matches!(Refusal::plain(number), Refusal::Unknown { .. }));
         }
-        for number in [0, 8, 10, 11, 12, 13, 17, 18, 255] {
+        for number in [0, 8, 10, 11, 12, 13, 17, 20, 255] {
             assert_eq!(Refusal::plain(number), Refusal::Unknown { number });
         }
         let broken = Refusal::Broken {
@@ -368,6 +430,8 @@ mod tests {
         assert_eq!(Refusal::Register.to_string(), "16");
         let less = Refusal::Discrepancy { difference: -1 };
         assert_eq!((less.number(), less.to_string().as_str()), (17, "17 -1"));
+        assert_eq!(Refusal::Queue.to_string(), "18");
+        assert_eq!(Refusal::EqualArrivals.to_string(), "19");
     }
 
     #[test]
@@ -430,7 +494,7 @@ mod tests {
             assert_eq!(charge(0, kopecks), Ok(kopecks));
         }
         assert_eq!(charge(14, 0), Err(Refusal::Tariff));
-        for (number, kopecks) in [(0, KOPECKS_MAX + 1), (14, 1), (18, 0)] {
+        for (number, kopecks) in [(0, KOPECKS_MAX + 1), (14, 1), (20, 0)] {
             assert_eq!(charge(number, kopecks), Err(Refusal::Unknown { number }));
         }
     }
@@ -453,7 +517,7 @@ mod tests {
             (0, 0, 366),
             (15, 1, 0),
             (15, 0, 1),
-            (18, 0, 0),
+            (20, 0, 0),
         ] {
             assert_eq!(
                 part(number, kopecks, remainder),
@@ -488,10 +552,46 @@ mod tests {
             (16, 0, -1),
             (17, 0, 0),
             (17, 1, 1),
-            (18, 0, 0),
+            (20, 0, 0),
         ] {
             assert_eq!(
                 pool(number, lines, difference),
+                Err(Refusal::Unknown { number })
+            );
+        }
+    }
+
+    #[test]
+    fn paid_payments_or_18_or_19() {
+        let leave = |number, paid, sum, left| {
+            Result::<Paid, Refusal>::from(ffi::Leave {
+                number,
+                paid,
+                sum,
+                left,
+            })
+        };
+        for (count, sum, left) in [
+            (0, 0, 0),
+            (0, 0, BALANCE_MAX),
+            (2, 10, 0),
+            (PAYMENT_PLACES, 1, BALANCE_MAX - 1),
+        ] {
+            assert_eq!(leave(0, count, sum, left), Ok(Paid { count, sum, left }));
+        }
+        assert_eq!(leave(18, 0, 0, 0), Err(Refusal::Queue));
+        assert_eq!(leave(19, 0, 0, 0), Err(Refusal::EqualArrivals));
+        for (number, paid, sum, left) in [
+            (0, PAYMENT_PLACES + 1, 0, 0),
+            (0, 1, 1, BALANCE_MAX),
+            (0, 1, 1, u64::MAX),
+            (18, 1, 0, 0),
+            (18, 0, 1, 0),
+            (19, 0, 0, 1),
+            (20, 0, 0, 0),
+        ] {
+            assert_eq!(
+                leave(number, paid, sum, left),
                 Err(Refusal::Unknown { number })
             );
         }

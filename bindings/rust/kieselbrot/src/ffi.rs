@@ -3,7 +3,7 @@
 //! The functions are total: a slice of any length may be lent, and no byte
 //! outside it is touched.
 
-use crate::SHARE_PLACES;
+use crate::{PAYMENT_PLACES, SHARE_PLACES};
 
 /// The answer of a check.
 #[repr(C)]
@@ -90,6 +90,16 @@ pub struct Pool {
     pub difference: i64,
 }
 
+/// The answer of which payments leave.
+#[repr(C)]
+#[derive(Clone, Copy)]
+pub struct Leave {
+    pub number: u8,
+    pub paid: usize,
+    pub sum: u64,
+    pub left: u64,
+}
+
 // The sizes that bindings/c/kieselbrot.h has.
 const _: () = assert!(size_of::<Check>() == 4);
 const _: () = assert!(size_of::<Read>() == 24);
@@ -100,6 +110,7 @@ const _: () = assert!(size_of::<Complete>() == 24);
 const _: () = assert!(size_of::<Charge>() == 16);
 const _: () = assert!(size_of::<Part>() == 16);
 const _: () = assert!(size_of::<Pool>() == 24);
+const _: () = assert!(size_of::<Leave>() == 32);
 
 extern "C" {
     fn kieselbrot_check(sheet: *const u8, sheet_len: usize) -> Check;
@@ -143,13 +154,23 @@ extern "C" {
         output: *mut u8,
         output_len: usize,
     ) -> Pool;
+    fn kieselbrot_leave(
+        balance: u64,
+        priorities: *const u8,
+        priorities_len: usize,
+        arrivals: *const u32,
+        arrivals_len: usize,
+        amounts: *const u64,
+        amounts_len: usize,
+        places: *mut [u32; PAYMENT_PLACES],
+    ) -> Leave;
 }
 
 // SAFETY, for each call below: pointer and length come from one slice, which is
 // valid for as long as the call lasts; what is written through is borrowed
 // mutably, so that no other argument overlaps it; the library keeps no pointer. The
-// places for shares are an array of as many as the library writes. A number may be
-// any.
+// places for shares, and those for arrival numbers, are an array of as many as the
+// library writes. A number may be any.
 
 pub fn check(sheet: &[u8]) -> Check {
     unsafe { kieselbrot_check(sheet.as_ptr(), sheet.len()) }
@@ -219,6 +240,27 @@ pub fn pool(register: &[u8], amount: u64, output: &mut [u8]) -> Pool {
             amount,
             output.as_mut_ptr(),
             output.len(),
+        )
+    }
+}
+
+pub fn leave(
+    balance: u64,
+    priorities: &[u8],
+    arrivals: &[u32],
+    amounts: &[u64],
+    places: &mut [u32; PAYMENT_PLACES],
+) -> Leave {
+    unsafe {
+        kieselbrot_leave(
+            balance,
+            priorities.as_ptr(),
+            priorities.len(),
+            arrivals.as_ptr(),
+            arrivals.len(),
+            amounts.as_ptr(),
+            amounts.len(),
+            places,
         )
     }
 }

@@ -1,5 +1,6 @@
 //! Budget payment orders under 107n: field messages, the draft, the rules,
-//! completion, the bank's charge, part of a year, and the register of an order.
+//! completion, the bank's charge, part of a year, the register of an order, and which
+//! payments leave first.
 //!
 //! This crate is a thin, safe layer over a library whose code is proved: each
 //! function's answer, and every buffer that it was lent, equals a definition, for
@@ -56,7 +57,8 @@ mod ffi;
 mod fillings;
 pub mod words;
 
-pub use answers::{Broken, Class, Completed, Message, Part, Posted, Refusal};
+pub use answers::Refusal;
+pub use answers::{Broken, Class, Completed, Leaving, Message, Paid, Part, Payment, Posted};
 
 /// The numbers of the fifteen fields, in the order of their slots.
 pub const FIELDS: [u8; 15] = [
@@ -110,6 +112,12 @@ pub const POOL_SIZE: usize = 10_000;
 
 /// The greatest amount of an order with a register, in kopecks.
 pub const ORDER_MAX: u64 = 1_000_000_000_000_000;
+
+/// How many places for arrival numbers there are: the greatest number of payments.
+pub const PAYMENT_PLACES: usize = 64;
+
+/// The greatest balance, in kopecks.
+pub const BALANCE_MAX: u64 = 1_000_000_000_000_000;
 
 const _: () = assert!(SHEET_SIZE == FIELDS.len() * SHEET_SLOT_SIZE);
 const _: () = assert!(DRAFT_SIZE == FIELDS.len() * DRAFT_SLOT_SIZE);
@@ -372,4 +380,86 @@ pub fn shares_into(
 #[inline]
 pub fn pool(register: &[u8], amount: u64, output: &mut [u8]) -> Result<usize, Refusal> {
     ffi::pool(register, amount, output).into()
+}
+
+/// Which payments leave an account first: by priority and, within one, by arrival, lower
+/// numbers first, until the first that exceeds what is left; it and all after it wait.
+///
+/// The balance is 0 to [`BALANCE_MAX`]; there are 0 to [`PAYMENT_PLACES`] payments, with
+/// priority 1 to 5, any arrival number, no two equal, and 1 to [`KOPECKS_MAX`] kopecks.
+/// How many payments there are tells an arrival number of 0 from a place past the last.
+///
+/// # Errors
+///
+/// In this order: [`Refusal::Queue`], [`Refusal::EqualArrivals`].
+///
+/// # Examples
+///
+/// ```
+/// use kieselbrot::{leave, Paid, Payment, Refusal};
+///
+/// # fn main() -> Result<(), Refusal> {
+/// let payment = |priority, arrival, amount| Payment { priority, arrival, amount };
+/// let payments = [payment(3, 7, 5), payment(1, 9, 5), payment(1, 2, 5)];
+/// let leaving = leave(10, &payments)?;
+/// assert_eq!(leaving.places[..4], [2, 9, 7, 0]);
+/// let (count, sum, left) = (2, 10, 0);
+/// assert_eq!(leaving.paid, Paid { count, sum, left });
+///
+/// let equal = [payment(3, 7, 5), payment(1, 7, 5)];
+/// assert_eq!(leave(10, &equal), Err(Refusal::EqualArrivals));
+/// # Ok(())
+/// # }
+/// ```
+#[inline]
+pub fn leave(balance: u64, payments: &[Payment]) -> Result<Leaving, Refusal> {
+    // One more than there may be, for the library to refuse them.
+    const MOST: usize = PAYMENT_PLACES + 1;
+    let count = payments.len().min(MOST);
+    let (mut priorities, mut arrivals, mut amounts) = ([0; MOST], [0; MOST], [0; MOST]);
+    for (place, payment) in payments[..count].iter().enumerate() {
+        priorities[place] = payment.priority;
+        arrivals[place] = payment.arrival;
+        amounts[place] = payment.amount;
+    }
+    let mut places = [0; PAYMENT_PLACES];
+    let paid = leave_into(
+        balance,
+        &priorities[..count],
+        &arrivals[..count],
+        &amounts[..count],
+        &mut places,
+    )?;
+    Ok(Leaving { places, paid })
+}
+
+/// As [`leave`](leave()), of payments in three lists, into places that are lent, whatever
+/// they held: payment i has priority, arrival number and amount i.
+///
+/// # Errors
+///
+/// As there, and [`Refusal::Queue`] if the lists are of different lengths; the places are
+/// then as they were.
+///
+/// # Examples
+///
+/// ```
+/// use kieselbrot::{leave_into, Paid, Refusal, PAYMENT_PLACES};
+///
+/// let mut places = [8; PAYMENT_PLACES];
+/// let answer = leave_into(10, &[3, 1, 1], &[7, 9], &[5, 5, 5], &mut places);
+/// assert_eq!((answer, places), (Err(Refusal::Queue), [8; PAYMENT_PLACES]));
+/// let answer = leave_into(10, &[3, 1, 1], &[7, 9, 2], &[5, 5, 5], &mut places);
+/// assert_eq!(answer.map(|paid| paid.count), Ok(2));
+/// assert_eq!(places[..4], [2, 9, 7, 0]);
+/// ```
+#[inline]
+pub fn leave_into(
+    balance: u64,
+    priorities: &[u8],
+    arrivals: &[u32],
+    amounts: &[u64],
+    places: &mut [u32; PAYMENT_PLACES],
+) -> Result<Paid, Refusal> {
+    ffi::leave(balance, priorities, arrivals, amounts, places).into()
 }

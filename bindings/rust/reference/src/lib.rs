@@ -1,14 +1,15 @@
 //! Budget payment orders under 107n: field messages, the draft, the rules,
 //! completion and the test ahead of it, the message writer, the report of one
-//! program, the bank's charge, the part of a year and the register of an order.
+//! program, the bank's charge, the part of a year, the register of an order and the
+//! payments that leave first.
 //!
 //! This is a second implementation, written from the paper "Budget payment
 //! orders under 107n: draft, check and completion" and its change requests
 //! alone. Doc comments quote the sentence of the paper or the request they
 //! follow. Of the requests it has R-1 (pension numbers), R-2 (letters in a KPP),
 //! R-3 (a test ahead of the search), R-4 (check digits of the INN), R-5 (rule
-//! 22 ahead of rule 21), R-10 (the bank's charge), R-11 (part of a year) and R-12
-//! (status 15 with its register).
+//! 22 ahead of rule 21), R-10 (the bank's charge), R-11 (part of a year), R-12
+//! (status 15 with its register) and R-13 (which payments leave first).
 //!
 //! Every public function is total, and "Refusals change no buffer".
 
@@ -19,6 +20,7 @@ mod charge;
 mod completion;
 mod draft;
 mod field;
+mod leave;
 mod message;
 mod part;
 mod pretest;
@@ -31,6 +33,7 @@ mod sheet;
 pub use charge::charge;
 pub use completion::{complete, Completed};
 pub use draft::{copy, fresh, post, Posted};
+pub use leave::{leave, Leaving, Payment};
 pub use message::{read, write, Message};
 pub use part::{part, shares, Part};
 pub use pretest::pretest;

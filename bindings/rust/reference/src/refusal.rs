@@ -66,6 +66,10 @@ pub enum Refusal {
         /// "The signed difference register minus order", in kopecks.
         difference: i64,
     },
+    /// 18: "a value out of range or over 64 payments".
+    Queue,
+    /// 19: "two equal arrival numbers, after 18".
+    EqualArrivals,
 }
 
 impl Refusal {
@@ -87,6 +91,8 @@ impl Refusal {
             Self::YearPart => 15,
             Self::Register => 16,
             Self::Discrepancy { .. } => 17,
+            Self::Queue => 18,
+            Self::EqualArrivals => 19,
         }
     }
 }

@@ -1,0 +1,9 @@
+pub mod Before
+pub mod Order
+pub mod Putting
+pub mod Paying
+pub mod Placing
+pub mod Differing
+pub mod InRange
+pub mod Queueing
+pub mod Leaving

@@ -1,0 +1,4 @@
+pub mod Payments
+pub mod Working
+pub mod Leave
+pub mod Examples
