@@ -27,7 +27,7 @@ amount-is a e = let q = both (leb 1 a) (leb a mostKopecks) e in (leb-true 1 a (q
 pub is-amount : (a : ℕ) → 1 ≤ a → a ≤ mostKopecks → isAmount a ≡ true
 is-amount a h k = and2 (leb 1 a) (leb a mostKopecks) (le-leb 1 a h) (le-leb a mostKopecks k)
 
-one-of : (b c : Bool) → (b || c) ≡ true → (b ≡ true) ⊎ (c ≡ true)
+pub one-of : (b c : Bool) → (b || c) ≡ true → (b ≡ true) ⊎ (c ≡ true)
 one-of true c e = inl refl
 one-of false c e = inr e
 

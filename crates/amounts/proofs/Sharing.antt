@@ -25,7 +25,7 @@ zeros-total zero n = refl
 zeros-total (suc k) zero = refl
 zeros-total (suc k) (suc n) = zero-add _ ∙ zeros-total k n
 
-zeros-at : (n i : ℕ) → getD {A = ℕ} (replicate n 0) i 0 ≡ 0
+pub zeros-at : (n i : ℕ) → getD {A = ℕ} (replicate n 0) i 0 ≡ 0
 zeros-at zero i = refl
 zeros-at (suc n) zero = refl
 zeros-at (suc n) (suc i) = zeros-at n i

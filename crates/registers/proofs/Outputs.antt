@@ -2,7 +2,7 @@
 -- their INNs in the table. A line more is added to the sum of its INN, or copied behind them. Assumes nothing.
 use mathlib.Core.Path.{_≡_, refl, ap, sym, _∙_, subst}
 use mathlib.Core.Bool.{Bool, true, false, not, _&&_, _||_, false≢true}
-use mathlib.Core.List.{List, [], _∷_, _++_, map, append-assoc, append-nil}
+use mathlib.Core.List.{List, [], _∷_, _++_, map, append-assoc, append-nil, map-append}
 use Prim.Native.Nat.{ℕ, zero, suc, _+_, _*_, _/_, _^_, _≤_, _<_}
 use native.Mathlib.Numerals.{add-one}
 use native.Mathlib.Omega.{arith}
@@ -23,7 +23,7 @@ use Rattle.amounts.specs.Amount.{isAmount}
 use Rattle.amounts.proofs.Ranges.{amount-is}
 use Rattle.registers.specs.Register.{Line, lineBytes, linesBytes, linesOf, lineRight, linesRight, registerRight, innsOf, pooled, appearing, totalOf}
 use Rattle.registers.specs.Working.Parts.{lineAt, bigAt, Finds}
-use Rattle.registers.proofs.Pooling.{has, has-at, those-are, map-append, pooled-total, HasAt, pooled-at, pooled-new}
+use Rattle.registers.proofs.Pooling.{has, has-at, those-are, pooled-total, HasAt, pooled-at, pooled-new}
 use Rattle.registers.proofs.Registers.{Bytes, line-whole, right-at, lines-length, lines-at, whole-of, amount-at}
 
 -- ---- something put into what was put in
