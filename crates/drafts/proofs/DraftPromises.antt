@@ -1,7 +1,7 @@
 -- What the functions of drafts come to, by each way out of them. Assumes nothing.
 use mathlib.Core.Path.{_≡_, refl, sym, ap, _∙_}
 use mathlib.Core.Logic.{_↔_, ⊎-elim}
-use mathlib.Core.Bool.{Bool, true, false, cond, not, true≢false}
+use mathlib.Core.Bool.{Bool, true, false, cond, not, _&&_, true≢false}
 use mathlib.Core.List.{List, [], _∷_, _++_, List·Memᴰ, List·Memᴰ·append-cases, List·Memᴰ·eq-of-singleton, List·Memᴰ·not-nil}
 use Prim.Native.Nat.{ℕ, _+_, _-_, _*_, _<_, _≤_}
 use native.Mathlib.Nat.{zero-add}
@@ -12,17 +12,19 @@ use borrow.Author.Needs.{needs}
 use mir.Syntax.{w8}
 use mir.Val.{Fits}
 use lib.Dec.{eqb, ltb}
-use lib.ListN.{length, getD, replicate}
+use lib.ListN.{length, getD, replicate, length-replicate, replicate-append-replicate}
+use lib.Seq.{drop-at}
 use Rattle.texts.specs.Texts.{same}
+use Rattle.texts.proofs.Bools.{both}
 use Rattle.texts.proofs.Codes.{same-true, same-self}
 use Rattle.texts.specs.Numbers.{bytesOf}
 use Rattle.texts.specs.Buffers.{put, putAt, zeroed}
-use Rattle.texts.proofs.Puts.{put-fits, length-put, put-put, put-none, put-next, put-whole}
+use Rattle.texts.proofs.Puts.{put-fits, length-put, put-none, put-next, put-whole}
 use Rattle.sheets.specs.Sheet.{cellSize, sheetSize, cell, slotOf}
 use Rattle.sheets.specs.declared.sheet.Field.{Field}
-use Rattle.texts.specs.Answers.{Answer, success, refusal, numberOf, _refuses_, passes, answerBy}
+use Rattle.texts.specs.Answers.{Answer, success, refusal, numberOf, passes, answerBy, bufferBy}
 use Rattle.drafts.specs.Message.{textMax, revisionSize, Bytes, IsMessage, messageField, revisionOf, messageText, readTests, readable, readingOf, readAnswer}
-use Rattle.drafts.specs.Draft.{cellPlace, slotSize, draftSize, comparison, slotIn, slotRevision, slotCell, slotText, slotBytes, slotWith, draftFormed, freshDraft, beginTests, beginningOf, begunFrom, slotComparison, comparisonOf, clashes, word, kept, postTests, postingOf, stored, postedTo, postAnswer, cells, draftSheet, copyTests, copyingOf, copiedTo, copyAnswer, sheetInto}
+use Rattle.drafts.specs.Draft.{cellPlace, slotSize, draftSize, comparison, slotIn, slotRevision, slotCell, slotText, slotBytes, slotWith, draftFormed, freshDraft, beginTests, beginningOf, begunFrom, slotComparison, comparisonOf, word, kept, postTests, postingOf, stored, postedTo, postAnswer, cells, draftSheet, copyTests, copyingOf, copiedTo, copyAnswer, sheetInto}
 use Rattle.drafts.specs.History.{postedFrom, postedAll}
 use Rattle.drafts.specs.Promises.{Reads, Postings, Freshens, Stands, newer as is-newer, same as is-same, older as is-older, clash as is-clash, Posts, Copies}
 use Rattle.drafts.specs.declared.revision.Revision.{Revision}
@@ -37,49 +39,36 @@ use Rattle.drafts.specs.declared.draft.Posted.the-variants as posted
 use Rattle.drafts.specs.declared.draft.Copied.{Copied}
 use Rattle.drafts.specs.declared.draft.Copied.the-variants as copied
 use Rattle.texts.proofs.Refusals.{no-success, none-of, succeeds, succeeded, refused, unchanged, never}
-use Rattle.drafts.proofs.Messages.{readable-means, readable-by, read-found, text-short, message-is}
+use Rattle.drafts.proofs.Messages.{readable-means, slotted, reading-is, read-found, text-short, message-is}
+use Rattle.drafts.proofs.Ranks.{cases, clashTest}
 use Rattle.drafts.proofs.EndSlots.{post-read}
 use Rattle.drafts.proofs.Arrangements.{held-by}
-use Rattle.drafts.proofs.DraftSheets.{length-cell, length-cells, sheet-text, sheet-formed, sheet-into}
-use Rattle.drafts.proofs.Slots.{drop-zeros, length-slot, slot-le, formed-means}
+use Rattle.drafts.proofs.DraftSheets.{length-cell, length-cells, length-sheet, sheet-made, sheet-into}
+use Rattle.drafts.proofs.Slots.{length-slot, formed-means}
 
 -- ---- the ways out of `against`
 
-module _ (r h : ℕ) (b : Bool) where
-  pub stand-newer : h < r → Newer ≡ comparison r h b
-  stand-newer u = simp (lt-ltb h r u)
-
-  pub stand-older : r ≤ h → r < h → Older ≡ comparison r h b
-  stand-older l u = simp (le-ltb h r l, lt-ltb r h u)
-
-  pub stand-same : r ≤ h → h ≤ r → b ≡ true → Same ≡ comparison r h b
-  stand-same l u e = simp (le-ltb h r l, le-ltb r h u, e)
-
-  pub stand-clash : r ≤ h → h ≤ r → b ≡ false → Clash ≡ comparison r h b
-  stand-clash l u e = simp (le-ltb h r l, le-ltb r h u, e)
+pub stand-is : (r h : ℕ) (b x y z : Bool) (s : Comparison) → ltb h r ≡ x → ltb r h ≡ y → b ≡ z → s ≡ cond x Newer (cond y Older (cond z Same Clash)) → s ≡ comparison r h b
+stand-is r h b x y z s p q w e = rw (p, q, w) e
 
 -- ---- the bytes of a slot
 
 put-zeros : (s : List ℕ) (n k : ℕ) → length s ≡ n → put (replicate (n + k) 0) 0 s ≡ s ++ replicate k 0
 unfolding put
-put-zeros s n k e = rw (zero-add, e, drop-zeros n k)
+put-zeros s n k e = rw (zero-add, e, ← replicate-append-replicate {A = ℕ} n k 0, drop-at {A = ℕ} (replicate n 0) (replicate k 0) n (length-replicate {A = ℕ} n 0))
 
--- where the text begins, behind the cell's length
-abbrev textPlace : ℕ
-textPlace = cellPlace + 1
-
+-- the text begins behind the cell's length, a byte
 pub slot-made : (r : ℕ) (t d x y : List ℕ) → length t ≤ textMax → d ≡ bytesOf revisionSize r
-    → x ≡ putAt (replicate slotSize 0) 0 (getD d 0 0 ∷ getD d 1 0 ∷ getD d 2 0 ∷ getD d 3 0 ∷ length t ∷ []) → y ≡ putAt x textPlace t → y ≡ slotBytes r t
+    → x ≡ putAt (replicate slotSize 0) 0 (getD d 0 0 ∷ getD d 1 0 ∷ getD d 2 0 ∷ getD d 3 0 ∷ length t ∷ []) → y ≡ putAt x (cellPlace + 1) t → y ≡ slotBytes r t
 unfolding slotBytes cell
 slot-made r t d x y l ed ex ey =
     let z : List ℕ = replicate slotSize 0 in
     let s : List ℕ = getD d 0 0 ∷ getD d 1 0 ∷ getD d 2 0 ∷ getD d 3 0 ∷ length t ∷ [] in
     let fx : x ≡ put z 0 s = ex ∙ put-fits z 0 s (omega arith) in
-    let lx : length x ≡ slotSize = ap length fx ∙ length-put z 0 s (omega arith) in
-    let fy : y ≡ put z 0 (s ++ t) = ey ∙ put-fits x textPlace t (omega arith) ∙ ap (λ (w : List ℕ). put w textPlace t) fx ∙ put-put z 0 s t textPlace refl (omega arith) in
-    let n : slotSize ≡ textPlace + length t + (textMax - length t) = omega arith in
-    let m : length (s ++ t) ≡ textPlace + length t = omega arith in
-    fy ∙ ap (λ (k : ℕ). put (replicate k 0) 0 (s ++ t)) n ∙ put-zeros (s ++ t) (textPlace + length t) (textMax - length t) m ∙ rw ed
+    let fy : y ≡ put z 0 (s ++ t) = ey ∙ put-next z s t x (cellPlace + 1) refl (omega arith) fx in
+    let n : slotSize ≡ cellPlace + 1 + length t + (textMax - length t) = omega arith in
+    let m : length (s ++ t) ≡ cellPlace + 1 + length t = omega arith in
+    fy ∙ ap (λ (k : ℕ). put (replicate k 0) 0 (s ++ t)) n ∙ put-zeros (s ++ t) (cellPlace + 1 + length t) (textMax - length t) m ∙ rw ed
 
 -- ---- fresh
 
@@ -126,96 +115,88 @@ postedOf (refusal n vs) = posted.Refused (record { 0 = n })
 
 posted-of : (r : Posted) (a : Answer) → postAnswer r ≡ a → r ≡ postedOf a
 unfolding postedOf
-posted-of r a p = is r ∙ ap postedOf p
-  where
-    is : (x : Posted) → x ≡ postedOf (postAnswer x)
-    is posted.Newer = refl
-    is posted.Same = refl
-    is posted.Older = refl
-    is (posted.Refused n) = refl
+posted-of posted.Newer a p = ap postedOf p
+posted-of posted.Same a p = ap postedOf p
+posted-of posted.Older a p = ap postedOf p
+posted-of (posted.Refused n) a p = ap postedOf p
 
 -- by the revision and the text of the slot
-stands-by : (s : List ℕ) (v : ℕ) (t : List ℕ) → let st = slotComparison s v t in Stands s v t (postedOf (answerBy ((clashes st refuses 6) ∷ []) (word st)))
+stands-by : (s : List ℕ) (v : ℕ) (t : List ℕ) → let st = slotComparison s v t in Stands s v t (postedOf (answerBy (clashTest st) (word st)))
 unfolding slotComparison postedOf
-stands-by s v t = by (ltb (slotRevision s) v) (ltb v (slotRevision s)) (same (slotText s) t) refl refl refl
-  where
-    by : (x y z : Bool) → ltb (slotRevision s) v ≡ x → ltb v (slotRevision s) ≡ y → same (slotText s) t ≡ z
-        → let st = cond x Newer (cond y Older (cond z Same Clash)) in Stands s v t (postedOf (answerBy ((clashes st refuses 6) ∷ []) (word st)))
-    by true y z a b c = is-newer (ltb-true _ _ a)
-    by false true z a b c = is-older (ltb-true _ _ b)
-    by false false true a b c = is-same (omega (arith, ltb-false (slotRevision s) v a, ltb-false v (slotRevision s) b)) (same-true _ _ c)
-    by false false false a b c =
-        is-clash (omega (arith, ltb-false (slotRevision s) v a, ltb-false v (slotRevision s) b)) (λ e. true≢false (sym (same-self t) ∙ ap (λ (x : List ℕ). same x t) (sym e) ∙ c))
+stands-by s v t =
+    cases (ltb (slotRevision s) v) (λ x. rw x (is-newer (ltb-true _ _ x)))
+    (λ x. rw x
+    (cases (ltb v (slotRevision s)) (λ y. rw y (is-older (ltb-true _ _ y)))
+    (λ y.
+    let e : slotRevision s ≡ v = omega (arith, ltb-false (slotRevision s) v x, ltb-false v (slotRevision s) y) in
+    rw y (cases (same (slotText s) t) (λ z. rw z (is-same e (same-true _ _ z))) (λ z. rw z (is-clash e (λ q. true≢false (sym (same-self t) ∙ ap (λ (u : List ℕ). same u t) (sym q) ∙ z))))))))
+
+-- what reading refuses is refused with the same number
+not-read : (d m : List ℕ) (n : ℕ) → draftFormed d ≡ true → refusal n [] ≡ readingOf m → (refusal n [] ≡ postingOf d m) × (d ≡ postedTo d m)
+unfolding readingOf postingOf postedTo postTests
+not-read d m n w h =
+    let o = refused _ (word (comparisonOf d m)) n [] (readTests m) (clashTest (comparisonOf d m)) h in
+    (rw w (o .1), rw (w, o .0))
 
 module _ (d m : List ℕ) (r : Posted) (p : postAnswer r ≡ postingOf d m) where
   post-kept : (e : List ℕ) → e ≡ postedTo d m → (r ≡ posted.Newer → ⊥) → e ≡ d
   unfolding postingOf postedTo postedOf
-  post-kept e q n = q ∙ go (passes (postTests d m)) refl
+  post-kept e q n =
+      q ∙ cases (passes (postTests d m)) (λ h. rw h (old (comparisonOf d m) (posted-of r _ (p ∙ succeeds _ [] (postTests d m) h)))) (λ h. rw h)
     where
-      old : (st : Comparison) (new : List ℕ) → r ≡ postedOf (success (word st)) → kept st new d ≡ d
-      old Newer new h = absurd (n h)
-      old Same new h = refl
-      old Older new h = refl
-      old Clash new h = refl
-
-      go : (b : Bool) → passes (postTests d m) ≡ b → cond b (kept (comparisonOf d m) (stored d m) d) d ≡ d
-      go true h = old (comparisonOf d m) (stored d m) (posted-of r _ (p ∙ succeeds _ [] (postTests d m) h))
-      go false h = refl
+      old : (st : Comparison) → r ≡ postedOf (success (word st)) → kept st (stored d m) d ≡ d
+      old Newer h = absurd (n h)
+      old Same h = refl
+      old Older h = refl
+      old Clash h = refl
 
   post-formed : (r ≡ posted.Refused (record { 0 = 1 })) ↔ (draftFormed d ≡ false)
   unfolding postingOf postTests readTests postedOf
-  post-formed = (λ h. go (draftFormed d) refl (sym p ∙ ap postAnswer h), λ w. posted-of r (refusal 1 []) (p ∙ rw w))
-    where
-      go : (b : Bool) → draftFormed d ≡ b → postingOf d m ≡ refusal 1 [] → b ≡ false
-      go false w h = refl
-      go true w h = absurd (never 1 (word (comparisonOf d m)) (readTests m ++ ((clashes (comparisonOf d m) refuses 6) ∷ [])) (λ z. omega arith) refl (ap numberOf (rw w at h)))
+  post-formed = (
+    λ h.
+        cases (draftFormed d)
+        (λ w. absurd (never 1 (word (comparisonOf d m)) (readTests m ++ clashTest (comparisonOf d m)) (λ z. omega arith) refl (ap numberOf (rw w at (sym p ∙ ap postAnswer h)))))
+        (λ w. w),
+    λ w. posted-of r (refusal 1 []) (p ∙ rw w),
+  )
 
   module _ (w : draftFormed d ≡ true) where
     post-refused : (n : ℕ) → readingOf m ≡ refusal n [] → r ≡ posted.Refused (record { 0 = n })
-    unfolding postingOf postTests readingOf postedOf
-    post-refused n h =
-        let o = refused _ (word (comparisonOf d m)) n [] (readTests m) ((clashes (comparisonOf d m) refuses 6) ∷ []) (sym h) in
-        posted-of r (refusal n []) (p ∙ rw w (sym (o .1)))
+    unfolding postedOf
+    post-refused n h = posted-of r (refusal n []) (p ∙ sym (not-read d m n w (sym h) .0))
 
     post-stands : (f v : ℕ) (t : List ℕ) → IsMessage m f v t → Stands (slotIn d (slotOf f)) v t r
-    unfolding comparisonOf
+    unfolding comparisonOf readingOf readable
     post-stands f v t M =
         let (R, ef, ev, et) = message-is m f v t M in
-        let o = post-read d m (comparisonOf d m) w (readable-by m R) refl .0 in
+        let z = succeeded _ _ (readTests m) (sym (reading-is m R)) .0 in
+        let o = post-read d m (comparisonOf d m) w z refl .0 in
         rw (posted-of r _ (p ∙ sym o), ← ef, ← ev, ← et) (stands-by (slotIn d (slotOf (messageField m))) (revisionOf m) (messageText m))
 
 -- the promise of `post`, from its two equations
-pub posts-by : (d m : List ℕ) (r : Posted) (e : List ℕ) → Bytes m → postAnswer r ≡ postingOf d m → e ≡ postedTo d m → Posts d m r e
-posts-by d m r e b p q = record {
+posts-by : (d m : List ℕ) (r : Posted) (e : List ℕ) → ((k : ℕ) → Fits w8 (getD m k 0)) → postAnswer r ≡ postingOf d m → e ≡ postedTo d m → Posts d m r e
+posts-by d m r e h p q = record {
   answer = p;
   draft = q;
   refused = post-kept d m r p e q;
   malformed = post-formed d m r p;
   unread = post-refused d m r p;
   stands = post-stands d m r p;
-  after = left-more d m e b q;
-  held = λ ms L. held-by (ms ++ (m ∷ [])) e (left-more d m e b q ms L);
+  after = left-more d m e (λ k. h k .fits) q;
+  held = λ ms L. held-by (ms ++ (m ∷ [])) e (left-more d m e (λ k. h k .fits) q ms L);
 }
 
 module _ (d m : List ℕ) (h : (k : ℕ) → Fits w8 (getD m k 0)) (b : Bool) (eb : b ≡ draftFormed d) where
-  post : (r : Posted) (e : List ℕ) → postAnswer r ≡ postingOf d m → e ≡ postedTo d m → Posts d m r e
-  post r e p q = posts-by d m r e (λ k. h k .fits) p q
-
   pub post-malformed : not b ≡ true → Posts d m (posted.Refused (record { 0 = 1 })) d
   unfolding postingOf postedTo postTests
-  post-malformed n =
-      let w : draftFormed d ≡ false = sym eb ∙ not-true b n in
-      post _ d (rw w) (rw w)
+  post-malformed n = posts-by d m _ d h (rw (← eb, not-true b n)) (rw (← eb, not-true b n))
 
   module _ (nb : not b ≡ false) (rd : Reading) (R : Reads m rd) where
     formed : draftFormed d ≡ true
     formed = sym eb ∙ not-false b nb
 
     pub post-unread : (n : Refusal) → rd ≡ Refused n → Posts d m (posted.Refused n) d
-    unfolding postingOf postedTo postTests readingOf
-    post-unread n e =
-        let p = refused (messageField m ∷ revisionOf m ∷ []) (word (comparisonOf d m)) (n .0) [] (readTests m) ((clashes (comparisonOf d m) refuses 6) ∷ []) (ap readAnswer (sym e) ∙ R .answer) in
-        post _ d (rw formed (p .1)) (rw (formed, p .0))
+    post-unread n e = let p = not-read d m (n .0) formed (ap readAnswer (sym e) ∙ R .answer) in posts-by d m _ d h (p .0) (p .1)
 
     module _ (f : Field) (v : Revision) (er : rd ≡ Message f v) (t : List ℕ) (et : t ≡ messageText m) where
       found : (readable m ≡ true) × (f .0 ≡ messageField m) × (v .number ≡ revisionOf m)
@@ -236,21 +217,15 @@ module _ (d m : List ℕ) (h : (k : ℕ) → Fits w8 (getD m k 0)) (b : Bool) (e
         unfolding stored slotWith
         post-newer e q w =
             let p = post-read d m Newer formed (found .0) (sym q ∙ stood) in
-            let R = readable-means m (found .0) in
-            let n : k ≡ 15 → ⊥ = λ x. R .listed (sym slot-is ∙ x) in
+            let n = slotted (messageField m) (readable-means m (found .0) .listed) .1 in
             let l = length-slot (v .number) t post-short in
             let z = formed-means d formed .sized in
-            let y : e ≡ put d (k * slotSize) (slotBytes (v .number) t) = w ∙ put-fits d (k * slotSize) (slotBytes (v .number) t) (omega (arith, slot-le (f .0), n)) in
-            post _ e (p .0) (y ∙ rw (slot-is, found .2, et) (p .1))
+            let y : e ≡ put d (k * slotSize) (slotBytes (v .number) t) = w ∙ put-fits d (k * slotSize) (slotBytes (v .number) t) (omega (arith, slot-is)) in
+            posts-by d m _ e h (p .0) (y ∙ rw (slot-is, found .2, et) (p .1))
 
-        pub post-same : st ≡ Same → Posts d m posted.Same d
-        post-same q = let p = post-read d m Same formed (found .0) (sym q ∙ stood) in post _ d (p .0) (p .1)
-
-        pub post-older : st ≡ Older → Posts d m posted.Older d
-        post-older q = let p = post-read d m Older formed (found .0) (sym q ∙ stood) in post _ d (p .0) (p .1)
-
-        pub post-clash : st ≡ Clash → Posts d m (posted.Refused (record { 0 = 6 })) d
-        post-clash q = let p = post-read d m Clash formed (found .0) (sym q ∙ stood) in post _ d (p .0) (p .1)
+        -- the draft as it was
+        pub post-still : (x : Comparison) (r : Posted) → st ≡ x → postAnswer r ≡ answerBy (clashTest x) (word x) → d ≡ bufferBy (clashTest x) (kept x (stored d m) d) d → Posts d m r d
+        post-still x r q a k = let p = post-read d m x formed (found .0) (sym q ∙ stood) in posts-by d m r d h (a ∙ p .0) (k ∙ p .1)
 
 -- ---- put_sheet: the cells of the first n slots stand in what was there before
 
@@ -276,14 +251,12 @@ module _ (d s : List ℕ) (l : length d ≡ draftSize) (z : length s ≡ sheetSi
         let e : n ≡ 15 = omega arith in
         ex ∙ rw e (put-whole s (cells d 15) (length-cells d l 15 (omega arith) ∙ sym z)) ∙ sym (sheet-into d s l z)
 
-module _ (d s : List ℕ) where
-  pub draft-other : (length d ≡ draftSize → ⊥) → s ≡ sheetInto d s
-  unfolding sheetInto
-  draft-other n = sym (simp (ne-eqb (length d) draftSize n))
-
-  pub sheet-other : length d ≡ draftSize → (length s ≡ sheetSize → ⊥) → s ≡ sheetInto d s
-  unfolding sheetInto
-  sheet-other l n = sym (simp (eq-eqb (length d) draftSize l, ne-eqb (length s) sheetSize n))
+pub sheet-other : (d s : List ℕ) → ((length d ≡ draftSize) × (length s ≡ sheetSize) → ⊥) → s ≡ sheetInto d s
+unfolding sheetInto
+sheet-other d s n =
+    cases (eqb (length d) draftSize && eqb (length s) sheetSize)
+    (λ t. let p = both (eqb (length d) draftSize) (eqb (length s) sheetSize) t in absurd (n (eqb-true _ _ (p .0), eqb-true _ _ (p .1))))
+    (λ t. rw t)
 
 -- ---- copy
 
@@ -291,9 +264,11 @@ copied-made : (r : Copied) → copyAnswer r ≡ success [] → r ≡ copied.Made
 copied-made copied.Made e = refl
 copied-made (copied.Refused n) e = absurd (no-success (n .0) [] [] e)
 
-copy-means : (d s : List ℕ) → passes (copyTests d s) ≡ true → (draftFormed d ≡ true) × (length s ≡ sheetSize)
-unfolding copyTests
-copy-means d s z = let o = none-of (copyTests d s) z in (not-false _ (o .0), eqb-true _ _ (not-false _ (o .1 .0)))
+copy-means : (d s : List ℕ) (r : Copied) → copyAnswer r ≡ copyingOf d s → r ≡ copied.Made → (draftFormed d ≡ true) × (length s ≡ sheetSize)
+unfolding copyingOf copyTests
+copy-means d s r p o =
+    let z = none-of (copyTests d s) (succeeded [] [] (copyTests d s) (ap copyAnswer (sym o) ∙ p) .0) in
+    (not-false _ (z .0), eqb-true _ _ (not-false _ (z .1 .0)))
 
 -- the promise of `copy`, from its two equations
 copies-by : (d s : List ℕ) (r : Copied) (e : List ℕ) → copyAnswer r ≡ copyingOf d s → e ≡ copiedTo d s → Copies d s r e
@@ -302,24 +277,18 @@ copies-by d s r e p q = record {
   answer = p;
   sheet = q;
   refused = λ n. q ∙ unchanged [] _ _ (copyTests d s) (λ z. n (copied-made r (p ∙ z)));
-  exactly = (
-    λ o. copy-means d s (succeeded [] [] (copyTests d s) (ap copyAnswer (sym o) ∙ p) .0),
-    λ c. copied-made r (p ∙ simp (c .0, eq-eqb _ _ (c .1))),
-  );
+  exactly = (copy-means d s r p, λ c. copied-made r (p ∙ simp (c .0, eq-eqb _ _ (c .1))));
   made =
       λ o.
-      let z = succeeded [] [] (copyTests d s) (ap copyAnswer (sym o) ∙ p) .0 in
-      let w = copy-means d s z .0 in
-      let u : e ≡ draftSheet d = q ∙ rw z in
-      rw u (sheet-formed d w, sheet-text d (formed-means d w .sized));
+      let c = copy-means d s r p o in
+      let u : e ≡ draftSheet d = q ∙ simp (c .0, eq-eqb _ _ (c .1)) in
+      rw u (sheet-made d (c .0));
 }
 
 module _ (d s : List ℕ) (b : Bool) (eb : b ≡ draftFormed d) where
   pub copy-malformed : not b ≡ true → Copies d s (copied.Refused (record { 0 = 1 })) s
   unfolding copyingOf copiedTo copyTests
-  copy-malformed n =
-      let w : draftFormed d ≡ false = sym eb ∙ not-true b n in
-      copies-by d s _ s (rw w) (rw w)
+  copy-malformed n = copies-by d s _ s (rw (← eb, not-true b n)) (rw (← eb, not-true b n))
 
   module _ (nb : not b ≡ false) where
     whole : draftFormed d ≡ true
@@ -329,21 +298,21 @@ module _ (d s : List ℕ) (b : Bool) (eb : b ≡ draftFormed d) where
     unfolding copyingOf copiedTo copyTests
     copy-size n = copies-by d s _ s (simp (whole, ne-eqb _ _ n)) (simp (whole, ne-eqb _ _ n))
 
-    copy-sized : length d ≡ draftSize
-    copy-sized = formed-means d whole .sized
-
     pub copy-made : (o x e : List ℕ) → length o ≡ sheetSize → length s ≡ sheetSize → x ≡ sheetInto d o → e ≡ putAt s 0 x → Copies d s copied.Made e
-    unfolding copyingOf copiedTo copyTests draftSheet
+    unfolding copyingOf copiedTo copyTests
     copy-made o x e lo z ex ee =
-        let ed : x ≡ draftSheet d = ex ∙ sheet-into d o copy-sized lo in
-        let l = length-cells d copy-sized 15 (omega arith) in
-        let p : putAt s 0 (cells d 15) ≡ cells d 15 = put-fits s 0 (cells d 15) (omega arith) ∙ put-whole s (cells d 15) (l ∙ sym z) in
+        let sized = formed-means d whole .sized in
+        let ed : x ≡ draftSheet d = ex ∙ sheet-into d o sized lo in
+        let l = length-sheet d sized in
+        let p : putAt s 0 (draftSheet d) ≡ draftSheet d = put-fits s 0 (draftSheet d) (omega arith) ∙ put-whole s (draftSheet d) (l ∙ sym z) in
         copies-by d s copied.Made e (simp (whole, eq-eqb _ _ z)) (ee ∙ rw (ed, p) (simp (whole, eq-eqb _ _ z)))
 
-pub ruleset begins = (needs, stand-newer, stand-older, stand-same, stand-clash, slot-made, fresh-not, fresh-made)
+pub ruleset compares = (needs, lt-ltb, le-ltb, stand-is)
 
-pub ruleset posts = (needs, post-malformed, post-unread, post-short, post-newer, post-same, post-older, post-clash)
+pub ruleset begins = (needs, slot-made, fresh-not, fresh-made)
 
-pub ruleset sheets = (needs, cells-none, cells-more, cells-length, cells-all, draft-other, sheet-other)
+pub ruleset posts = (needs, post-malformed, post-unread, post-short, post-newer, post-still)
+
+pub ruleset sheets = (needs, cells-none, cells-more, cells-length, cells-all)
 
 pub ruleset copies = (needs, copy-malformed, copy-size, copy-made)

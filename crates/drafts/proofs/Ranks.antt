@@ -3,19 +3,24 @@
 use mathlib.Core.Path.{_≡_, refl}
 use mathlib.Core.Bool.{Bool, true, false, cond}
 use mathlib.Core.List.{List, [], _∷_}
-use Prim.Native.Nat.{ℕ, _^_, _<_}
+use Prim.Native.Nat.{ℕ, _<_}
 use native.Mathlib.Omega.{arith}
 use lib.Dec.{ltb}
 use lib.ListN.{length}
 use Rattle.texts.specs.Texts.{same}
-use Rattle.texts.specs.Answers.{_refuses_, bufferBy}
+use Rattle.texts.specs.Answers.{Test, _refuses_, bufferBy}
 use Rattle.sheets.specs.Sheet.{slotOf}
 use Rattle.drafts.specs.Message.{Bytes, messageField, revisionOf, messageText, readable}
 use Rattle.drafts.specs.Draft.{slotSize, slotIn, slotRevision, slotText, slotFormed, rankOf, slotRank, slotWith, slotComparison, comparisonOf, clashes, kept}
 use Rattle.drafts.specs.History.{emptySlot}
-use Rattle.drafts.specs.declared.revision.Comparison.the-variants.{Newer, Same, Older, Clash}
-use Rattle.drafts.proofs.Messages.{readable-means, text-short}
+use Rattle.drafts.specs.declared.revision.Comparison.{Comparison}
+use Rattle.drafts.proofs.Messages.{readable-means, text-short, revision-fits}
 use Rattle.drafts.proofs.Slots.{length-slot, slot-revision, slot-formed}
+
+-- by whether a test is passed
+pub cases : {C : Type 0} (b : Bool) → (b ≡ true → C) → (b ≡ false → C) → C
+cases true f g = f refl
+cases false f g = g refl
 
 -- ---- a readable message m, and the slot that holds it
 
@@ -29,16 +34,13 @@ module _ (m : List ℕ) (z : readable m ≡ true) where
   length-with = length-slot (revisionOf m) (messageText m) (text-short m z)
 
   module _ (b : Bytes m) where
-    fits : revisionOf m < 2 ^ 32
-    fits = omega (arith, b 4, b 5, b 6, b 7)
-
     pub rank-with : slotRank (slotWith m) ≡ rankOf m
     unfolding rankOf slotRank slotWith
-    rank-with = slot-revision (revisionOf m) (messageText m) fits
+    rank-with = slot-revision (revisionOf m) (messageText m) (revision-fits m b)
 
     pub with-formed : slotFormed (slotWith m) ≡ true
     unfolding slotWith
-    with-formed = slot-formed (revisionOf m) (messageText m) fits (readable-means m z .revised) (text-short m z)
+    with-formed = slot-formed (revisionOf m) (messageText m) (revision-fits m b) (readable-means m z .revised) (text-short m z)
 
 -- messages of one rank and one text make one slot
 pub with-same : (a b : List ℕ) → rankOf a ≡ rankOf b → messageText a ≡ messageText b → slotWith a ≡ slotWith b
@@ -49,14 +51,15 @@ pub empty-rank : slotRank emptySlot ≡ 0
 unfolding slotRank emptySlot
 empty-rank = refl
 
+-- what a readable message is tested for last
+abbrev pub clashTest : Comparison → List Test
+clashTest st = (clashes st refuses 6) ∷ []
+
 -- only a message of a higher rank changes the draft
 pub rank-kept : (d m new : List ℕ)
-    → bufferBy ((clashes (comparisonOf d m) refuses 6) ∷ []) (kept (comparisonOf d m) new d) d ≡ cond (ltb (slotRank (slotIn d (slotOf (messageField m)))) (rankOf m)) new d
+    → bufferBy (clashTest (comparisonOf d m)) (kept (comparisonOf d m) new d) d ≡ cond (ltb (slotRank (slotIn d (slotOf (messageField m)))) (rankOf m)) new d
 unfolding rankOf slotRank comparisonOf slotComparison
-rank-kept d m new = let s = slotIn d (slotOf (messageField m)) in by (ltb (slotRevision s) (revisionOf m)) (ltb (revisionOf m) (slotRevision s)) (same (slotText s) (messageText m))
-  where
-    by : (x y b : Bool) → let st = cond x Newer (cond y Older (cond b Same Clash)) in bufferBy ((clashes st refuses 6) ∷ []) (kept st new d) d ≡ cond x new d
-    by true y b = refl
-    by false true b = refl
-    by false false true = refl
-    by false false false = refl
+rank-kept d m new =
+    let s = slotIn d (slotOf (messageField m)) in
+    cases (ltb (slotRevision s) (revisionOf m)) (λ x. rw x)
+    (λ x. rw x (cases (ltb (revisionOf m) (slotRevision s)) (λ y. rw y) (λ y. rw y (cases (same (slotText s) (messageText m)) (λ z. rw z) (λ z. rw z)))))

@@ -2,3 +2,4 @@ pub mod Message
 pub mod Draft
 pub mod History
 pub mod Promises
+pub mod Working

@@ -87,20 +87,23 @@ fn slot_formed(slot: &[u8]) -> bool
     cell_ok(cell) & !((number == 0) & (cell_text(cell).len() != 0))
 }
 
-// "Malformed: another size, a length above 25, a nonzero pad byte; in a draft also revision 0 with a text".
+// "Malformed: another size, a length above 25, a nonzero pad byte; in a draft also revision 0 with a text". The slots that are
+// formed are counted, since a chain of tests that all must pass is compiled to a branch for each.
 pub fn well_formed(draft: &[u8]) -> bool
     ensures { λ r. ⌜ r ≡ draftFormed (now (draft .entry)) ⌝ }
 {
     if draft.len() != DRAFT_SIZE {
         return false;
     }
-    let mut good = true;
+    let mut formed: u8 = 0;
     let mut slot: u8 = 0;
     while slot < SLOT_COUNT {
-        good = good & slot_formed(slot_in(draft, slot));
+        if slot_formed(slot_in(draft, slot)) {
+            formed += 1;
+        }
         slot += 1;
     }
-    good
+    formed == SLOT_COUNT
 }
 
 // "Fresh: all zero".

@@ -1,19 +1,15 @@
 -- R-3: a rule of the test ahead has one verdict, and one field, for all fillings of a sheet. Assumes nothing.
 use mathlib.Core.Path.{_≡_, refl, sym, ap, _∙_, subst}
-use mathlib.Core.Bool.{Bool, true, false, not, cond, _&&_, _||_, and-true, true≢false, false≢true}
-use mathlib.Core.List.{List, [], _∷_, _++_, map, append-assoc, List·Memᴰ, List·Memᴰ·head, List·Memᴰ·tail, List·Memᴰ·eq-of-singleton, Memᴰ·of-map}
-use Prim.Native.Nat.{ℕ, zero, suc, _<_}
-use native.Mathlib.Omega.{arith}
+use mathlib.Core.Bool.{Bool, true, false, not, cond, _&&_, _||_, and-true}
+use mathlib.Core.List.{List, [], _∷_, map, List·Memᴰ, List·Memᴰ·head, List·Memᴰ·tail, List·Memᴰ·eq-of-singleton, Memᴰ·of-map}
+use Prim.Native.Nat.{ℕ, suc, _<_}
 use borrow.Author.Tests.{ltb-true}
 use lib.Dec.{ltb}
 use lib.ListN.{length, getD}
 use Rattle.texts.specs.Quoted.{Text}
 use Rattle.texts.specs.Texts.{every, any, are, among, between, blank}
-use Rattle.texts.proofs.Bools.{both}
-use Rattle.texts.proofs.Every.{every-member}
 use Rattle.sheets.specs.Sheet.{Sheet, slotOf, cell, cellText, cellOf, textOf, fieldIn, given}
-use Rattle.sheets.specs.Lists.{statusCount, basisCount, zeroCount}
-use Rattle.rules.specs.Rules.{budget, needed, firstBlank, rules, order, ahead, testOf, fieldOf, keeps, keepsAll, firstNot}
+use Rattle.rules.specs.Rules.{budget, needed, firstBlank, rules, ahead, testOf, fieldOf, keeps, firstNot}
 use Rattle.rules.specs.Working.Groups.{AlikeBut, spare}
 use Rattle.rules.proofs.Reading.{spared, spared-class}
 use Rattle.orders.specs.Fillings.{lists, listOf, toFill, choices, product, fillings, Filling}
@@ -21,118 +17,81 @@ use Rattle.orders.specs.Working.Entering.{baseOf, pickedOf}
 use Rattle.orders.specs.Working.Search.{width, places, picks}
 use Rattle.orders.specs.Pretest.{noneKeeps, brokenByAll, namedField}
 use Rattle.orders.proofs.EveryFilling.{every-at, every-mem, filling-of, of-filling}
-use Rattle.orders.proofs.Keeping.{base-budget, base-length, fillings-are}
-use Rattle.orders.proofs.Passing.{picked-alike}
+use Rattle.orders.proofs.Keeping.{varying, picked-alike, base-budget, base-length, fillings-are}
 
 -- ---- lists of which a test is the same
 
 module _ (p q : ℕ → Bool) where
-  first-map : (ns : List ℕ) → map p ns ≡ map q ns → firstNot p ns ≡ firstNot q ns
+  first-alike : (ns : List ℕ) → ((n : ℕ) → List·Memᴰ n ns → p n ≡ q n) → firstNot p ns ≡ firstNot q ns
   unfolding firstNot
-  first-map [] e = refl
-  first-map (n ∷ ns) e =
-      let a : p n ≡ q n = cc in
-      let b : map p ns ≡ map q ns = cc in
-      λ i. cond (a i) (first-map ns b i) n
+  first-alike [] e = refl
+  first-alike (n ∷ ns) e = λ i. cond (e n (List·Memᴰ·head refl) i) (first-alike ns (λ k m. e k (List·Memᴰ·tail m)) i) n
 
-  pub every-map : (ns : List ℕ) → map p ns ≡ map q ns → every p ns ≡ every q ns
+  pub every-alike : (ns : List ℕ) → ((n : ℕ) → List·Memᴰ n ns → p n ≡ q n) → every p ns ≡ every q ns
   unfolding every
-  every-map [] e = refl
-  every-map (n ∷ ns) e =
-      let a : p n ≡ q n = cc in
-      let b : map p ns ≡ map q ns = cc in
-      λ i. a i && every-map ns b i
+  every-alike [] e = refl
+  every-alike (n ∷ ns) e = λ i. e n (List·Memᴰ·head refl) i && every-alike ns (λ k m. e k (List·Memᴰ·tail m)) i
 
-module _ {A : Type 0} (f h : ℕ → A) where
-  at-place : (n : ℕ) (b a : List ℕ) → map f (b ++ (n ∷ a)) ≡ map h (b ++ (n ∷ a)) → f n ≡ h n
-  at-place n [] a e = cc
-  at-place n (m ∷ b) a e = let c : map f (b ++ (n ∷ a)) ≡ map h (b ++ (n ∷ a)) = cc in at-place n b a c
-
-  pub at-listed : (n : ℕ) (b a l : List ℕ) → l ≡ b ++ (n ∷ a) → map f l ≡ map h l → f n ≡ h n
-  at-listed n b a l e g = at-place n b a (subst (λ (k : List ℕ). map f k ≡ map h k) e g)
+at-member : {A : Type 0} (f h : ℕ → A) {l : List ℕ} {n : ℕ} → map f l ≡ map h l → List·Memᴰ n l → f n ≡ h n
+at-member f h e (List·Memᴰ·head q) = cc
+at-member f h e (List·Memᴰ·tail {xs = l} m) = let c : map f l ≡ map h l = cc in at-member f h c m
 
 -- ---- what is blank in a filling
 
 entered : Text → Bool
 entered t = not (blank (cellText (cell t)))
 
-lists-entered : every (every entered) lists ≡ true
-unfolding every entered cellText cell between
-lists-entered = refl
-
 module _ (s : Sheet) where
   choice-given : (k : ℕ) (x : List ℕ) → List·Memᴰ x (choices s k) → not (blank (cellText x)) ≡ cond (toFill s k) true (given s k)
-  unfolding choices given textOf listOf entered every
+  unfolding choices given textOf listOf entered every cellText cell between
   choice-given k x = go (toFill s k)
     where
       go : (b : Bool) → List·Memᴰ x (cond b (map cell (listOf k)) (cellOf s k ∷ [])) → not (blank (cellText x)) ≡ cond b true (given s k)
       go true m =
           let w = Memᴰ·of-map cell (listOf k) m in
-          ap (λ (y : List ℕ). not (blank (cellText y))) (sym (w .2)) ∙ every-mem entered (every-at (every entered) [] refl lists lists-entered k) (w .1)
+          ap (λ (y : List ℕ). not (blank (cellText y))) (sym (w .2)) ∙ every-mem entered (every-at (every entered) [] refl lists refl k) (w .1)
       go false m = ap (λ (y : List ℕ). not (blank (cellText y))) (List·Memᴰ·eq-of-singleton m)
-
-  given-filled : (g : Sheet) → Filling s g → (k : ℕ) → k < 15 → given g k ≡ cond (toFill s k) true (given s k)
-  unfolding given textOf
-  given-filled g w k l = choice-given k (cellOf g k) (w .slot k l)
 
   -- two fillings
   module _ (size : length s ≡ 390) (g h : Sheet) (wg : Filling s g) (wh : Filling s h) where
     given-alike : (k : ℕ) → k < 15 → given g k ≡ given h k
-    given-alike k l = given-filled g wg k l ∙ sym (given-filled h wh k l)
+    unfolding given textOf
+    given-alike k l = choice-given k (cellOf g k) (wg .slot k l) ∙ sym (choice-given k (cellOf h k) (wh .slot k l))
 
-    abbrev Below : List ℕ → Type 0
-    Below ks = every (λ (k : ℕ). ltb k 15) ks ≡ true
-
-    all-given : (ks : List ℕ) → Below ks → every (given g) ks ≡ every (given h) ks
-    unfolding every
-    all-given [] b = refl
-    all-given (k ∷ ks) b =
-        let c = both (ltb k 15) (every (λ (j : ℕ). ltb j 15) ks) b in
-        λ i. given-alike k (ltb-true k 15 (c .0)) i && all-given ks (c .1) i
-
-    blank-alike : (ks : List ℕ) → Below ks → firstBlank g ks ≡ firstBlank h ks
-    unfolding every firstBlank
+    blank-alike : (ks : List ℕ) → ((k : ℕ) → List·Memᴰ k ks → k < 15) → firstBlank g ks ≡ firstBlank h ks
+    unfolding firstBlank
     blank-alike [] b = refl
-    blank-alike (k ∷ ks) b =
-        let c = both (ltb k 15) (every (λ (j : ℕ). ltb j 15) ks) b in
-        λ i. cond (given-alike k (ltb-true k 15 (c .0)) i) (blank-alike ks (c .1) i) (fieldIn k)
+    blank-alike (k ∷ ks) b = λ i. cond (given-alike k (b k (List·Memᴰ·head refl)) i) (blank-alike ks (λ j m. b j (List·Memᴰ·tail m)) i) (fieldIn k)
 
-    needed-below : Below needed
+    needed-below : (k : ℕ) → List·Memᴰ k needed → k < 15
     unfolding every slotOf
-    needed-below = refl
+    needed-below k m = ltb-true k 15 (every-mem (λ (j : ℕ). ltb j 15) {l = needed} refl m)
 
     -- no other field than 101, 106, 108 and 109 differs
-    abbrev varying : List ℕ
-    varying = 6 ∷ 11 ∷ 13 ∷ 14 ∷ []
-
     of-base : (f : Sheet) → Filling s f → AlikeBut varying (baseOf s) f
     of-base f w =
         let m = subst (List·Memᴰ f) (fillings-are s size) (of-filling s size f w) in
         let q = Memᴰ·of-map (pickedOf (baseOf s)) (picks (baseOf s)) m in
-        subst (AlikeBut varying (baseOf s)) (q .2) (picked-alike (baseOf s) (q .0) (base-length s size))
+        subst (AlikeBut varying (baseOf s)) (q .2) (picked-alike (baseOf s) (q .0) (base-length s size) .1)
 
     alike : AlikeBut varying g h
     alike k e = sym (of-base g wg k e) ∙ of-base h wh k e
 
-    pub class-alike : budget g ≡ budget h
-    unfolding every any are among
-    class-alike = spared-class varying g h alike refl
-
     -- rule 6 asks of the four only whether they are blank
     six : keeps g 6 ≡ keeps h 6
-    unfolding keeps rules testOf
-    six = λ i. not (class-alike i) || all-given needed needed-below i
+    unfolding every any are among keeps rules testOf
+    six = λ i. not (spared-class varying g h alike refl i) || every-alike (given g) (given h) needed (λ k m. given-alike k (needed-below k m)) i
 
     one : (n : ℕ) → spare varying (n ∷ []) ≡ true → keeps g n ≡ keeps h n
     unfolding every
     one n e = sym (and-true (keeps g n)) ∙ spared varying g h alike (n ∷ []) e ∙ and-true (keeps h n)
 
-    pub verdicts-alike : map (keeps g) ahead ≡ map (keeps h) ahead
+    verdicts-alike : map (keeps g) ahead ≡ map (keeps h) ahead
     unfolding every any are among
     verdicts-alike =
         λ i. one 5 refl i ∷ six i ∷ one 7 refl i ∷ one 8 refl i ∷ one 9 refl i ∷ one 11 refl i ∷ one 12 refl i ∷ one 13 refl i ∷ one 14 refl i ∷ one 16 refl i ∷ one 22 refl i ∷ one 28 refl i ∷ []
 
-    pub fields-alike : map (λ (n : ℕ). fieldOf rules n g) ahead ≡ map (λ (n : ℕ). fieldOf rules n h) ahead
+    fields-alike : map (λ (n : ℕ). fieldOf rules n g) ahead ≡ map (λ (n : ℕ). fieldOf rules n h) ahead
     unfolding fieldOf rules
     fields-alike = λ i. 17 ∷ blank-alike needed needed-below i ∷ 22 ∷ 60 ∷ 61 ∷ 102 ∷ 103 ∷ 104 ∷ 105 ∷ 107 ∷ 22 ∷ 104 ∷ []
 
@@ -183,34 +142,23 @@ module _ (s : Sheet) (size : length s ≡ 390) where
   -- it has the class of the sheet
   pub first-budget : budget firstOf ≡ budget s
   unfolding every any are among firstOf
-  first-budget = sym (spared-class (6 ∷ 11 ∷ 13 ∷ 14 ∷ []) (baseOf s) firstOf (picked-alike (baseOf s) zeros (base-length s size)) refl) ∙ base-budget s size
+  first-budget = sym (spared-class varying (baseOf s) firstOf (picked-alike (baseOf s) zeros (base-length s size) .1) refl) ∙ base-budget s size
 
-  rest-filling : (g : Sheet) → List·Memᴰ g rest → Filling s g
-  rest-filling g m = filling-of s size g (subst (List·Memᴰ g) (sym fillings-first) (List·Memᴰ·tail m))
+  module _ (g : Sheet) (w : Filling s g) (n : ℕ) (m : List·Memᴰ n ahead) where
+    pub like-first : keeps g n ≡ keeps firstOf n
+    like-first = at-member (keeps g) (keeps firstOf) (verdicts-alike s size g firstOf w first-filling) m
 
-  module _ (g : Sheet) (w : Filling s g) where
-    pub like-first : map (keeps g) ahead ≡ map (keeps firstOf) ahead
-    like-first = verdicts-alike s size g firstOf w first-filling
-
-    pub fields-first : map (λ (n : ℕ). fieldOf rules n g) ahead ≡ map (λ (n : ℕ). fieldOf rules n firstOf) ahead
-    fields-first = fields-alike s size g firstOf w first-filling
+    pub fields-first : fieldOf rules n g ≡ fieldOf rules n firstOf
+    fields-first = at-member (λ (k : ℕ). fieldOf rules k g) (λ (k : ℕ). fieldOf rules k firstOf) (fields-alike s size g firstOf w first-filling) m
 
   -- what all fillings break is what the first breaks
-  all-first : map (λ (n : ℕ). not (noneKeeps (fillings s) n)) ahead ≡ map (keeps firstOf) ahead
-  all-first = go ahead [] ahead refl
-    where
-      alike-at : (n : ℕ) (b a : List ℕ) → ahead ≡ b ++ (n ∷ a) → not (noneKeeps (fillings s) n) ≡ keeps firstOf n
-      alike-at n b a e =
-          ap (λ (l : List Sheet). not (noneKeeps l n)) fillings-first
-          ∙ none-alike firstOf rest n (keeps firstOf n) refl (λ g m. at-listed (keeps g) (keeps firstOf) n b a ahead e (like-first g (rest-filling g m)))
-
-      go : (l b ns : List ℕ) → ahead ≡ b ++ ns → map (λ (n : ℕ). not (noneKeeps (fillings s) n)) ns ≡ map (keeps firstOf) ns
-      go l b [] e = refl
-      go l b (n ∷ ns) e = λ i. alike-at n b ns e i ∷ go l (b ++ (n ∷ [])) ns (e ∙ sym (append-assoc b (n ∷ []) ns)) i
-
   pub first-broken : brokenByAll s ≡ firstNot (keeps firstOf) ahead
   unfolding brokenByAll
-  first-broken = first-map (λ (n : ℕ). not (noneKeeps (fillings s) n)) (keeps firstOf) ahead all-first
+  first-broken =
+      first-alike (λ (n : ℕ). not (noneKeeps (fillings s) n)) (keeps firstOf) ahead
+      (λ n m.
+      ap (λ (l : List Sheet). not (noneKeeps l n)) fillings-first
+      ∙ none-alike firstOf rest n (keeps firstOf n) refl (λ g k. like-first g (filling-of s size g (subst (List·Memᴰ g) (sym fillings-first) (List·Memᴰ·tail k))) n m))
 
   pub named-field : namedField s ≡ fieldOf rules (brokenByAll s) firstOf
   unfolding namedField

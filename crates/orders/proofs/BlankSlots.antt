@@ -1,20 +1,21 @@
 -- Entries put into blank slots, and the set of those slots. Assumes nothing.
 use mathlib.Core.Path.{_≡_, refl, ap, sym, _∙_}
-use mathlib.Core.Bool.{Bool, true, false, cond}
+use mathlib.Core.Bool.{Bool, true, cond}
 use mathlib.Core.List.{List, [], _∷_, map}
 use Prim.Native.Nat.{ℕ, _+_, _*_, _≤_}
 use native.Mathlib.Omega.{arith}
-use borrow.Author.Tests.{eq-eqb, ne-eqb}
+use borrow.Author.Tests.{eq-eqb, ne-eqb, not-true}
 use lib.ListN.{length, getD, List·getD-map}
 use Rattle.texts.specs.Quoted.{Text}
-use Rattle.texts.specs.Texts.{blank}
+use Rattle.texts.specs.Texts.{blank, every}
 use Rattle.texts.specs.Buffers.{putAt}
-use Rattle.sheets.specs.Sheet.{cell, textOf}
+use Rattle.texts.proofs.Bools.{both}
+use Rattle.sheets.specs.Sheet.{cell, textOf, given}
 use Rattle.sheets.specs.Lists.{statusTexts, basisTexts, zeroTexts}
 use Rattle.sheets.specs.Working.Entries.{rowOf, filledAt}
 use Rattle.orders.specs.Fillings.{listOf, toFill}
-use Rattle.orders.specs.Working.Entering.{rowCell, filledWith, baseOf, pickedOf}
-use Rattle.orders.specs.Complete.{bits, setOf}
+use Rattle.orders.specs.Working.Entering.{rowCell, Entry, filledWith, baseOf, pickEntries, pickedOf}
+use Rattle.orders.specs.Complete.{setOf}
 
 -- fill_slot
 pub fill-blank : (s e t x r : List ℕ) (k w : ℕ) → t ≡ textOf s k → length t ≡ 0 → w ≡ k → x ≡ rowCell r → e ≡ putAt s (w * 26) x → e ≡ filledAt s k (rowCell r)
@@ -30,38 +31,32 @@ row-cell : (texts : List Text) → map (λ (t : Text). rowCell (rowOf t)) texts 
 unfolding cell rowOf
 row-cell texts e k = sym (List·getD-map (λ (t : Text). rowCell (rowOf t)) texts k []) ∙ ap (λ (l : List (List ℕ)). getD l k (cell [])) e ∙ List·getD-map cell texts k []
 
-status-cell : (k : ℕ) → rowCell (rowOf (getD statusTexts k [])) ≡ cell (getD statusTexts k [])
-unfolding cell rowOf
-status-cell k = row-cell statusTexts refl k
-
-basis-cell : (k : ℕ) → rowCell (rowOf (getD basisTexts k [])) ≡ cell (getD basisTexts k [])
-unfolding cell rowOf
-basis-cell k = row-cell basisTexts refl k
-
-zero-cell : (k : ℕ) → rowCell (rowOf (getD zeroTexts k [])) ≡ cell (getD zeroTexts k [])
-unfolding cell rowOf
-zero-cell k = row-cell zeroTexts refl k
-
 -- fill_zeros
 pub zeros-filled : (s a b c d e f r : List ℕ) → r ≡ rowOf (getD zeroTexts 0 []) → a ≡ filledAt s 3 (rowCell r) → b ≡ filledAt a 4 (rowCell r)
     → c ≡ filledAt b 7 (rowCell r) → d ≡ filledAt c 9 (rowCell r) → e ≡ filledAt d 10 (rowCell r) → f ≡ filledAt e 12 (rowCell r) → f ≡ baseOf s
-unfolding baseOf
+unfolding baseOf cell rowOf
 zeros-filled s a b c d e f r h ha hb hc hd he hf =
-    let z : rowCell r ≡ cell (getD zeroTexts 0 []) = ap rowCell h ∙ zero-cell 0 in
+    let z : rowCell r ≡ cell (getD zeroTexts 0 []) = ap rowCell h ∙ row-cell zeroTexts refl 0 in
     cc
 
 -- fill_picked
+none-filled : (s : List ℕ) (es : List Entry) → every (given s) (map (λ (e : Entry). e .0) es) ≡ true → s ≡ filledWith s es
+unfolding every filledAt given
+none-filled s [] e = refl
+none-filled s (x ∷ es) e =
+    let p = both (given s (x .0)) (every (given s) (map (λ (y : Entry). y .0) es)) e in
+    rw (not-true (blank (textOf s (x .0))) (p .0)) (none-filled s es (p .1))
+
+pub picked-none : (s q : List ℕ) (b : Bool) → b ≡ every (given s) (6 ∷ 11 ∷ 13 ∷ 14 ∷ []) → b ≡ true → s ≡ pickedOf s q
+unfolding pickedOf
+picked-none s q b e t = none-filled s (pickEntries q) (sym e ∙ t)
+
 pub picked-filled : (s a b c d q r t u : List ℕ) (i j k l : ℕ) → q ≡ rowOf (getD statusTexts i []) → a ≡ filledAt s 6 (rowCell q)
     → r ≡ rowOf (getD basisTexts j []) → b ≡ filledAt a 11 (rowCell r) → t ≡ rowOf (getD zeroTexts k []) → c ≡ filledAt b 13 (rowCell t)
     → u ≡ rowOf (getD zeroTexts l []) → d ≡ filledAt c 14 (rowCell u) → d ≡ pickedOf s (i ∷ j ∷ k ∷ l ∷ [])
-unfolding pickedOf
+unfolding pickedOf cell rowOf
 picked-filled s a b c d q r t u i j k l hq ha hr hb ht hc hu hd =
-    let z1 : rowCell q ≡ cell (getD statusTexts i []) = ap rowCell hq ∙ status-cell i in
-    let z2 : rowCell r ≡ cell (getD basisTexts j []) = ap rowCell hr ∙ basis-cell j in
-    let z3 : rowCell t ≡ cell (getD zeroTexts k []) = ap rowCell ht ∙ zero-cell k in
-    let z4 : rowCell u ≡ cell (getD zeroTexts l []) = ap rowCell hu ∙ zero-cell l in
-    hd ∙ (λ m. filledAt (hc m) 14 (z4 m)) ∙ ap (λ (w : List ℕ). filledAt (filledAt w 13 (rowCell t)) 14 (cell (getD zeroTexts l []))) (hb ∙ ap (λ (w : List ℕ). filledAt w 11 (rowCell r)) ha)
-    ∙ (λ m. filledAt (filledAt (filledAt (filledAt s 6 (z1 m)) 11 (z2 m)) 13 (z3 m)) 14 (cell (getD zeroTexts l [])))
+    cc (row-cell statusTexts refl i, row-cell basisTexts refl j, row-cell zeroTexts refl k, row-cell zeroTexts refl l)
 
 -- bit_of, filled_set
 pub bit-blank : (s t : List ℕ) (k v : ℕ) → t ≡ textOf s k → length t ≡ 0 → v ≡ cond (blank (textOf s k)) v 0

@@ -1,19 +1,15 @@
 -- A sheet is its cells one after another, and an entry put into a slot is a cell of it replaced. Assumes nothing.
-use mathlib.Core.Path.{_≡_, refl, sym, ap, _∙_}
-use mathlib.Core.Bool.{Bool, true, false, cond, _&&_}
-use mathlib.Core.List.{List, [], _∷_, _++_, map, append-assoc, append-nil}
+use mathlib.Core.Path.{_≡_, refl, sym, ap, _∙_, subst}
+use mathlib.Core.Bool.{Bool, true, false, cond}
+use mathlib.Core.List.{List, [], _∷_, _++_, map, append-assoc}
 use Prim.Native.Nat.{ℕ, zero, suc, _+_, _-_, _*_, _<_, _≤_}
 use native.Mathlib.Omega.{arith}
-use borrow.Author.Tests.{leb-true}
-use lib.Dec.{leb}
-use lib.ListN.{length, getD, take, drop, set, replicate, length-append, length-replicate, length-take, length-drop}
+use lib.ListN.{length, getD, take, drop, set, length-append, length-set, length-take, length-drop}
 use lib.Seq.{take-at, drop-at, drop-drop, take-all, take-add, take-append-add, drop-append-add, set-getD}
-use Rattle.texts.specs.Quoted.{Text}
-use Rattle.texts.specs.Texts.{between, blank, every}
+use Rattle.texts.specs.Texts.{between, blank}
 use Rattle.texts.specs.Buffers.{put, putAt}
 use Rattle.texts.proofs.Puts.{put-fits}
-use Rattle.texts.proofs.Bools.{both}
-use Rattle.sheets.specs.Sheet.{cell, slots, cellText, cellOf, textOf}
+use Rattle.sheets.specs.Sheet.{slots, cellText, cellOf, textOf}
 use Rattle.orders.specs.Fillings.{joined}
 use Rattle.orders.specs.Working.Search.{places}
 use Rattle.sheets.specs.Working.Entries.{filledAt}
@@ -63,12 +59,14 @@ unfolding places
 joined-cells s h = cells-from s 15 0 ∙ take-all 390 s (omega arith)
 
 -- the cells of a sheet are 26 bytes long
+pub length-cell : (s : List ℕ) (k : ℕ) → k * 26 + 26 ≤ length s → length (cellOf s k) ≡ 26
+unfolding cellOf between
+length-cell s k h = simp (length-take, length-drop) (omega arith)
+
 sized-from : (s : List ℕ) (n i : ℕ) → i * 26 + n * 26 ≤ length s → Sized (map (cellOf s) (places n i))
-unfolding cellOf between places
+unfolding places
 sized-from s zero i h = tt
-sized-from s (suc n) i h =
-    let f : i * 26 + 26 - i * 26 ≡ 26 = omega arith in
-    (rw f (simp (length-take, length-drop) (omega arith)), sized-from s n (suc i) (omega arith))
+sized-from s (suc n) i h = (length-cell s i (omega arith), sized-from s n (suc i) (omega arith))
 
 pub sized-cells : (s : List ℕ) → length s ≡ 390 → Sized (map (cellOf s) slots)
 unfolding places
@@ -85,25 +83,13 @@ put-joined (c ∷ cs) (suc k) x z h l =
     let a = z .0 in
     let e : suc k * 26 ≡ length c + k * 26 = omega arith in
     let f : length c + k * 26 + length x ≡ length c + (k * 26 + length x) = omega arith in
-    rw (e, f, take-append-add c (joined cs) (k * 26), drop-append-add c (joined cs) (k * 26 + length x))
-    (ap (λ (t : List ℕ). t ++ drop (k * 26 + length x) (joined cs)) (append-assoc c (take (k * 26) (joined cs)) x)
-    ∙ append-assoc c (take (k * 26) (joined cs) ++ x) (drop (k * 26 + length x) (joined cs))
-    ∙ ap (λ (t : List ℕ). c ++ t) (put-joined cs k x (z .1) (omega arith) l))
+    rw (e, f, take-append-add c (joined cs) (k * 26), drop-append-add c (joined cs) (k * 26 + length x), append-assoc c (take (k * 26) (joined cs)) x, append-assoc c)
+    (ap (λ (t : List ℕ). c ++ t) (put-joined cs k x (z .1) (omega arith) l))
 
 sized-set : (cs : Cells) (k : ℕ) (x : List ℕ) → Sized cs → length x ≡ 26 → Sized (set cs k x)
 sized-set [] k x z l = z
 sized-set (c ∷ cs) zero x z l = (l, z .1)
 sized-set (c ∷ cs) (suc k) x z l = (z .0, sized-set cs k x (z .1) l)
-
-length-sets : (cs : Cells) (k : ℕ) (x : List ℕ) → length (set cs k x) ≡ length cs
-length-sets [] k x = refl
-length-sets (c ∷ cs) zero x = refl
-length-sets (c ∷ cs) (suc k) x = ap suc (length-sets cs k x)
-
-sized-at : (cs : Cells) (k : ℕ) → Sized cs → k < length cs → length (getD cs k []) ≡ 26
-sized-at [] k z h = absurd (omega arith)
-sized-at (c ∷ cs) zero z h = z .0
-sized-at (c ∷ cs) (suc k) z h = sized-at cs k (z .1) (omega arith)
 
 -- an entry put into a slot that is blank
 abbrev pub fillCell : Cells → Entry → Cells
@@ -118,31 +104,21 @@ abbrev pub Fit : ℕ → List Entry → Type 0
 Fit n [] = Unit {0}
 Fit n (e ∷ es) = ((e .0 < n) × (length (e .1) ≡ 26)) × Fit n es
 
-fill-case : (cs : Cells) (k : ℕ) (x : List ℕ) (b : Bool) → Sized cs → k < length cs → length x ≡ 26
-    → cond b (putAt (joined cs) (k * 26) x) (joined cs) ≡ joined (set cs k (cond b x (getD cs k [])))
-fill-case cs k x true z h l =
-    put-fits (joined cs) (k * 26) x (omega (arith, length-joined cs z)) ∙ put-joined cs k x z h l
-fill-case cs k x false z h l = ap joined (sym (set-getD cs k []))
-
-fill-joined : (cs : Cells) (e : Entry) → Sized cs → e .0 < length cs → length (e .1) ≡ 26 → filledAt (joined cs) (e .0) (e .1) ≡ joined (fillCell cs e)
+fill-joined : (cs : Cells) (e : Entry) → Sized cs → e .0 < length cs → length (e .1) ≡ 26 → (filledAt (joined cs) (e .0) (e .1) ≡ joined (fillCell cs e)) × Sized (fillCell cs e)
 unfolding filledAt textOf
-fill-joined cs e z h l =
-    rw (cell-joined cs (e .0) z h) (fill-case cs (e .0) (e .1) (blank (cellText (getD cs (e .0) []))) z h l)
+fill-joined cs e z h l = rw (cell-joined cs (e .0) z h) (go (blank (cellText (getD cs (e .0) []))))
+  where
+    filled : Bool → Cells
+    filled b = set cs (e .0) (cond b (e .1) (getD cs (e .0) []))
 
-fill-sized : (cs : Cells) (k : ℕ) (x : List ℕ) (b : Bool) → Sized cs → k < length cs → length x ≡ 26 → Sized (set cs k (cond b x (getD cs k [])))
-fill-sized cs k x true z h l = sized-set cs k x z l
-fill-sized cs k x false z h l = sized-set cs k (getD cs k []) z (sized-at cs k z h)
+    go : (b : Bool) → (cond b (putAt (joined cs) (e .0 * 26) (e .1)) (joined cs) ≡ joined (filled b)) × Sized (filled b)
+    go true = (put-fits (joined cs) (e .0 * 26) (e .1) (omega (arith, length-joined cs z)) ∙ put-joined cs (e .0) (e .1) z h l, sized-set cs (e .0) (e .1) z l)
+    go false = let s = sym (set-getD cs (e .0) []) in (ap joined s, subst Sized s z)
 
-pub filled-joined : (es : List Entry) (cs : Cells) → Sized cs → Fit (length cs) es → filledWith (joined cs) es ≡ joined (fillCells cs es)
-filled-joined [] cs z f = refl
+pub filled-joined : (es : List Entry) (cs : Cells) → Sized cs → Fit (length cs) es → (filledWith (joined cs) es ≡ joined (fillCells cs es)) × Sized (fillCells cs es)
+filled-joined [] cs z f = (refl, z)
 filled-joined (e ∷ es) cs z f =
-    let n = fillCell cs e in
-    let l = length-sets cs (e .0) (cond (blank (cellText (getD cs (e .0) []))) (e .1) (getD cs (e .0) [])) in
-    ap (λ (s : List ℕ). filledWith s es) (fill-joined cs e z (f .0 .0) (f .0 .1))
-    ∙ filled-joined es (fillCell cs e) (fill-sized cs (e .0) (e .1) (blank (cellText (getD cs (e .0) []))) z (f .0 .0) (f .0 .1)) (rw l (f .1))
-
-pub filled-sized : (es : List Entry) (cs : Cells) → Sized cs → Fit (length cs) es → Sized (fillCells cs es)
-filled-sized [] cs z f = z
-filled-sized (e ∷ es) cs z f =
-    let l = length-sets cs (e .0) (cond (blank (cellText (getD cs (e .0) []))) (e .1) (getD cs (e .0) [])) in
-    filled-sized es (fillCell cs e) (fill-sized cs (e .0) (e .1) (blank (cellText (getD cs (e .0) []))) z (f .0 .0) (f .0 .1)) (rw l (f .1))
+    let w = fill-joined cs e z (f .0 .0) (f .0 .1) in
+    let l = length-set cs (e .0) (cond (blank (cellText (getD cs (e .0) []))) (e .1) (getD cs (e .0) [])) in
+    let r = filled-joined es (fillCell cs e) (w .1) (rw l (f .1)) in
+    (ap (λ (s : List ℕ). filledWith s es) (w .0) ∙ r .0, r .1)

@@ -1,4 +1,4 @@
--- The ways through `complete`. Assumes nothing.
+-- What `complete` and `pretest` begin with, and the ways through `complete`. Assumes nothing.
 use mathlib.Core.Path.{_≡_, refl, sym, ap, _∙_, subst}
 use mathlib.Core.Bool.{Bool, true, false, not, cond}
 use mathlib.Core.List.{List, [], _∷_}
@@ -11,6 +11,7 @@ use Rattle.texts.specs.Texts.{every}
 use Rattle.texts.specs.Answers.{refusal}
 use Rattle.texts.specs.Buffers.{putAt}
 use Rattle.texts.proofs.Puts.{put-fits, put-whole}
+use Rattle.texts.proofs.Refusals.{no-success, unchanged}
 use Rattle.rules.specs.Rules.{budget, rules, fieldOf, keeps, firstNot, firstBroken}
 use Rattle.sheets.specs.Working.Facts.{Read}
 use Rattle.rules.proofs.First.{none-kept}
@@ -29,125 +30,127 @@ use Rattle.orders.specs.Whole.{Completes}
 use Rattle.orders.specs.declared.search.Pick.{Pick}
 use Rattle.orders.specs.declared.search.Found.{Found}
 use Rattle.orders.specs.declared.search.Found.the-variants.{Place, Nothing}
+use Rattle.orders.specs.declared.complete.Completed.{Completed}
 use Rattle.orders.specs.declared.complete.Completed.the-variants.{Filled, Impossible, Broken, Refused}
 use Rattle.orders.proofs.Keeping.{mapLook, base-budget, base-basic, base-broken, base-length, first-is, picked-length}
 use Rattle.orders.proofs.Whole.{completes-by, basic-numbered, length-draftSheet, answer-is, sheet-is, lookAnswer, lookSheet}
 
 -- what the search answered
 place-cases : (l : Look (List ℕ)) (n : ℕ) (p : Pick) → Place n p ≡ foundOf l → (q : List ℕ) × (l ≡ found n q) × (p ≡ pickOf q)
-place-cases (found m q) n p e =
-    let a : n ≡ m = cc in
-    let b : p ≡ pickOf q = cc in
-    (q, ap (λ (k : ℕ). found k q) (sym a), b)
+place-cases (found m q) n p e = (q, cc, cc)
 place-cases (none m) n p e = let z : _≡_ {A = ℕ} 0 1 = cc in absurd (omega arith)
 
 none-cases : (l : Look (List ℕ)) (n : ℕ) → Nothing n ≡ foundOf l → l ≡ none n
 none-cases (found m q) n e = let z : _≡_ {A = ℕ} 0 1 = cc in absurd (omega arith)
-none-cases (none m) n e = let a : n ≡ m = cc in ap none (sym a)
+none-cases (none m) n e = cc
 
 -- the fields of rules 1 to 3 are the same of every sheet
-basic-case : (s t : List ℕ) (n : ℕ) (a b c : Bool) → n ≡ cond a (cond b (cond c 0 3) 2) 1 → fieldOf rules n s ≡ fieldOf rules n t
-unfolding fieldOf rules
-basic-case s t n true true true e = rw e
-basic-case s t n true true false e = rw e
-basic-case s t n true false c e = rw e
-basic-case s t n false b c e = rw e
+basic-field : (s t : List ℕ) (n : ℕ) → firstBroken s basic ≡ n → fieldOf rules n s ≡ fieldOf rules n t
+unfolding firstNot fieldOf rules
+basic-field s t n e = rw (← e) (go (keeps s 1) (keeps s 2) (keeps s 3))
+  where
+    go : (a b c : Bool) → fieldOf rules (cond a (cond b (cond c 0 3) 2) 1) s ≡ fieldOf rules (cond a (cond b (cond c 0 3) 2) 1) t
+    go true true true = refl
+    go true true false = refl
+    go true false c = refl
+    go false b c = refl
 
-pub basic-field : (s t : List ℕ) (n : ℕ) → n ≡ firstBroken s basic → fieldOf rules n t ≡ fieldOf rules n s
-unfolding firstNot
-basic-field s t n e = basic-case t s n (keeps s 1) (keeps s 2) (keeps s 3) e
+-- ---- what `complete` and `pretest` begin with
+
+-- the well-formed draft d has the sheet s, of which the base is u; the facts x are read of that, and g is the first of rules 1 to 3 broken
+pub record Begun (d s u : List ℕ) (x : Facts) (g : RuleNumber) : Type 0 where
+  pub formed : draftFormed d ≡ true
+  pub size : length (draftSheet d) ≡ 390
+  pub sheet : s ≡ draftSheet d
+  pub base : u ≡ baseOf (draftSheet d)
+  pub read : Read x (baseOf (draftSheet d))
+  pub first : firstBroken (draftSheet d) basic ≡ g .0
+
+pub begun : (d : List ℕ) (w : Bool) → w ≡ draftFormed d → not w ≡ false → (o s : List ℕ) → length o ≡ 390 → s ≡ sheetInto d o → (u : List ℕ) (x : Facts) (g : RuleNumber)
+    → u ≡ baseOf s → (length u ≡ 390 → Read x u) → ((t : List ℕ) → Read x t → g .0 ≡ firstBroken t basic) → Begun d s u x g
+begun d w hw h o s lo hs u x g hu hx hg =
+    let formed : draftFormed d ≡ true = sym hw ∙ not-false w h in
+    let size = length-draftSheet d formed in
+    let sheet : s ≡ draftSheet d = hs ∙ sheet-into d o (formed-means d formed .sized) lo in
+    let base : u ≡ baseOf (draftSheet d) = hu ∙ ap baseOf sheet in
+    let read : Read x (baseOf (draftSheet d)) = subst (Read x) base (hx (ap length base ∙ base-length (draftSheet d) size)) in
+    let first : firstBroken (draftSheet d) basic ≡ g .0 = sym (hg (baseOf (draftSheet d)) read ∙ base-broken (draftSheet d) size) in
+    record { formed = formed; size = size; sheet = sheet; base = base; read = read; first = first }
+
+module _ {d s u : List ℕ} {x : Facts} {g : RuleNumber} (B : Begun d s u x g) where
+  pub field-is : (f : Field) → f .0 ≡ fieldOf rules (g .0) u → fieldOf rules (g .0) (draftSheet d) ≡ f .0
+  field-is f j = basic-field (draftSheet d) u (g .0) (B .first) ∙ sym j
+
+  pub class-is : (r : Bool) → ((t : List ℕ) → Read x t → r ≡ budget t) → r ≡ budget (draftSheet d)
+  class-is r hr = hr (baseOf (draftSheet d)) (B .read) ∙ base-budget (draftSheet d) (B .size)
+
+  pub kept-by : g .0 ≡ 0 → every (keeps (draftSheet d)) basic ≡ true
+  kept-by y = none-kept (keeps (draftSheet d)) basic basic-numbered (B .first ∙ y)
+
+  pub pays-by : g .0 ≡ 0 → budget (draftSheet d) ≡ true → budgetPayment (draftSheet d) ≡ true
+  unfolding budgetPayment
+  pays-by y p = rw (kept-by y, p)
+
+-- ---- the ways through `complete`
+
+-- a refusal leaves the buffer
+refuses : (d b : List ℕ) (r : Completed) (n : ℕ) (vs : List ℕ) → completeAnswer r ≡ refusal n vs → refusal n vs ≡ completing d b → Completes d b r b
+unfolding completing completed
+refuses d b r n vs a p = completes-by d b r b (a ∙ p) (sym (unchanged _ _ _ (completeTests d b) (λ e. no-success n vs _ (p ∙ e))))
 
 module _ (d b : List ℕ) (w : Bool) (hw : w ≡ draftFormed d) where
   pub refused-1 : not w ≡ true → Completes d b (Refused (record { 0 = 1 })) b
-  unfolding completing completed completeTests completeAnswer
-  refused-1 h =
-      let f : draftFormed d ≡ false = sym hw ∙ not-true w h in
-      completes-by d b (Refused (record { 0 = 1 })) b (sym (simp f)) (sym (simp f))
+  unfolding completing completeTests completeAnswer
+  refused-1 h = let f : draftFormed d ≡ false = sym hw ∙ not-true w h in refuses d b (Refused (record { 0 = 1 })) 1 [] refl (sym (simp f))
 
-  module _ (h : not w ≡ false) where
-    formed : draftFormed d ≡ true
-    formed = sym hw ∙ not-false w h
+  pub refused-7 : not w ≡ false → (length b ≡ 390 → ⊥) → Completes d b (Refused (record { 0 = 7 })) b
+  unfolding completing completeTests completeAnswer
+  refused-7 h z =
+      let f : draftFormed d ≡ true = sym hw ∙ not-false w h in
+      refuses d b (Refused (record { 0 = 7 })) 7 [] refl (sym (simp (f, ne-eqb (length b) 390 z)))
 
-    size : length (draftSheet d) ≡ 390
-    size = length-draftSheet d formed
+module _ {d s u : List ℕ} {x : Facts} {g : RuleNumber} (b : List ℕ) (z : length b ≡ 390) (B : Begun d s u x g) where
+  pub broken-8 : (f : Field) → (g .0 ≡ 0 → ⊥) → f .0 ≡ fieldOf rules (g .0) u → Completes d b (Broken f g) b
+  unfolding completing completeTests sheetTests completeAnswer
+  broken-8 f y j =
+      refuses d b (Broken f g) 8 (f .0 ∷ g .0 ∷ []) refl
+      (sym (simp (B .formed, eq-eqb (length b) 390 z, B .first, ne-eqb (g .0) 0 y) (ap (λ (n : ℕ). refusal 8 (n ∷ g .0 ∷ [])) (field-is B f j))))
 
-    pub refused-7 : (length b ≡ 390 → ⊥) → Completes d b (Refused (record { 0 = 7 })) b
-    unfolding completing completed completeTests completeAnswer
-    refused-7 z = completes-by d b (Refused (record { 0 = 7 })) b (sym (simp (formed, ne-eqb (length b) 390 z))) (sym (simp (formed, ne-eqb (length b) 390 z)))
+  module _ (y : g .0 ≡ 0) (r : Bool) (hr : (t : List ℕ) → Read x t → r ≡ budget t) where
+    pub refused-9 : not r ≡ true → Completes d b (Refused (record { 0 = 9 })) b
+    unfolding completing completeTests sheetTests completeAnswer
+    refused-9 t =
+        let p : budget (draftSheet d) ≡ false = sym (class-is B r hr) ∙ not-true r t in
+        refuses d b (Refused (record { 0 = 9 })) 9 [] refl (sym (simp (B .formed, eq-eqb (length b) 390 z, B .first ∙ y, p)))
 
-    module _ (z : length b ≡ 390) (o s : List ℕ) (lo : length o ≡ 390) (hs : s ≡ sheetInto d o) (u : List ℕ) (x : Facts) (g : RuleNumber) (hu : u ≡ baseOf s) (hx : length u ≡ 390 → Read x u) (hg : (t : List ℕ) → Read x t → g .0 ≡ firstBroken t basic) where
-      sheet : s ≡ draftSheet d
-      sheet = hs ∙ sheet-into d o (formed-means d formed .sized) lo
+    module _ (t : not r ≡ false) (m : Found) (hm : (v : List ℕ) → Payment x v → m ≡ foundOf (firstPick v)) where
+      pays : budget (draftSheet d) ≡ true
+      pays = sym (class-is B r hr) ∙ not-false r t
 
-      base : u ≡ baseOf (draftSheet d)
-      base = hu ∙ ap baseOf sheet
+      picks : m ≡ foundOf (firstPick (baseOf (draftSheet d)))
+      picks = hm (baseOf (draftSheet d)) (record { read = B .read; class = base-budget (draftSheet d) (B .size) ∙ pays; basics = base-basic (draftSheet d) (B .size) ∙ kept-by B y })
 
-      read : Read x (baseOf (draftSheet d))
-      read = subst (Read x) base (hx (ap length base ∙ base-length (draftSheet d) size))
+      -- what the search found, as a look through the fillings
+      looks : (l : Look (List ℕ)) → firstPick (baseOf (draftSheet d)) ≡ l → (o : Look (List ℕ)) → o ≡ mapLook (pickedOf (baseOf (draftSheet d))) l
+          → (lookAnswer (draftSheet d) o ≡ completing d b) × (lookSheet b o ≡ completed d b)
+      looks l e o q =
+          let f : firstFilling (draftSheet d) ≡ o = first-is (draftSheet d) (B .size) ∙ ap (mapLook (pickedOf (baseOf (draftSheet d)))) e ∙ sym q in
+          let paid = pays-by B y pays in
+          (ap (lookAnswer (draftSheet d)) (sym f) ∙ sym (answer-is d b (B .formed) z paid), ap (lookSheet b) (sym f) ∙ sym (sheet-is d b (B .formed) z paid))
 
-      first : firstBroken (draftSheet d) basic ≡ g .0
-      first = sym (hg (baseOf (draftSheet d)) read ∙ base-broken (draftSheet d) size)
+      pub refused-10 : (n : ℕ) → m ≡ Nothing n → Completes d b (Impossible n) b
+      unfolding completeAnswer
+      refused-10 n e =
+          let l = looks (none n) (none-cases (firstPick (baseOf (draftSheet d))) n (sym e ∙ picks)) (none n) refl in
+          completes-by d b (Impossible n) b (l .0) (l .1)
 
-      pub broken-8 : (f : Field) → (g .0 ≡ 0 → ⊥) → f .0 ≡ fieldOf rules (g .0) u → Completes d b (Broken f g) b
-      unfolding completing completed completeTests sheetTests completeAnswer
-      broken-8 f y j =
-          completes-by d b (Broken f g) b
-          (sym (simp (formed, eq-eqb (length b) 390 z, first, ne-eqb (g .0) 0 y) (ap (λ (n : ℕ). refusal 8 (n ∷ g .0 ∷ [])) (sym (j ∙ basic-field (draftSheet d) u (g .0) (sym first))))))
-          (sym (simp (formed, eq-eqb (length b) 390 z, first, ne-eqb (g .0) 0 y)))
-
-      module _ (y : g .0 ≡ 0) (r : Bool) (hr : (t : List ℕ) → Read x t → r ≡ budget t) where
-        zero : firstBroken (draftSheet d) basic ≡ 0
-        zero = first ∙ y
-
-        class : r ≡ budget (draftSheet d)
-        class = hr (baseOf (draftSheet d)) read ∙ base-budget (draftSheet d) size
-
-        pub refused-9 : not r ≡ true → Completes d b (Refused (record { 0 = 9 })) b
-        unfolding completing completed completeTests sheetTests completeAnswer
-        refused-9 t =
-            let p : budget (draftSheet d) ≡ false = sym class ∙ not-true r t in
-            completes-by d b (Refused (record { 0 = 9 })) b (sym (simp (formed, eq-eqb (length b) 390 z, zero, p))) (sym (simp (formed, eq-eqb (length b) 390 z, zero, p)))
-
-        module _ (t : not r ≡ false) (m : Found) (hm : (v : List ℕ) → Payment x v → m ≡ foundOf (firstPick v)) where
-          pays : budget (draftSheet d) ≡ true
-          pays = sym class ∙ not-false r t
-
-          kept : every (keeps (draftSheet d)) basic ≡ true
-          kept = none-kept (keeps (draftSheet d)) basic basic-numbered zero
-
-          picks : m ≡ foundOf (firstPick (baseOf (draftSheet d)))
-          picks = hm (baseOf (draftSheet d)) (record { read = read; class = base-budget (draftSheet d) size ∙ pays; basics = base-basic (draftSheet d) size ∙ kept })
-
-          -- what the search found, as a look through the fillings
-          looks : (l : Look (List ℕ)) → firstPick (baseOf (draftSheet d)) ≡ l → firstFilling (draftSheet d) ≡ mapLook (pickedOf (baseOf (draftSheet d))) l
-          looks l e = first-is (draftSheet d) size ∙ ap (mapLook (pickedOf (baseOf (draftSheet d)))) e
-
-          paid : budgetPayment (draftSheet d) ≡ true
-          unfolding budgetPayment
-          paid = rw (kept, pays)
-
-          found-answer : lookAnswer (draftSheet d) (firstFilling (draftSheet d)) ≡ completing d b
-          found-answer = sym (answer-is d b formed z paid)
-
-          found-sheet : lookSheet b (firstFilling (draftSheet d)) ≡ completed d b
-          found-sheet = sym (sheet-is d b formed z paid)
-
-          pub refused-10 : (n : ℕ) → m ≡ Nothing n → Completes d b (Impossible n) b
-          unfolding completeAnswer
-          refused-10 n e =
-              let l = looks (none n) (none-cases (firstPick (baseOf (draftSheet d))) n (sym e ∙ picks)) in
-              completes-by d b (Impossible n) b
-              (ap (lookAnswer (draftSheet d)) (sym l) ∙ found-answer)
-              (ap (lookSheet b) (sym l) ∙ found-sheet)
-
-          pub filled-first : (n set : ℕ) (p : Pick) (v f : List ℕ) → set ≡ setOf s → m ≡ Place n p → v ≡ pickedOf u (p .status ∷ p .basis ∷ p .document ∷ p .day ∷ []) → f ≡ putAt b 0 v → Completes d b (Filled n set (ones set)) f
-          unfolding completeAnswer pickedOf
-          filled-first n set p v f hset e hv hf =
-              let (q, lq, pq) = place-cases (firstPick (baseOf (draftSheet d))) n p (sym e ∙ picks) in
-              let l = looks (found n q) lq in
-              let c1 : v ≡ pickedOf (baseOf (draftSheet d)) q = hv ∙ (λ i. pickedOf (base i) (pq i .status ∷ pq i .basis ∷ pq i .document ∷ pq i .day ∷ [])) in
-              let c2 : length v ≡ 390 = ap length c1 ∙ picked-length (draftSheet d) size q in
-              let c3 : f ≡ v = hf ∙ put-fits b 0 v (omega arith) ∙ put-whole b v (omega arith) in
-              completes-by d b (Filled n set (ones set)) f
-              ((λ i. completeAnswer (Filled n ((hset ∙ ap setOf sheet) i) (ones ((hset ∙ ap setOf sheet) i)))) ∙ ap (lookAnswer (draftSheet d)) (sym l) ∙ found-answer)
-              (c3 ∙ c1 ∙ ap (lookSheet b) (sym l) ∙ found-sheet)
+      pub filled-first : (n set : ℕ) (p : Pick) (v f : List ℕ) → set ≡ setOf s → m ≡ Place n p → v ≡ pickedOf u (p .status ∷ p .basis ∷ p .document ∷ p .day ∷ []) → f ≡ putAt b 0 v → Completes d b (Filled n set (ones set)) f
+      unfolding completeAnswer pickedOf
+      filled-first n set p v f hset e hv hf =
+          let (q, lq, pq) = place-cases (firstPick (baseOf (draftSheet d))) n p (sym e ∙ picks) in
+          let c1 : v ≡ pickedOf (baseOf (draftSheet d)) q = hv ∙ (λ i. pickedOf (B .base i) (pq i .status ∷ pq i .basis ∷ pq i .document ∷ pq i .day ∷ [])) in
+          let c2 : length v ≡ 390 = ap length c1 ∙ picked-length (draftSheet d) (B .size) q in
+          let c3 : f ≡ v = hf ∙ put-fits b 0 v (omega arith) ∙ put-whole b v (omega arith) in
+          let hs : set ≡ setOf (draftSheet d) = hset ∙ ap setOf (B .sheet) in
+          let l = looks (found n q) lq (found n v) (ap (found n) c1) in
+          completes-by d b (Filled n set (ones set)) f ((λ i. completeAnswer (Filled n (hs i) (ones (hs i)))) ∙ l .0) (c3 ∙ l .1)

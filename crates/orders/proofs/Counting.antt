@@ -1,157 +1,92 @@
 -- How many fillings there are, and the bits of the set of filled slots. Assumes nothing.
 use mathlib.Core.Path.{_≡_, refl, sym, ap, _∙_}
-use mathlib.Core.Logic.{⊎-elim}
-use mathlib.Core.Bool.{Bool, true, false, cond, _&&_}
-use mathlib.Core.List.{List, [], _∷_, _++_, map}
-use Prim.Native.Nat.{ℕ, zero, suc, _+_, _-_, _*_, _/_, _%_, _^_, _<_, _≤_}
-use native.Mathlib.Nat.{suc-mul, add-comm, mul-le-mul, zero-mul, one-mul, pow-suc, mul-assoc, mul-add-div-right, mul-add-mod-self-right}
-use native.Mathlib.Decide.{decLt}
+use mathlib.Core.Bool.{Bool, true, false, cond}
+use mathlib.Core.List.{List, [], _∷_}
+use Prim.Native.Nat.{ℕ, zero, suc, _+_, _*_, _/_, _%_, _^_, _<_, _≤_}
+use native.Mathlib.Nat.{mul-one, mul-comm, div-one, div-div-eq-div-mul, suc-mul, add-comm, mul-le-mul, zero-mul, one-mul, pow-suc}
 use native.Mathlib.Omega.{arith}
-use borrow.Author.Tests.{ltb-true}
-use lib.Count.{ones, onesIn, ones-cat}
-use lib.Dec.{ltb}
-use lib.ListN.{length, length-append, length-map}
-use lib.Pow.{pow-pos, pow-add, high}
-use Rattle.texts.specs.Texts.{blank}
-use Rattle.texts.proofs.Bools.{both}
-use Rattle.sheets.specs.Sheet.{cell, slots, cellOf, textOf}
-use Rattle.orders.specs.Fillings.{listOf, toFill, choices, each, product, joined, mostFillings, fillings}
+use lib.Count.{ones, onesIn, ones-step}
+use lib.ListN.{length, getD, length-append, length-map}
+use Rattle.sheets.specs.Lists.{statusCount, basisCount, zeroCount}
+use Rattle.sheets.specs.Sheet.{slots}
+use Rattle.orders.specs.Fillings.{toFill, each, product, mostFillings, fillings}
+use Rattle.orders.specs.Working.Search.{width, places}
 use Rattle.orders.specs.Complete.{setOf}
 use Rattle.orders.specs.Whole.{tally, FilledSet}
+use Rattle.orders.proofs.EveryFilling.{length-places, at-slots}
+use Rattle.orders.proofs.Linking.{fillings-picked}
 
 -- ---- how many fillings
 
 length-each : {A : Type 0} (c : List A) (rest : List (List A)) → length (each c rest) ≡ length c * length rest
 length-each [] rest = sym (zero-mul (length rest))
-length-each {A} (x ∷ c) rest =
-    length-append (map (λ (r : List A). x ∷ r) rest) (each c rest)
-    ∙ rw (length-map rest (λ (r : List A). x ∷ r), length-each c rest, suc-mul) (add-comm (length rest) (length c * length rest))
+length-each (x ∷ c) rest = simp (length-append, length-map, length-each c rest, suc-mul) (add-comm _ _)
 
--- the lengths of some lists, multiplied
-abbrev lengths : {A : Type 0} → List (List A) → ℕ
-lengths [] = 1
-lengths (c ∷ cs) = length c * lengths cs
+-- the product of the places of four lists
+pub length-picks : (a b c d : ℕ) → length (product (places a 0 ∷ places b 0 ∷ places c 0 ∷ places d 0 ∷ [])) ≡ a * (b * (c * d))
+length-picks a b c d = simp (length-each, length-places, mul-one)
 
-pub length-product : {A : Type 0} (cs : List (List A)) → length (product cs) ≡ lengths cs
-length-product [] = refl
-length-product (c ∷ cs) = length-each c (product cs) ∙ ap (λ (n : ℕ). length c * n) (length-product cs)
-
--- as many choices as the field's list has entries at most, and one where it has none
-abbrev most : ℕ → ℕ
-most k = cond (ltb 0 (length (listOf k))) (length (listOf k)) 1
+width-most : (b : Bool) (n : ℕ) → width b (suc n) ≤ suc n
+width-most true n = omega arith
+width-most false n = omega arith
 
 module _ (s : List ℕ) where
-  choices-most : (k : ℕ) → length (choices s k) ≤ most k
-  unfolding choices toFill
-  choices-most k = go (ltb 0 (length (listOf k))) (blank (textOf s k)) refl
-    where
-      go : (l b : Bool) → ltb 0 (length (listOf k)) ≡ l → length (cond (l && b) (map cell (listOf k)) (cellOf s k ∷ [])) ≤ cond l (length (listOf k)) 1
-      go true true e = rw (length-map (listOf k) cell) (omega arith)
-      go true false e = let h = ltb-true 0 (length (listOf k)) e in omega arith
-      go false b e = omega arith
-
-  abbrev mosts : List ℕ → ℕ
-  mosts [] = 1
-  mosts (k ∷ ks) = most k * mosts ks
-
-  lengths-most : (ks : List ℕ) → lengths (map (choices s) ks) ≤ mosts ks
-  lengths-most [] = omega arith
-  lengths-most (k ∷ ks) = mul-le-mul (choices-most k) (lengths-most ks)
-
-  lengths-one : ((k : ℕ) → toFill s k ≡ false) → (ks : List ℕ) → lengths (map (choices s) ks) ≡ 1
-  unfolding choices
-  lengths-one h [] = refl
-  lengths-one h (k ∷ ks) = rw (h k, lengths-one h ks)
-
-  length-fillings : length (fillings s) ≡ lengths (map (choices s) slots)
-  unfolding fillings
-  length-fillings = length-map (product (map (choices s) slots)) joined ∙ length-product (map (choices s) slots)
+  length-fillings : length (fillings s) ≡ width (toFill s 6) statusCount * (width (toFill s 11) basisCount * (width (toFill s 13) zeroCount * width (toFill s 14) zeroCount))
+  length-fillings = rw (fillings-picked s _ _ _ _ refl refl refl refl, length-map) (length-picks _ _ _ _)
 
   pub fillings-most : length (fillings s) ≤ mostFillings
-  unfolding listOf
-  fillings-most = rw length-fillings (lengths-most slots)
+  fillings-most =
+      rw length-fillings (mul-le-mul (width-most (toFill s 6) 21) (mul-le-mul (width-most (toFill s 11) 11) (mul-le-mul (width-most (toFill s 13) 1) (width-most (toFill s 14) 1))))
 
   pub fillings-one : ((k : ℕ) → toFill s k ≡ false) → length (fillings s) ≡ 1
-  fillings-one h = length-fillings ∙ lengths-one h slots
+  fillings-one h = rw (length-fillings, h 6, h 11, h 13, h 14)
 
 -- ---- the set
 
--- the bits of the first n slots
+abbrev bit : Bool → ℕ
+bit b = cond b 1 0
+
+-- a bit in front of a number, taken apart
+bit-front : (b : Bool) (m : ℕ) → ((m * 2 + bit b) % 2 ≡ bit b) × ((m * 2 + bit b) / 2 ≡ m)
+bit-front true m = (omega arith, omega arith)
+bit-front false m = (omega arith, omega arith)
+
+-- the number whose bits are what some slots pass, the first slot's the lowest
 module _ (p : ℕ → Bool) where
-  abbrev bit : ℕ → ℕ
-  bit k = cond (p k) 1 0
+  sums : List ℕ → ℕ
+  sums [] = 0
+  sums (k ∷ ks) = sums ks * 2 + bit (p k)
 
-  sums : ℕ → ℕ
-  sums zero = 0
-  sums (suc n) = bit n * 2 ^ n + sums n
-
-  counts : ℕ → ℕ
-  counts zero = 0
-  counts (suc n) = bit n + counts n
-
-  bit-power : (k m : ℕ) → cond (p k) m 0 ≡ bit k * m
-  bit-power k m = go (p k)
-    where
-      go : (b : Bool) → cond b m 0 ≡ cond b 1 0 * m
-      go true = sym (one-mul m)
-      go false = sym (zero-mul m)
-
-  bit-two : (k : ℕ) → (bit k % 2 ≡ bit k) × (ones (bit k) ≡ bit k) × (bit k ≤ 1)
-  unfolding ones onesIn
-  bit-two k = go (p k)
-    where
-      go : (b : Bool) → (cond b 1 0 % 2 ≡ cond b 1 0) × (ones (cond b 1 0) ≡ cond b 1 0) × (cond b 1 0 ≤ 1)
-      go true = (refl, refl, omega arith)
-      go false = (refl, refl, omega arith)
-
-  sums-below : (n : ℕ) → sums n < 2 ^ n
+  sums-below : (ks : List ℕ) → sums ks < 2 ^ length ks
   unfolding sums
-  sums-below zero = omega arith
-  sums-below (suc n) = rw pow-suc (go (p n) (sums-below n))
-    where
-      go : (b : Bool) → sums n < 2 ^ n → cond b 1 0 * 2 ^ n + sums n < 2 ^ n * 2
-      go true h = rw one-mul (omega arith)
-      go false h = rw zero-mul (omega arith)
+  sums-below [] = omega arith
+  sums-below (k ∷ ks) = rw pow-suc (omega (arith, sums-below ks, bit-front (p k) (sums ks) .0))
 
-  sums-ones : (n : ℕ) → ones (sums n) ≡ counts n
-  unfolding sums counts ones onesIn
-  sums-ones zero = refl
-  sums-ones (suc n) = ones-cat n (bit n) (sums n) (sums-below n) ∙ rw (bit-two n .1, sums-ones n)
+  sums-ones : (ks : List ℕ) → ones (sums ks) ≡ tally p ks
+  unfolding sums ones onesIn
+  sums-ones [] = refl
+  sums-ones (k ∷ ks) = ones-step (sums ks * 2 + bit (p k)) ∙ rw (bit-front (p k) (sums ks) .0, bit-front (p k) (sums ks) .1, sums-ones ks)
 
-  -- a higher slot leaves the bits below it
-  lower-bit : (n i x y : ℕ) → i < n → (x * 2 ^ n + y) / 2 ^ i % 2 ≡ y / 2 ^ i % 2
-  lower-bit n i x y h =
-      let k = n - suc i in
-      let e : n ≡ suc k + i = omega arith in
-      let z : 2 ^ n ≡ 2 ^ k * 2 * 2 ^ i = ap (λ (j : ℕ). 2 ^ j) e ∙ pow-add 2 (suc k) i ∙ ap (λ (j : ℕ). j * 2 ^ i) (pow-suc 2 k) in
-      let w : x * 2 ^ n ≡ x * 2 ^ k * 2 * 2 ^ i = ap (λ (j : ℕ). x * j) z ∙ sym (mul-assoc x (2 ^ k * 2) (2 ^ i)) ∙ ap (λ (j : ℕ). j * 2 ^ i) (sym (mul-assoc x (2 ^ k) 2)) in
-      rw (w, mul-add-div-right (pow-pos i) (x * 2 ^ k * 2) y) (mul-add-mod-self-right (x * 2 ^ k) 2 (y / 2 ^ i))
-
-  sums-bit : (n i : ℕ) → i < n → sums n / 2 ^ i % 2 ≡ bit i
+  sums-bit : (ks : List ℕ) (i : ℕ) → i < length ks → sums ks / 2 ^ i % 2 ≡ bit (p (getD ks i 0))
   unfolding sums
-  sums-bit zero i h = absurd (omega arith)
-  sums-bit (suc n) i h = go (sums-bit n i)
-    where
-      go : (i < n → sums n / 2 ^ i % 2 ≡ bit i) → (bit n * 2 ^ n + sums n) / 2 ^ i % 2 ≡ bit i
-      go r = elim (decLt i n) [
-        | yes l ↦ lower-bit n i (bit n) (sums n) l ∙ r l
-        | no q ↦ let e : i ≡ n = omega arith in rw (e, high (bit n) n (sums-below n)) (bit-two n .0)
-      ]
+  sums-bit [] i h = absurd (omega arith)
+  sums-bit (k ∷ ks) zero h = rw div-one (bit-front (p k) (sums ks) .0)
+  sums-bit (k ∷ ks) (suc i) h = rw (pow-suc, mul-comm (2 ^ i) 2, ← div-div-eq-div-mul, bit-front (p k) (sums ks) .1) (sums-bit ks i (omega arith))
 
 module _ (s : List ℕ) where
-  set-sums : setOf s ≡ sums (toFill s) 15
+  set-sums : setOf s ≡ sums (toFill s) slots
   unfolding setOf sums
   set-sums =
-      let b = bit-power (toFill s) in
+      let b : (k m : ℕ) → cond (toFill s k) m 0 ≡ bit (toFill s k) * m = λ k m. weighed (toFill s k) m in
       omega (arith, b 0 1, b 1 2, b 2 4, b 3 8, b 4 16, b 5 32, b 6 64, b 7 128, b 8 256, b 9 512, b 10 1024, b 11 2048, b 12 4096, b 13 8192, b 14 16384)
-
-  set-counts : counts (toFill s) 15 ≡ tally (toFill s) slots
-  unfolding counts
-  set-counts = omega arith
+    where
+      weighed : (x : Bool) (m : ℕ) → cond x m 0 ≡ bit x * m
+      weighed true m = sym (one-mul m)
+      weighed false m = sym (zero-mul m)
 
   pub filled-set : FilledSet s (setOf s) (ones (setOf s))
   filled-set = record {
-    bit = λ i h. rw set-sums (sums-bit (toFill s) 15 i h);
-    below = rw set-sums (sums-below (toFill s) 15);
-    ones = ap ones set-sums ∙ sums-ones (toFill s) 15 ∙ set-counts;
+    bit = λ i h. rw set-sums (sums-bit (toFill s) slots i h ∙ ap (λ (k : ℕ). bit (toFill s k)) (at-slots (λ (k : ℕ). k) 0 i h));
+    below = rw set-sums (sums-below (toFill s) slots);
+    ones = ap ones set-sums ∙ sums-ones (toFill s) slots;
   }

@@ -6,11 +6,9 @@ use Prim.Native.Nat.{ℕ}
 use lib.ListN.{length}
 use Prim.Native.String.{String}
 use Rattle.texts.specs.Quoted.{words}
-use Rattle.texts.specs.Texts.{every, any, are, among, same, between, value, valueOf, number, weighted, _isOneOf_, _beginsOneOf_}
-use Rattle.texts.specs.Buffers.{put, putAt}
-use Rattle.sheets.specs.Sheet.{cell, slotOf, cellText, cellOf, textOf, _⟨_⟩, given}
-use Rattle.sheets.specs.Forms.{checkDigit, person, document, snilsCheck, snils, pension, leap, monthDays, gregorian, date}
-use Rattle.rules.specs.Rules.{firstBlank, rules, order, ahead, testOf, fieldOf, keeps, keepsAll, firstNot}
+use Rattle.texts.specs.Texts.{every}
+use Rattle.sheets.specs.Sheet.{cell}
+use Rattle.rules.specs.Rules.{firstBlank, rules, order, ahead, testOf, fieldOf, keeps, firstNot}
 use Rattle.rules.specs.R4.{rulesBefore}
 use Rattle.sheets.specs.Working.Entries.{filledAt}
 use Rattle.orders.specs.Fillings.{joined, mostFillings, listOf, toFill, choices, fillings, Look, found, none, look, firstFilling}
@@ -22,6 +20,7 @@ use Rattle.texts.specs.Answers.{refusal, answerBy}
 use Rattle.orders.proofs.Keeping.{mapLook, first-is}
 use Rattle.orders.proofs.Passing.{broken-fixed, none-look}
 use Rattle.orders.proofs.Ahead.{firstOf, first-broken, named-field}
+use Rattle.rules.specs.Working.Computing.{rulesComputing}
 
 -- a sheet by its texts in slot order, parted by spaces
 unfoldable pub sheet : String → List ℕ
@@ -41,7 +40,7 @@ hopeless = sheet "004525987 40102810845370000004 03212643000000014800  0 6730054
 
 -- what the search finds; to unfold it is to unfold all that it is computed by
 unfoldable picked : List ℕ → Look (List ℕ)
-unfolding blanked foreign hopeless sheet cell put putAt every any are among same between value valueOf number _isOneOf_ _beginsOneOf_ slotOf cellText cellOf textOf _⟨_⟩ person document snilsCheck snils pension checkDigit weighted leap monthDays gregorian date given rules testOf keeps keepsAll look filledAt passesAt places picks firstPick baseOf pickedOf
+unfolding blanked foreign hopeless sheet look filledAt passesAt places picks firstPick baseOf pickedOf rulesComputing
 picked s = mapLook (pickedOf (baseOf s)) (firstPick (baseOf s))
 
 -- "count 1": S itself

@@ -7,15 +7,11 @@ use Prim.Native.Nat.{ℕ}
 use lib.Count.{ones}
 use lib.ListN.{replicate}
 use Rattle.texts.specs.Quoted.{bytes}
-use Rattle.texts.specs.Texts.{every, any, are, among, same, between, value, valueOf, number, weighted, _isOneOf_, _beginsOneOf_}
 use Rattle.texts.specs.Answers.{success}
-use Rattle.texts.specs.Buffers.{put}
-use Rattle.sheets.specs.Sheet.{slots, slotOf, cell, cellText, cellOk, cellOf, textOf, slotOk, _⟨_⟩, given}
-use Rattle.sheets.specs.Forms.{checkDigit, person, document, snilsCheck, snils, pension, leap, monthDays, gregorian, date}
-use Rattle.rules.specs.Rules.{classOf, firstBlank, rules, testOf, fieldOf, keeps, firstNot}
-use Rattle.rules.specs.Verdicts.{checkTests, checked}
-use Rattle.drafts.specs.Message.{messageText, readTests, headBytes, messageOf}
-use Rattle.drafts.specs.Draft.{slotIn, slotCell, slotText, slotBytes, slotWith, slotFormed, slotsFormed, draftFormed, freshDraft, slotComparison, comparisonOf, postTests, stored, postedTo, cells, draftSheet}
+use Rattle.sheets.specs.Sheet.{slots, cell}
+use Rattle.rules.specs.Verdicts.{checked}
+use Rattle.drafts.specs.Message.{messageOf}
+use Rattle.drafts.specs.Draft.{draftFormed, draftSheet}
 use Rattle.drafts.specs.History.{postedAll}
 use Rattle.orders.specs.Fillings.{listOf, toFill, firstFilling}
 use Rattle.orders.specs.Complete.{setOf, budgetPayment, completing, completed}
@@ -23,6 +19,8 @@ use Rattle.orders.specs.Whole.{tally}
 use Rattle.orders.proofs.Counts.{sheet, foreign, later}
 use Rattle.orders.proofs.Counting.{filled-set}
 use Rattle.orders.proofs.Whole.{lookAnswer, lookSheet, answer-is, sheet-is}
+use Rattle.rules.specs.Working.Computing.{rulesComputing}
+use Rattle.drafts.specs.Working.Computing.{draftsComputing}
 
 order : List (List ℕ)
 order =
@@ -116,7 +114,7 @@ computed :
     × (setOf foreign ≡ 31816)
     × (tally (toFill foreign) slots ≡ 7)
     × (checked filling ≡ success (bytes "A"))
-unfolding order zeros draft blanks filling foreign sheet postedAll messageOf headBytes messageText readTests every any are among same between value valueOf number _isOneOf_ _beginsOneOf_ put slotOf cell cellText cellOk cellOf textOf slotOk _⟨_⟩ given person document snilsCheck snils pension checkDigit weighted leap monthDays gregorian date slotIn slotCell slotText slotBytes slotWith slotFormed slotsFormed draftFormed freshDraft slotComparison comparisonOf postTests stored postedTo cells draftSheet classOf firstBlank rules testOf fieldOf keeps firstNot checkTests checked listOf toFill setOf budgetPayment
+unfolding order zeros draft blanks filling foreign sheet postedAll listOf toFill setOf budgetPayment rulesComputing draftsComputing
 computed = (refl, refl, refl, refl, refl, refl, refl, refl)
 
 -- the draft that the messages leave is a budget payment, and completing it fills 22, 101 and 105 to 109

@@ -17,25 +17,14 @@ version2 = 0 ∷ 6 ∷ 2 ∷ 14 ∷ 0 ∷ 0 ∷ 0 ∷ 1 ∷ []
 short : List ℕ
 short = 0 ∷ 2 ∷ 1 ∷ 14 ∷ []
 
--- no message, one, and three: a 3 does not end the stream
-none : messagesOf [] ≡ []
-unfolding messagesOf pieces
-none = refl
-
-one : messagesOf bik ≡ bik ∷ []
-unfolding bik messagesOf pieces pieceOf endsStream readingOf readTests slotOf
-one = refl
-
-three : messagesOf (bik ++ version2 ++ bik) ≡ bik ∷ version2 ∷ bik ∷ []
-unfolding bik version2 messagesOf pieces pieceOf endsStream readingOf readTests slotOf
-three = refl
-
--- "or what is left if that is less"
-cut : messagesOf (bik ++ (0 ∷ 10 ∷ 1 ∷ 14 ∷ [])) ≡ bik ∷ (0 ∷ 10 ∷ 1 ∷ 14 ∷ []) ∷ []
-unfolding bik messagesOf pieces pieceOf endsStream readingOf readTests slotOf
-cut = refl
-
--- "After a 2 it stops reading"
-stopped : messagesOf (bik ++ short ++ bik) ≡ bik ∷ short ∷ []
-unfolding bik short messagesOf pieces pieceOf endsStream readingOf readTests slotOf
-stopped = refl
+messages :
+    -- no message, one, and three: a 3 does not end the stream
+    (messagesOf [] ≡ [])
+    × (messagesOf bik ≡ bik ∷ [])
+    × (messagesOf (bik ++ version2 ++ bik) ≡ bik ∷ version2 ∷ bik ∷ [])
+    -- "or what is left if that is less"
+    × (messagesOf (bik ++ (0 ∷ 10 ∷ 1 ∷ 14 ∷ [])) ≡ bik ∷ (0 ∷ 10 ∷ 1 ∷ 14 ∷ []) ∷ [])
+    -- "After a 2 it stops reading"
+    × (messagesOf (bik ++ short ++ bik) ≡ bik ∷ short ∷ [])
+unfolding bik version2 short messagesOf pieces pieceOf endsStream readingOf readTests slotOf
+messages = (refl, refl, refl, refl, refl)

@@ -1,15 +1,14 @@
 pub mod Levels
 pub mod BlankSlots
 pub mod Cells
+pub mod EveryFilling
 pub mod Linking
 pub mod Keeping
+pub mod Counting
 pub mod Passing
 pub mod Ahead
-pub mod Hopeless
-pub mod EveryFilling
 pub mod Looking
 pub mod Order
-pub mod Counting
 pub mod Whole
 pub mod Completing
 pub mod Pretesting

@@ -1,20 +1,20 @@
 -- The list of fillings is in order, so that the place in the list is the place in the order. Assumes nothing.
 use mathlib.Core.Path.{_≡_, refl, sym, ap, _∙_, subst, subst₂}
-use mathlib.Core.Logic.{_⊎_, inl, inr, ⊎-elim}
-use mathlib.Core.Bool.{Bool, true, false, cond, not, _&&_, _||_, false≢true}
+use mathlib.Core.Logic.{⊎-elim}
+use mathlib.Core.Bool.{Bool, true, false, cond, _&&_}
 use mathlib.Core.List.{List, [], _∷_, _++_, map, List·Memᴰ, List·Memᴰ·head, List·Memᴰ·tail, List·Memᴰ·not-nil, List·Memᴰ·cases-cons, List·Memᴰ·append-cases, Memᴰ·append-left, Memᴰ·append-right, Memᴰ·of-map}
 use Prim.Native.Nat.{ℕ, zero, suc, _<_}
 use native.Mathlib.Decide.{decLt}
 use native.Mathlib.Omega.{arith}
-use borrow.Author.Tests.{not-true}
+use borrow.Author.Tests.{ltb-true}
+use lib.Dec.{ltb}
 use lib.ListN.{length, getD}
 use Rattle.texts.specs.Quoted.{Text}
-use Rattle.texts.specs.Texts.{every, any, same}
+use Rattle.texts.specs.Texts.{every, same}
 use Rattle.texts.proofs.Bools.{both}
-use Rattle.texts.proofs.Codes.{same-true, same-self}
 use Rattle.sheets.specs.Sheet.{cell, slots, cellOf}
 use Rattle.orders.specs.Fillings.{lists, listOf, toFill, choices, rank, each, product, joined, fillings, Filling, Earlier, Place}
-use Rattle.orders.proofs.EveryFilling.{Drawn, product-drawn, every-at, at-slots, drawn-cell, filling-of, of-filling}
+use Rattle.orders.proofs.EveryFilling.{Drawn, each-cases, product-drawn, every-at, every-mem, at-slots, drawn-cell, filling-of, of-filling}
 
 -- ---- lists in order
 
@@ -56,128 +56,71 @@ ordered-map {A} {B} R S f (a ∷ l) h o = (
   ordered-map R S f l (λ c b m s. h c b (List·Memᴰ·tail m) (List·Memᴰ·tail s)) (o .1),
 )
 
-ordered-same : {A : Type 0} (R S : A → A → Type 0) (l : List A)
-    → ((a b : A) → List·Memᴰ a l → List·Memᴰ b l → R a b → S a b) → Ordered R l → Ordered S l
-ordered-same R S [] h o = tt
-ordered-same R S (a ∷ l) h o = (
-  λ b m. h a b (List·Memᴰ·head refl) (List·Memᴰ·tail m) (o .0 b m),
-  ordered-same R S l (λ c b m s. h c b (List·Memᴰ·tail m) (List·Memᴰ·tail s)) (o .1),
-)
-
 -- ---- ranks
 
--- no entry stands in the list twice
-abbrev distinct : List (List ℕ) → Bool
-distinct [] = true
-distinct (y ∷ ys) = not (any (same y) ys) && distinct ys
+abbrev Before : List (List ℕ) → List ℕ → List ℕ → Type 0
+Before c x y = rank c x < rank c y
 
-any-mem : (x : List ℕ) {l : List (List ℕ)} {y : List ℕ} → same x y ≡ true → List·Memᴰ y l → any (same x) l ≡ true
-unfolding any
-any-mem x e (List·Memᴰ·head {x = z} {xs = l} q) =
-    let h : same x z ≡ true = ap (same x) (sym q) ∙ e in
-    rw h
-any-mem x e (List·Memᴰ·tail {x = z} {xs = l} m) = go (same x z) (any-mem x e m)
-  where
-    go : (b : Bool) → any (same x) l ≡ true → (b || any (same x) l) ≡ true
-    go true h = refl
-    go false h = h
+-- each of xs stands in c before those that follow
+abbrev rising : List (List ℕ) → List (List ℕ) → Bool
+rising c [] = true
+rising c (x ∷ xs) = every (λ (y : List ℕ). ltb (rank c x) (rank c y)) xs && rising c xs
 
-rank-head : (x : List ℕ) (xs : List (List ℕ)) → rank (x ∷ xs) x ≡ 0
-rank-head x xs = rw (same-self x)
+rising-ordered : (c xs : List (List ℕ)) → rising c xs ≡ true → Ordered (Before c) xs
+rising-ordered c [] h = tt
+rising-ordered c (x ∷ xs) h =
+    let p = both (every (λ (y : List ℕ). ltb (rank c x) (rank c y)) xs) (rising c xs) h in
+    (λ b m. ltb-true _ _ (every-mem (λ (y : List ℕ). ltb (rank c x) (rank c y)) (p .0) m), rising-ordered c xs (p .1))
 
-rank-tail : (x : List ℕ) (xs : List (List ℕ)) → distinct (x ∷ xs) ≡ true → (y : List ℕ) → List·Memᴰ y xs → rank (x ∷ xs) y ≡ suc (rank xs y)
-rank-tail x xs d y m = go (same y x) refl
-  where
-    go : (b : Bool) → same y x ≡ b → cond b 0 (suc (rank xs y)) ≡ suc (rank xs y)
-    go true e =
-        let h : same x y ≡ true = subst (λ (z : List ℕ). same z y ≡ true) (same-true y x e) (same-self y) in
-        absurd (false≢true (sym (not-true _ (both (not (any (same x) xs)) (distinct xs) d .0)) ∙ any-mem x h m))
-    go false e = refl
-
--- the earlier entry in the first list where the two differ
-abbrev Lex : List (List (List ℕ)) → List (List ℕ) → List (List ℕ) → Type 0
-Lex [] r t = ⊥
-Lex (c ∷ cs) [] t = ⊥
-Lex (c ∷ cs) (x ∷ r) [] = ⊥
-Lex (c ∷ cs) (x ∷ r) (y ∷ t) = (rank c x < rank c y) ⊎ ((x ≡ y) × Lex cs r t)
-
--- one more entry in front of the first list
-lex-lift : (x : List ℕ) (xs : List (List ℕ)) (cs : List (List (List ℕ))) → distinct (x ∷ xs) ≡ true
-    → (r t : List (List ℕ)) → Drawn (xs ∷ cs) r → Drawn (xs ∷ cs) t → Lex (xs ∷ cs) r t → Lex ((x ∷ xs) ∷ cs) r t
-lex-lift x xs cs d [] t v w h = absurd v
-lex-lift x xs cs d (y ∷ r) [] v w h = absurd w
-lex-lift x xs cs d (y ∷ r) (z ∷ t) v w (inl l) = inl (omega (arith, rank-tail x xs d y (v .0), rank-tail x xs d z (w .0)))
-lex-lift x xs cs d (y ∷ r) (z ∷ t) v w (inr p) = inr p
-
-lex-head : (x : List ℕ) (xs : List (List ℕ)) (cs : List (List (List ℕ))) → distinct (x ∷ xs) ≡ true
-    → (r t : List (List ℕ)) → Drawn (xs ∷ cs) t → Lex ((x ∷ xs) ∷ cs) (x ∷ r) t
-lex-head x xs cs d r [] w = absurd w
-lex-head x xs cs d r (z ∷ t) w = inl (omega (arith, rank-head x xs, rank-tail x xs d z (w .0)))
-
-each-ordered : (c : List (List ℕ)) (cs : List (List (List ℕ))) → distinct c ≡ true → Ordered (Lex cs) (product cs) → Ordered (Lex (c ∷ cs)) (each c (product cs))
-each-ordered [] cs d o = tt
-each-ordered (x ∷ xs) cs d o =
-    let drawn : (r : List (List ℕ)) → List·Memᴰ r (each xs (product cs)) → Drawn (xs ∷ cs) r = product-drawn (xs ∷ cs) in
-    ordered-append (Lex ((x ∷ xs) ∷ cs)) (map (λ (t : List (List ℕ)). x ∷ t) (product cs)) (each xs (product cs))
-    (ordered-map (Lex cs) (Lex ((x ∷ xs) ∷ cs)) (λ (t : List (List ℕ)). x ∷ t) (product cs) (λ a b m s h. inr (refl, h)) o)
-    (ordered-same (Lex (xs ∷ cs)) (Lex ((x ∷ xs) ∷ cs)) (each xs (product cs))
-    (λ a b m s h. lex-lift x xs cs d a b (drawn a m) (drawn b s) h)
-    (each-ordered xs cs (both (not (any (same x) xs)) (distinct xs) d .1) o))
-    (λ a b m s.
-    let v = Memᴰ·of-map (λ (t : List (List ℕ)). x ∷ t) (product cs) m in
-    subst (λ (l : List (List ℕ)). Lex ((x ∷ xs) ∷ cs) l b) (v .2) (lex-head x xs cs d (v .0) b (drawn b s)))
-
-product-ordered : (cs : List (List (List ℕ))) → every distinct cs ≡ true → Ordered (Lex cs) (product cs)
-unfolding every
-product-ordered [] h = (λ b m. absurd (List·Memᴰ·not-nil m), tt)
-product-ordered (c ∷ cs) h =
-    let p = both (distinct c) (every distinct cs) h in
-    each-ordered c cs (p .0) (product-ordered cs (p .1))
-
--- two picks differ first at some list
+-- two picks differ first at some list, where the first has the earlier entry
 record Differs (cs : List (List (List ℕ))) (r t : List (List ℕ)) : Type 0 where
   at : ℕ
   inside : at < length cs
   same : (j : ℕ) → j < at → getD r j [] ≡ getD t j []
-  less : rank (getD cs at []) (getD r at []) < rank (getD cs at []) (getD t at [])
+  less : Before (getD cs at []) (getD r at []) (getD t at [])
 
-lex-differs : (cs : List (List (List ℕ))) (r t : List (List ℕ)) → Lex cs r t → Differs cs r t
-lex-differs [] r t h = absurd h
-lex-differs (c ∷ cs) [] t h = absurd h
-lex-differs (c ∷ cs) (x ∷ r) [] h = absurd h
-lex-differs (c ∷ cs) (x ∷ r) (y ∷ t) (inl l) = record { at = 0; inside = omega arith; same = λ j h. absurd (omega arith); less = l }
-lex-differs (c ∷ cs) (x ∷ r) (y ∷ t) (inr p) = go (lex-differs cs r t (p .1))
+module _ (c : List (List ℕ)) (cs : List (List (List ℕ))) where
+  differs-first : (x y : List ℕ) (r t : List (List ℕ)) → Before c x y → Differs (c ∷ cs) (x ∷ r) (y ∷ t)
+  differs-first x y r t l = record { at = 0; inside = omega arith; same = λ j h. absurd (omega arith); less = l }
+
+  differs-later : (x : List ℕ) (r t : List (List ℕ)) → Differs cs r t → Differs (c ∷ cs) (x ∷ r) (x ∷ t)
+  differs-later x r t w = record { at = suc (w .at); inside = omega (arith, w .inside); same = below; less = w .less }
+    where
+      below : (j : ℕ) → j < suc (w .at) → getD (x ∷ r) j [] ≡ getD (x ∷ t) j []
+      below zero h = refl
+      below (suc j) h = w .same j (omega arith)
+
+  each-ordered : (xs : List (List ℕ)) (ps : List (List (List ℕ))) → Ordered (Before c) xs → Ordered (Differs cs) ps → Ordered (Differs (c ∷ cs)) (each xs ps)
+  each-ordered [] ps u o = tt
+  each-ordered (x ∷ xs) ps u o =
+      let front : List (List ℕ) → List (List ℕ) = λ t. x ∷ t in
+      ordered-append (Differs (c ∷ cs)) (map front ps) (each xs ps)
+      (ordered-map (Differs cs) (Differs (c ∷ cs)) front ps (λ a b m s h. differs-later x a b h) o)
+      (each-ordered xs ps (u .1) o)
+      (λ a b m s.
+      let v = Memᴰ·of-map front ps m in
+      let w = each-cases xs ps b s in
+      subst₂ (Differs (c ∷ cs)) (v .2) (w .4) (differs-first x (w .0) (v .0) (w .1) (u .0 (w .0) (w .2))))
+
+-- each entry of a list stands in it before those that follow, so that none stands in it twice
+abbrev ranked : List (List ℕ) → Bool
+ranked c = rising c c
+
+choice-ranked : (s : List ℕ) (k : ℕ) → ranked (choices s k) ≡ true
+unfolding choices every listOf same cell
+choice-ranked s k = go (toFill s k)
   where
-    go : Differs cs r t → Differs (c ∷ cs) (x ∷ r) (y ∷ t)
-    go w = record { at = suc (w .at); inside = omega (arith, w .inside); same = below; less = w .less }
-      where
-        below : (j : ℕ) → j < suc (w .at) → getD (x ∷ r) j [] ≡ getD (y ∷ t) j []
-        below zero h = p .0
-        below (suc j) h = w .same j (omega arith)
+    go : (b : Bool) → ranked (cond b (map cell (listOf k)) (cellOf s k ∷ [])) ≡ true
+    go true = every-at (λ (l : List Text). ranked (map cell l)) [] refl lists refl k
+    go false = refl
 
 -- ---- fillings
 
--- no list of a field has an entry twice
-lists-distinct : every (λ (l : List Text). distinct (map cell l)) lists ≡ true
-unfolding every any same cell
-lists-distinct = refl
-
-list-distinct : (k : ℕ) → distinct (map cell (listOf k)) ≡ true
-unfolding listOf
-list-distinct k = every-at (λ (l : List Text). distinct (map cell l)) [] refl lists lists-distinct k
-
-choice-distinct : (s : List ℕ) (k : ℕ) → distinct (choices s k) ≡ true
-unfolding choices any
-choice-distinct s k = go (toFill s k)
-  where
-    go : (b : Bool) → distinct (cond b (map cell (listOf k)) (cellOf s k ∷ [])) ≡ true
-    go true = list-distinct k
-    go false = refl
-
-choices-distinct : (s : List ℕ) (ks : List ℕ) → every distinct (map (choices s) ks) ≡ true
-unfolding every
-choices-distinct s [] = refl
-choices-distinct s (k ∷ ks) = rw (choice-distinct s k) (choices-distinct s ks)
+product-ordered : (s ks : List ℕ) → Ordered (Differs (map (choices s) ks)) (product (map (choices s) ks))
+product-ordered s [] = (λ b m. absurd (List·Memᴰ·not-nil m), tt)
+product-ordered s (k ∷ ks) =
+    let c = choices s k in
+    each-ordered c (map (choices s) ks) c (product (map (choices s) ks)) (rising-ordered c c (choice-ranked s k)) (product-ordered s ks)
 
 -- the order is strict
 earlier-strict : (s g f : List ℕ) → Earlier s g f → Earlier s f g → ⊥
@@ -194,9 +137,8 @@ earlier-strict s g f v w =
     ]
 
 module _ (s : List ℕ) (sized : length s ≡ 390) where
-  lex-earlier : (r t : List (List ℕ)) → Drawn (map (choices s) slots) r → Drawn (map (choices s) slots) t → Lex (map (choices s) slots) r t → Earlier s (joined r) (joined t)
-  lex-earlier r t dr dt h =
-      let w = lex-differs (map (choices s) slots) r t h in
+  differs-earlier : (r t : List (List ℕ)) → Drawn (map (choices s) slots) r → Drawn (map (choices s) slots) t → Differs (map (choices s) slots) r t → Earlier s (joined r) (joined t)
+  differs-earlier r t dr dt w =
       let i : w .at < 15 = w .inside in
       let cr : (k : ℕ) → k < 15 → cellOf (joined r) k ≡ getD r k [] = drawn-cell s sized r dr in
       let ct : (k : ℕ) → k < 15 → cellOf (joined t) k ≡ getD t k [] = drawn-cell s sized t dt in
@@ -211,9 +153,9 @@ module _ (s : List ℕ) (sized : length s ≡ 390) where
   unfolding fillings
   fillings-ordered =
       let cs = map (choices s) slots in
-      ordered-map (Lex cs) (Earlier s) joined (product cs)
-      (λ a b m k h. lex-earlier a b (product-drawn cs a m) (product-drawn cs b k) h)
-      (product-ordered cs (choices-distinct s slots))
+      ordered-map (Differs cs) (Earlier s) joined (product cs)
+      (λ a b m k h. differs-earlier a b (product-drawn cs a m) (product-drawn cs b k) h)
+      (product-ordered s slots)
 
   -- no entry of a part of the list in order stands in it twice
   once-ordered : (l : List (List ℕ)) → Ordered (Earlier s) l → (a b c : List (List ℕ)) (g : List ℕ) → l ≡ a ++ (g ∷ (b ++ (g ∷ c))) → ⊥

@@ -2,7 +2,7 @@
 use mathlib.Core.Path.{_≡_, refl, sym, ap, _∙_, subst}
 use mathlib.Core.Logic.{_↔_}
 use mathlib.Core.Bool.{Bool, true, false, not}
-use mathlib.Core.List.{List, [], _∷_, _++_, map}
+use mathlib.Core.List.{List, [], _∷_, List·Memᴰ, List·Memᴰ·head, Memᴰ·append-left, Memᴰ·append-right}
 use Prim.Native.Nat.{ℕ}
 use borrow.Author.Tests.{eqb-true, eq-eqb, ne-eqb, not-true, not-false}
 use lib.Count.{ones}
@@ -12,48 +12,26 @@ use Rattle.texts.specs.Texts.{every, any, are, among}
 use Rattle.texts.specs.Answers.{success, refusal, numberOf, Test, _refuses_, _refuses_with_, answerBy}
 use Rattle.texts.proofs.Bools.{both}
 use Rattle.texts.proofs.Refusals.{no-success, none-of, succeeded}
-use Rattle.rules.specs.Rules.{budget, rules, order, ahead, fieldOf, keeps, keepsAll, firstNot, firstBroken}
-use Rattle.rules.proofs.First.{numbered, none-kept, kept-none, split}
+use Rattle.rules.specs.Rules.{budget, rules, order, ahead, fieldOf, keeps, firstNot, firstBroken}
+use Rattle.rules.proofs.First.{none-kept, kept-none, split}
 use Rattle.rules.specs.declared.rules.Rule.{Rule as RuleNumber}
-use Rattle.sheets.specs.Sheet.{Sheet}
 use Rattle.sheets.specs.Working.Facts.{Read}
 use Rattle.sheets.specs.declared.facts.Facts.{Facts}
 use Rattle.sheets.specs.declared.sheet.Field.{Field}
-use Rattle.drafts.specs.Draft.{draftFormed, draftSheet, sheetInto}
-use Rattle.drafts.proofs.Slots.{formed-means}
-use Rattle.drafts.proofs.DraftSheets.{sheet-into}
+use Rattle.drafts.specs.Draft.{draftFormed, draftSheet}
 use Rattle.orders.specs.Fillings.{Filling, firstFilling}
 use Rattle.orders.specs.Complete.{setOf, basic, budgetPayment, nothing, counted, sheetTests, completeTests, completing}
 use Rattle.orders.specs.Whole.{countOf}
 use Rattle.orders.specs.Pretest.{brokenByAll, namedField, pretestAnswer, pretestTests, pretesting, Names, Pretests}
-use Rattle.orders.specs.Working.Entering.{baseOf, pickedOf}
+use Rattle.orders.specs.Working.Entering.{pickedOf}
 use Rattle.orders.specs.declared.pretest.Pretested.{Pretested}
 use Rattle.orders.specs.declared.pretest.Pretested.the-variants.{Named, Unnamed, Broken, Refused}
-use Rattle.orders.proofs.Ahead.{every-map, at-listed, firstOf, first-filling, first-budget, like-first, fields-first, first-broken, named-field}
-use Rattle.orders.proofs.Keeping.{base-budget, base-broken, base-length, picked-length}
+use Rattle.orders.proofs.Ahead.{every-alike, firstOf, first-filling, first-budget, like-first, fields-first, first-broken, named-field}
+use Rattle.orders.proofs.EveryFilling.{every-mem}
+use Rattle.orders.proofs.Keeping.{picked-length}
 use Rattle.orders.proofs.Passing.{unkept}
-use Rattle.orders.proofs.Completing.{basic-field}
+use Rattle.orders.proofs.Completing.{Begun, field-is, class-is, pays-by}
 use Rattle.orders.proofs.Whole.{basic-numbered, length-draftSheet, answer-is, lookAnswer, refused-by, all-by}
-
-ahead-numbered : every numbered ahead ≡ true
-unfolding every
-ahead-numbered = refl
-
-front-map : (p q : ℕ → Bool) (b c : List ℕ) → map p (b ++ c) ≡ map q (b ++ c) → map p b ≡ map q b
-front-map p q [] c e = refl
-front-map p q (n ∷ b) c e =
-    let x : p n ≡ q n = cc in
-    let y : map p (b ++ c) ≡ map q (b ++ c) = cc in
-    λ i. x i ∷ front-map p q b c y i
-
--- a filling that breaks a rule of the list does not keep all rules
-ahead-tested : map (λ (n : ℕ). among n order) ahead ≡ map (λ (n : ℕ). true) ahead
-unfolding any are among
-ahead-tested = refl
-
-broken-one : (g : Sheet) (n : ℕ) → among n order ≡ true → keeps g n ≡ false → keepsAll g ≡ false
-unfolding every
-broken-one g n m h = unkept g (n ∷ []) (keepsAll g) refl (rw m) (rw h)
 
 -- refusals come in the same order
 abbrev earlyTests : Bool → Bool → Bool → List ℕ → List Test
@@ -94,20 +72,17 @@ module _ (d : List ℕ) where
   ten = (nothing (firstFilling (draftSheet d)) refuses 10 with beside10) ∷ []
 
   module _ (b : List ℕ) (z : length b ≡ 390) (n : ℕ) (vs : List ℕ) where
-    sized-tests : completing d b ≡ answerBy (laterTests (draftFormed d) basicKept (budget (draftSheet d)) beside8 ten) besideFilled
-    unfolding completing completeTests sheetTests
-    sized-tests = rw (eq-eqb (length b) 390 z)
-
     refuses-as : pretesting d ≡ refusal n vs → completing d b ≡ refusal n vs
-    unfolding pretesting pretestTests
+    unfolding pretesting pretestTests completing completeTests sheetTests
     refuses-as e =
-        sized-tests ∙ same-refusal (draftFormed d) basicKept (budget (draftSheet d)) beside8 (namedField (draftSheet d) ∷ brokenByAll (draftSheet d) ∷ []) besideFilled ten n vs e
+        rw (eq-eqb (length b) 390 z)
+        (same-refusal (draftFormed d) basicKept (budget (draftSheet d)) beside8 (namedField (draftSheet d) ∷ brokenByAll (draftSheet d) ∷ []) besideFilled ten n vs e)
 
     refuses-back : (n ≡ 10 → ⊥) → completing d b ≡ refusal n vs → pretesting d ≡ refusal n vs
-    unfolding pretesting pretestTests
+    unfolding pretesting pretestTests completing completeTests sheetTests
     refuses-back o e =
         back-refusal (draftFormed d) basicKept (budget (draftSheet d)) (nothing (firstFilling (draftSheet d))) beside8
-        (namedField (draftSheet d) ∷ brokenByAll (draftSheet d) ∷ []) besideFilled beside10 n vs o (sym sized-tests ∙ e)
+        (namedField (draftSheet d) ∷ brokenByAll (draftSheet d) ∷ []) besideFilled beside10 n vs o (rw (eq-eqb (length b) 390 z) at e)
 
   module _ (f : draftFormed d ≡ true) (p : budgetPayment (draftSheet d) ≡ true) where
     size : length (draftSheet d) ≡ 390
@@ -126,20 +101,20 @@ module _ (d : List ℕ) where
         paid-is ∙ (λ i. success (f0 i ∷ z i ∷ []))
 
     says-none : (pretesting d ≡ success (0 ∷ 0 ∷ [])) ↔ ((g : List ℕ) → Filling (draftSheet d) g → every (keeps g) ahead ≡ true)
+    unfolding every
     says-none = (
       λ e g w.
-          let z : brokenByAll (draftSheet d) ≡ 0 = second (sym paid-is ∙ e) in
-          every-map (keeps g) (keeps (firstOf (draftSheet d) size)) ahead (like-first (draftSheet d) size g w)
-          ∙ none-kept (keeps (firstOf (draftSheet d) size)) ahead ahead-numbered (sym (first-broken (draftSheet d) size) ∙ z),
+          let q : success (namedField (draftSheet d) ∷ brokenByAll (draftSheet d) ∷ []) ≡ success (0 ∷ 0 ∷ []) = sym paid-is ∙ e in
+          let z : brokenByAll (draftSheet d) ≡ 0 = cc in
+          every-alike (keeps g) (keeps (firstOf (draftSheet d) size)) ahead (like-first (draftSheet d) size g w)
+          ∙ none-kept (keeps (firstOf (draftSheet d) size)) ahead refl (sym (first-broken (draftSheet d) size) ∙ z),
       λ h.
           let z : brokenByAll (draftSheet d) ≡ 0 = first-broken (draftSheet d) size ∙ kept-none (keeps (firstOf (draftSheet d) size)) ahead (h (firstOf (draftSheet d) size) (first-filling (draftSheet d) size)) in
           none-answer z,
     )
-      where
-        second : {a b : ℕ} → success (a ∷ b ∷ []) ≡ success (0 ∷ 0 ∷ []) → b ≡ 0
-        second e = cc
 
     names : (g n : ℕ) → (n ≡ 0 → ⊥) → pretesting d ≡ success (g ∷ n ∷ []) → Names d (draftSheet d) g n
+    unfolding every any are among
     names g n y e =
         let s = draftSheet d in
         let o = firstOf s size in
@@ -149,29 +124,26 @@ module _ (d : List ℕ) where
         let fb : firstNot (keeps o) ahead ≡ n = sym (first-broken s size) ∙ b in
         let (bs, m, cs, el, kb, bm, im) = split (keeps o) ahead (λ k. y (sym fb ∙ kept-none (keeps o) ahead k)) in
         let mn : m ≡ n = sym im ∙ fb in
-        let el' : ahead ≡ bs ++ (n ∷ cs) = subst (λ (k : ℕ). ahead ≡ bs ++ (k ∷ cs)) mn el in
-        let bn : keeps o n ≡ false = ap (keeps o) (sym mn) ∙ bm in
-        let fo : fieldOf rules n o ≡ g = ap (λ (k : ℕ). fieldOf rules k o) (sym b) ∙ sym (named-field s size) ∙ a in
-        let br : (h : List ℕ) → Filling s h → (keeps h n ≡ false) × (fieldOf rules n h ≡ g) =
+        let within : List·Memᴰ m ahead = subst (List·Memᴰ m) (sym el) (Memᴰ·append-right bs (List·Memᴰ·head refl)) in
+        let br : (h : List ℕ) → Filling s h → (keeps h m ≡ false) × (fieldOf rules m h ≡ g) =
         λ h w. (
-          at-listed (keeps h) (keeps o) n bs cs ahead el' (like-first s size h w) ∙ bn,
-          at-listed (λ (k : ℕ). fieldOf rules k h) (λ (k : ℕ). fieldOf rules k o) n bs cs ahead el' (fields-first s size h w) ∙ fo,
+          like-first s size h w m within ∙ bm,
+          fields-first s size h w m within ∙ ap (λ (k : ℕ). fieldOf rules k o) (mn ∙ sym b) ∙ sym (named-field s size) ∙ a,
         )
         in
-        record {
+        subst (Names d s g) mn
+        (record {
           before = bs;
           after = cs;
-          listed = el';
+          listed = el;
           broken = br;
-          earlier = λ h w.
-              every-map (keeps h) (keeps o) bs (front-map (keeps h) (keeps o) bs (n ∷ cs) (subst (λ (l : List ℕ). map (keeps h) l ≡ map (keeps o) l) el' (like-first s size h w)))
-              ∙ kb;
+          earlier = λ h w. every-alike (keeps h) (keeps o) bs (λ k l. like-first s size h w k (subst (List·Memᴰ k) (sym el) (Memᴰ·append-left (m ∷ cs) l))) ∙ kb;
           hopeless = λ b' z.
-              let t : among n order ≡ true = at-listed (λ (k : ℕ). among k order) (λ (k : ℕ). true) n bs cs ahead el' ahead-tested in
-              let ten = refused-by s b' size (firstFilling s) refl .1 (λ h w. broken-one h n t (br h w .0)) in
+              let t : among m order ≡ true = every-mem (λ (k : ℕ). among k order) {l = ahead} refl within in
+              let ten = refused-by s b' size (firstFilling s) refl .1 (λ h w. unkept h (m ∷ []) (rw t) (rw (br h w .0))) in
               let al = all-by s b' size (firstFilling s) refl ten in
               (countOf (lookAnswer s (firstFilling s)), answer-is d b' f z p ∙ al .0, al .1);
-        }
+        })
 
   -- an answer that is no refusal is of a budget payment
   passed : (vs : List ℕ) → pretesting d ≡ success vs → (draftFormed d ≡ true) × (budgetPayment (draftSheet d) ≡ true)
@@ -197,68 +169,49 @@ module _ (d : List ℕ) where
 
 -- ---- the ways through `pretest`
 
-module _ (d : List ℕ) (w : Bool) (hw : w ≡ draftFormed d) where
-  pub ahead-1 : not w ≡ true → Pretests d (Refused (record { 0 = 1 }))
+pub ahead-1 : (d : List ℕ) (w : Bool) → w ≡ draftFormed d → not w ≡ true → Pretests d (Refused (record { 0 = 1 }))
+unfolding pretestAnswer pretesting pretestTests
+ahead-1 d w hw h = let f : draftFormed d ≡ false = sym hw ∙ not-true w h in pretests-by d (Refused (record { 0 = 1 })) (sym (simp f))
+
+module _ {d s u : List ℕ} {x : Facts} {g : RuleNumber} (B : Begun d s u x g) where
+  formed : draftFormed d ≡ true
+  formed = B .formed
+
+  first : firstBroken (draftSheet d) basic ≡ g .0
+  first = B .first
+
+  pub ahead-8 : (f : Field) → (g .0 ≡ 0 → ⊥) → f .0 ≡ fieldOf rules (g .0) u → Pretests d (Broken f g)
   unfolding pretestAnswer pretesting pretestTests
-  ahead-1 h = let f : draftFormed d ≡ false = sym hw ∙ not-true w h in pretests-by d (Refused (record { 0 = 1 })) (sym (simp f))
+  ahead-8 f y j =
+      pretests-by d (Broken f g) (sym (simp (formed, first, ne-eqb (g .0) 0 y) (ap (λ (n : ℕ). refusal 8 (n ∷ g .0 ∷ [])) (field-is B f j))))
 
-  module _ (h : not w ≡ false) (o s : List ℕ) (lo : length o ≡ 390) (hs : s ≡ sheetInto d o) (u : List ℕ) (x : Facts) (g : RuleNumber) (hu : u ≡ baseOf s) (hx : length u ≡ 390 → Read x u) (hg : (t : List ℕ) → Read x t → g .0 ≡ firstBroken t basic) where
-    formed : draftFormed d ≡ true
-    formed = sym hw ∙ not-false w h
-
-    sized : length (draftSheet d) ≡ 390
-    sized = length-draftSheet d formed
-
-    base : u ≡ baseOf (draftSheet d)
-    base = hu ∙ ap baseOf (hs ∙ sheet-into d o (formed-means d formed .sized) lo)
-
-    read : Read x (baseOf (draftSheet d))
-    read = subst (Read x) base (hx (ap length base ∙ base-length (draftSheet d) sized))
-
-    first : firstBroken (draftSheet d) basic ≡ g .0
-    first = sym (hg (baseOf (draftSheet d)) read ∙ base-broken (draftSheet d) sized)
-
-    pub ahead-8 : (f : Field) → (g .0 ≡ 0 → ⊥) → f .0 ≡ fieldOf rules (g .0) u → Pretests d (Broken f g)
+  module _ (y : g .0 ≡ 0) (r : Bool) (hr : (t : List ℕ) → Read x t → r ≡ budget t) where
+    pub ahead-9 : not r ≡ true → Pretests d (Refused (record { 0 = 9 }))
     unfolding pretestAnswer pretesting pretestTests
-    ahead-8 f y j =
-        pretests-by d (Broken f g)
-        (sym (simp (formed, first, ne-eqb (g .0) 0 y) (ap (λ (n : ℕ). refusal 8 (n ∷ g .0 ∷ [])) (sym (j ∙ basic-field (draftSheet d) u (g .0) (sym first))))))
+    ahead-9 t =
+        let p : budget (draftSheet d) ≡ false = sym (class-is B r hr) ∙ not-true r t in
+        pretests-by d (Refused (record { 0 = 9 })) (sym (simp (formed, first ∙ y, p)))
 
-    module _ (y : g .0 ≡ 0) (r : Bool) (hr : (t : List ℕ) → Read x t → r ≡ budget t) where
-      class : r ≡ budget (draftSheet d)
-      class = hr (baseOf (draftSheet d)) read ∙ base-budget (draftSheet d) sized
+    module _ (t : not r ≡ false) (v : List ℕ) (hv : v ≡ pickedOf u (0 ∷ 0 ∷ 0 ∷ 0 ∷ [])) (fx : Facts) (hfx : length v ≡ 390 → Read fx v) (m : RuleNumber) (hm : (k : List ℕ) → Read fx k → budget k ≡ true → m .0 ≡ firstBroken k ahead) where
+      pays : budget (draftSheet d) ≡ true
+      pays = sym (class-is B r hr) ∙ not-false r t
 
-      pub ahead-9 : not r ≡ true → Pretests d (Refused (record { 0 = 9 }))
-      unfolding pretestAnswer pretesting pretestTests
-      ahead-9 t =
-          let p : budget (draftSheet d) ≡ false = sym class ∙ not-true r t in
-          pretests-by d (Refused (record { 0 = 9 })) (sym (simp (formed, first ∙ y, p)))
+      filled : v ≡ firstOf (draftSheet d) (B .size)
+      unfolding firstOf
+      filled = hv ∙ ap (λ (k : List ℕ). pickedOf k (0 ∷ 0 ∷ 0 ∷ 0 ∷ [])) (B .base)
 
-      module _ (t : not r ≡ false) (v : List ℕ) (hv : v ≡ pickedOf u (0 ∷ 0 ∷ 0 ∷ 0 ∷ [])) (fx : Facts) (hfx : length v ≡ 390 → Read fx v) (m : RuleNumber) (hm : (k : List ℕ) → Read fx k → budget k ≡ true → m .0 ≡ firstBroken k ahead) where
-        pays : budget (draftSheet d) ≡ true
-        pays = sym class ∙ not-false r t
+      by-all : m .0 ≡ brokenByAll (draftSheet d)
+      unfolding firstOf
+      by-all =
+          let seen = subst (Read fx) filled (hfx (ap length filled ∙ picked-length (draftSheet d) (B .size) (0 ∷ 0 ∷ 0 ∷ 0 ∷ []))) in
+          hm (firstOf (draftSheet d) (B .size)) seen (first-budget (draftSheet d) (B .size) ∙ pays) ∙ sym (first-broken (draftSheet d) (B .size))
 
-        payment : budgetPayment (draftSheet d) ≡ true
-        unfolding budgetPayment
-        payment = rw (none-kept (keeps (draftSheet d)) basic basic-numbered (first ∙ y), pays)
+      pub ahead-none : m .0 ≡ 0 → Pretests d Unnamed
+      unfolding pretestAnswer
+      ahead-none z = pretests-by d Unnamed (sym (none-answer d formed (pays-by B y pays) (sym by-all ∙ z)))
 
-        filled : v ≡ firstOf (draftSheet d) sized
-        unfolding firstOf
-        filled = hv ∙ ap (λ (k : List ℕ). pickedOf k (0 ∷ 0 ∷ 0 ∷ 0 ∷ [])) base
-
-        seen : Read fx (firstOf (draftSheet d) sized)
-        unfolding firstOf
-        seen = subst (Read fx) filled (hfx (ap length filled ∙ picked-length (draftSheet d) sized (0 ∷ 0 ∷ 0 ∷ 0 ∷ [])))
-
-        by-all : m .0 ≡ brokenByAll (draftSheet d)
-        by-all = hm (firstOf (draftSheet d) sized) seen (first-budget (draftSheet d) sized ∙ pays) ∙ sym (first-broken (draftSheet d) sized)
-
-        pub ahead-none : m .0 ≡ 0 → Pretests d Unnamed
-        unfolding pretestAnswer
-        ahead-none z = pretests-by d Unnamed (sym (none-answer d formed payment (sym by-all ∙ z)))
-
-        pub ahead-named : (f : Field) → f .0 ≡ fieldOf rules (m .0) v → Pretests d (Named f m)
-        unfolding pretestAnswer
-        ahead-named f j =
-            let n0 : f .0 ≡ namedField (draftSheet d) = j ∙ (λ i. fieldOf rules (by-all i) (filled i)) ∙ sym (named-field (draftSheet d) sized) in
-            pretests-by d (Named f m) (sym (paid-is d formed payment ∙ (λ i. success (sym n0 i ∷ sym by-all i ∷ []))))
+      pub ahead-named : (f : Field) → f .0 ≡ fieldOf rules (m .0) v → Pretests d (Named f m)
+      unfolding pretestAnswer
+      ahead-named f j =
+          let n0 : f .0 ≡ namedField (draftSheet d) = j ∙ (λ i. fieldOf rules (by-all i) (filled i)) ∙ sym (named-field (draftSheet d) (B .size)) in
+          pretests-by d (Named f m) (sym (paid-is d formed (pays-by B y pays) ∙ (λ i. success (sym n0 i ∷ sym by-all i ∷ []))))

@@ -3,13 +3,13 @@ use mathlib.Core.Path.{_≡_, refl, sym, ap, _∙_, subst}
 use mathlib.Core.Bool.{Bool, true, false, cond}
 use mathlib.Core.List.{List, [], _∷_, _++_, append-assoc, append-nil}
 use Prim.Native.Nat.{ℕ, zero, suc, _+_, _-_, _<_, _≤_}
-use native.Mathlib.Decide.{ℕ-discrete, decLe}
+use native.Mathlib.Decide.{ℕ-discrete}
 use native.Mathlib.Omega.{arith}
 use borrow.Author.Needs.{needs}
 use borrow.Author.Tests.{eq-eqb, ne-eqb}
 use lib.Dec.{eqb}
-use lib.ListN.{length, getD, drop, length-drop}
-use lib.Seq.{take-all, length-take-le, drop-drop}
+use lib.ListN.{length, getD, drop, length-take, length-drop}
+use lib.Seq.{take-all, drop-drop}
 use Rattle.texts.specs.Numbers.{big}
 use Rattle.texts.specs.Texts.{between}
 use Rattle.sheets.specs.declared.sheet.Field.{Field}
@@ -34,21 +34,10 @@ piece-is s p a b n ea eb en ep =
     let z : n + 2 - 0 ≡ lengthOf s + 2 = omega arith in
     ep ∙ rw z
 
-piece-all : (s : List ℕ) → length s ≤ lengthOf s + 2 → pieceOf s ≡ s
-unfolding pieceOf
-piece-all s h = take-all (lengthOf s + 2) s h
-
-piece-part : (s : List ℕ) → lengthOf s + 2 ≤ length s → length (pieceOf s) ≡ lengthOf s + 2
-unfolding pieceOf
-piece-part s h = length-take-le (lengthOf s + 2) s h
-
 -- it is no longer than what is left, and has a byte where one is left
 piece-length : (s : List ℕ) → 0 < length s → (0 < length (pieceOf s)) × (length (pieceOf s) ≤ length s)
-piece-length s n =
-    elim (decLe (length s) (lengthOf s + 2)) [
-      | yes p ↦ rw (piece-all s p) (omega arith, omega arith)
-      | no q ↦ rw (piece-part s (omega arith)) (omega arith, omega arith)
-    ]
+unfolding pieceOf
+piece-length s n = simp length-take (omega arith, omega arith)
 
 -- ---- the end of a stream
 
@@ -122,16 +111,10 @@ module _ (i : List ℕ) (k : ℕ) (h : k < length i) (s m : List ℕ) (es : s �
   some = omega (arith, length-drop k i)
 
   pub stream-within : k + length m ≤ length i
-  stream-within =
-      let p = piece-length (drop k i) some in
-      let e : length m ≡ length (pieceOf (drop k i)) = ap length first-is in
-      omega (arith, length-drop k i)
+  stream-within = omega (arith, piece-length (drop k i) some .1, ap length first-is, length-drop k i)
 
   pub stream-less : length i - (k + length m) < length i - k
-  stream-less =
-      let p = piece-length (drop k i) some in
-      let e : length m ≡ length (pieceOf (drop k i)) = ap length first-is in
-      omega (arith, length-drop k i)
+  stream-less = omega (arith, piece-length (drop k i) some .0, ap length first-is)
 
   module _ (d e : List ℕ) (r : Posted) (S : Streamed i k d) (P : Posts d m r e) (b : Bool) (eb : b ≡ endsStream m) where
     more : Postings (S .posted ++ (m ∷ [])) e

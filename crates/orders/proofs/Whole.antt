@@ -1,11 +1,11 @@
 -- Demand 3: from the two equations that the code of `complete` meets, its whole promise. Assumes nothing.
-use mathlib.Core.Path.{_≡_, refl, sym, ap, _∙_, subst}
+use mathlib.Core.Path.{_≡_, refl, sym, _∙_, subst}
 use mathlib.Core.Logic.{_↔_}
-use mathlib.Core.Bool.{Bool, true, false, not, cond, _&&_, true≢false, false≢true}
+use mathlib.Core.Bool.{Bool, true, false, not, _&&_, true≢false, false≢true}
 use mathlib.Core.List.{List, [], _∷_, List·Memᴰ, List·Memᴰ·head, Memᴰ·append-right}
 use Prim.Native.Nat.{ℕ}
 use native.Mathlib.Omega.{arith}
-use borrow.Author.Tests.{eq-eqb, ne-eqb}
+use borrow.Author.Tests.{ne-eqb}
 use lib.Count.{ones}
 use lib.Dec.{eqb}
 use lib.ListN.{length}
@@ -13,7 +13,7 @@ use Rattle.texts.specs.Texts.{every}
 use Rattle.texts.specs.Answers.{Answer, success, refusal, numberOf, _refuses_, _refuses_with_, answerBy, bufferBy}
 use Rattle.texts.proofs.Bools.{both}
 use Rattle.texts.proofs.Refusals.{no-success, never, unchanged}
-use Rattle.rules.specs.Rules.{budget, rules, fieldOf, keeps, firstBroken, keepsAll}
+use Rattle.rules.specs.Rules.{budget, keeps, keepsAll}
 use Rattle.rules.proofs.First.{numbered, kept-none, none-kept, split}
 use Rattle.rules.proofs.Judging.{ordinary-class}
 use Rattle.drafts.specs.Draft.{draftFormed, draftSheet}
@@ -28,7 +28,7 @@ use Rattle.orders.specs.Whole.{countOf, FirstFilling, All, FilledSet, Un
 use Rattle.orders.specs.declared.complete.Completed.{Completed}
 use Rattle.orders.specs.declared.complete.Completed.the-variants.{Filled, Impossible, Broken, Refused}
 use Rattle.orders.proofs.EveryFilling.{filling-of, of-filling, unchanged as stays}
-use Rattle.orders.proofs.Looking.{First, look-found, look-none}
+use Rattle.orders.proofs.Looking.{look-found, look-none}
 use Rattle.orders.proofs.Order.{earlier-before, place-of, once-all}
 use Rattle.orders.proofs.Counting.{fillings-most, fillings-one, filled-set}
 
@@ -62,8 +62,10 @@ module _ (d b : List ℕ) (f : draftFormed d ≡ true) (z : length b ≡ 390) (p
 
 -- the promise, by what the look found
 module _ (s b : List ℕ) (z : length s ≡ 390) where
-  first-filling : (n : ℕ) (t : List ℕ) → First keepsAll (fillings s) n t → FirstFilling s t n
-  first-filling n t w =
+  found-first : (n : ℕ) (t : List ℕ) → firstFilling s ≡ found n t → FirstFilling s t n
+  unfolding firstFilling
+  found-first n t e =
+      let w = look-found keepsAll (fillings s) n t e in
       let m : List·Memᴰ t (fillings s) = subst (List·Memᴰ t) (sym (w .split)) (Memᴰ·append-right (w .before) (List·Memᴰ·head refl)) in
       record {
         filling = filling-of s z t m;
@@ -73,19 +75,12 @@ module _ (s b : List ℕ) (z : length s ≡ 390) where
         first = λ g p q. w .fails g (earlier-before s z (w .before) (w .after) t (w .split) g p q);
       }
 
-  found-first : (n : ℕ) (t : List ℕ) → firstFilling s ≡ found n t → FirstFilling s t n
-  unfolding firstFilling
-  found-first n t e = first-filling n t (look-found keepsAll (fillings s) n t e)
-
-  none-keeps : (n : ℕ) → firstFilling s ≡ none n → (f : List ℕ) → Filling s f → keepsAll f ≡ false
-  unfolding firstFilling
-  none-keeps n e f w = look-none keepsAll (fillings s) n e .1 f (of-filling s z f w)
-
   pub refused-by : (o : Look (List ℕ)) → firstFilling s ≡ o → (numberOf (lookAnswer s o) ≡ 10) ↔ ((f : List ℕ) → Filling s f → keepsAll f ≡ false)
+  unfolding firstFilling
   refused-by (found n t) e =
       let w = found-first n t e in
       (λ q. absurd (omega arith), λ h. absurd (true≢false (sym (w .keeps) ∙ h t (w .filling))))
-  refused-by (none n) e = (λ q. none-keeps n e, λ h. refl)
+  refused-by (none n) e = (λ q f w. look-none keepsAll (fillings s) n e .1 f (of-filling s z f w), λ h. refl)
 
   filled-by : (o : Look (List ℕ)) → firstFilling s ≡ o → (numberOf (lookAnswer s o) ≡ 10 → ⊥) → FirstFilling s (lookSheet b o) (countOf (lookAnswer s o))
   filled-by (found n t) e h = found-first n t e
@@ -117,14 +112,6 @@ basic-numbered = refl
 
 -- a draft that is no budget payment
 module _ (d b : List ℕ) (f : draftFormed d ≡ true) (z : length b ≡ 390) where
-  unpaid-broken : (every (keeps (draftSheet d)) basic ≡ true → ⊥) → Unpaid (draftSheet d) (completing d b)
-  unfolding completing completeTests sheetTests
-  unpaid-broken h =
-      let s = draftSheet d in
-      let (before, n, after, e, k, p, i) = split (keeps s) basic h in
-      let y : n ≡ 0 → ⊥ = λ q. h (none-kept (keeps s) basic basic-numbered (i ∙ q)) in
-      rw (f, z, i, ne-eqb n 0 y) (broken before after n e k p)
-
   unpaid-by : budgetPayment (draftSheet d) ≡ false → Unpaid (draftSheet d) (completing d b)
   unfolding completing completeTests sheetTests budgetPayment
   unpaid-by p = go (every (keeps (draftSheet d)) basic) (budget (draftSheet d)) refl refl p
@@ -132,7 +119,11 @@ module _ (d b : List ℕ) (f : draftFormed d ≡ true) (z : length b ≡ 390) wh
       go : (k c : Bool) → every (keeps (draftSheet d)) basic ≡ k → budget (draftSheet d) ≡ c → (k && c) ≡ false → Unpaid (draftSheet d) (completing d b)
       go true true ek ec h = absurd (true≢false h)
       go true false ek ec h = rw (f, z, kept-none (keeps (draftSheet d)) basic ek, ec) (ordinary ek (ordinary-class (draftSheet d) ec))
-      go false c ek ec h = unpaid-broken (λ q. false≢true (sym ek ∙ q))
+      go false c ek ec h =
+          let s = draftSheet d in
+          let (before, n, after, e, k, p, i) = split (keeps s) basic (λ q. false≢true (sym ek ∙ q)) in
+          let y : n ≡ 0 → ⊥ = λ q. false≢true (sym ek ∙ none-kept (keeps s) basic basic-numbered (i ∙ q)) in
+          rw (f, z, i, ne-eqb n 0 y) (broken before after n e k p)
 
 pub whole-law : (ms : List (List ℕ)) (d b : List ℕ) → Postings ms d → Whole ms d b (completing d b) (completed d b)
 whole-law ms d b L =
@@ -151,11 +142,7 @@ whole-law ms d b L =
 -- refusals: a test that is true, and no other, gives its number
 filled-of : (r : Completed) (n set k : ℕ) → completeAnswer r ≡ success (n ∷ set ∷ k ∷ []) → r ≡ Filled n set k
 unfolding completeAnswer
-filled-of (Filled m t j) n set k e =
-    let p : m ≡ n = cc in
-    let q : t ≡ set = cc in
-    let w : j ≡ k = cc in
-    λ i. Filled (p i) (q i) (w i)
+filled-of (Filled m t j) n set k e = cc
 filled-of (Impossible m) n set k e = absurd (no-success 10 _ _ e)
 filled-of (Broken g m) n set k e = absurd (no-success 8 _ _ e)
 filled-of (Refused m) n set k e = absurd (no-success (m .0) _ _ e)

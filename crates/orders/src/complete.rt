@@ -1,6 +1,6 @@
 // Completion: the first filling of a draft that keeps the rules.
 ghost use Rattle.orders.specs.Whole.{Completes};
-use crate::fill::fill_picked;
+use crate::fill::fill_found;
 use crate::fill::fill_zeros;
 use crate::fill::filled_set;
 use crate::search::Found;
@@ -55,7 +55,7 @@ pub fn complete(draft: &[u8], sheet: &mut [u8]) -> Completed
                 set: set,
                 ones: u16::count_ones(set),
             };
-            fill_picked(&mut work, pick);
+            fill_found(&mut work, pick);
             put(sheet, 0, &work);
             success
         }

@@ -3,8 +3,8 @@ ghost use mathlib.Core.Path.{_≡_};
 ghost use mathlib.Core.Bool.{cond};
 ghost use mathlib.Core.List.{_∷_, []};
 ghost use Prim.Native.Nat.{_≤_};
-ghost use Rattle.texts.specs.Texts.{blank};
-ghost use Rattle.sheets.specs.Sheet.{textOf};
+ghost use Rattle.texts.specs.Texts.{blank, every};
+ghost use Rattle.sheets.specs.Sheet.{textOf, given};
 ghost use Rattle.sheets.specs.Working.Entries.{filledAt};
 ghost use Rattle.orders.specs.Working.Entering.{rowCell, baseOf, pickedOf};
 ghost use Rattle.orders.specs.Complete.{setOf};
@@ -12,6 +12,7 @@ use crate::search::Pick;
 use sheets::entries::basis_row;
 use sheets::entries::status_row;
 use sheets::entries::zero_row;
+use sheets::facts::is_given;
 use sheets::sheet::CELL_SIZE;
 use sheets::sheet::text;
 use texts::buffers::put;
@@ -58,6 +59,24 @@ pub(crate) fn fill_picked(sheet: &mut [u8], pick: Pick)
     fill_slot(sheet, 11, basis_row(pick.basis));
     fill_slot(sheet, 13, zero_row(pick.document));
     fill_slot(sheet, 14, zero_row(pick.day));
+}
+
+// None of 101, 106, 108 and 109 is blank.
+fn picks_nothing(sheet: &[u8]) -> bool
+    ensures { λ r. ⌜ r ≡ every (given (now (sheet .entry))) (6 ∷ 11 ∷ 13 ∷ 14 ∷ []) ⌝ }
+{
+    is_given(sheet, 6)
+        & (is_given(sheet, 11) & (is_given(sheet, 13) & (is_given(sheet, 14) & true)))
+}
+
+// The same, and no list is looked into where nothing is blank.
+pub(crate) fn fill_found(sheet: &mut [u8], pick: Pick)
+    ensures { λ _. ⌜ now (sheet .exit) ≡ pickedOf (now (sheet .entry)) (pick .status ∷ pick .basis ∷ pick .document ∷ pick .day ∷ []) ⌝ }
+{
+    if picks_nothing(sheet) {
+        return;
+    }
+    fill_picked(sheet, pick);
 }
 
 // A slot's bit, if the slot is blank.

@@ -1,3 +1,4 @@
+pub mod Each
 pub mod Before
 pub mod Order
 pub mod Putting

@@ -1,6 +1,6 @@
 -- Looking for a number among the first of a list: what the loop keeps. Assumes nothing.
-use mathlib.Core.Path.{_≡_, ap, sym, _∙_}
-use mathlib.Core.Logic.{_⊎_, inl, inr}
+use mathlib.Core.Path.{_≡_}
+use mathlib.Core.Logic.{⊎-elim}
 use mathlib.Core.List.{List}
 use Prim.Native.Nat.{ℕ, _+_, _≤_, _<_}
 use native.Mathlib.Nat.{eq-or-lt-of-le}
@@ -23,8 +23,9 @@ module _ (ns : List ℕ) (count n : ℕ) where
     find-hit e = record { looked = omega arith; within = omega arith; hit = λ k. e; missed = λ k. absurd (omega arith) }
 
     pub find-miss : (found : ℕ) → Finding found j → (getD ns j 0 ≡ n → ⊥) → Finding found (j + 1)
-    find-miss found f no-hit = record { looked = omega arith; within = f .within; hit = f .hit; missed = λ w k l e. go w k e (eq-or-lt-of-le (let m : k ≤ j = omega arith in m)) }
-      where
-        go : count ≤ found → (k : ℕ) → getD ns k 0 ≡ n → (k ≡ j) ⊎ (k < j) → ⊥
-        go w k e (inl q) = no-hit (ap (λ (i : ℕ). getD ns i 0) (sym q) ∙ e)
-        go w k e (inr l) = f .missed w k l e
+    find-miss found f no-hit = record {
+      looked = omega arith;
+      within = f .within;
+      hit = f .hit;
+      missed = λ w k l e. ⊎-elim (λ q. no-hit (rw q at e)) (λ m. f .missed w k m e) (eq-or-lt-of-le (let m : k ≤ j = omega arith in m));
+    }

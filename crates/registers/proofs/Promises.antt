@@ -1,10 +1,10 @@
 -- What `pool` promises, from what it answers and what it leaves; the ways through it. Assumes nothing.
-use mathlib.Core.Path.{_≡_, refl, ap, sym, _∙_, subst}
+use mathlib.Core.Path.{_≡_, refl, ap, sym, _∙_}
 use mathlib.Core.Bool.{Bool, true, false, not, _&&_}
 use mathlib.Core.List.{List, [], _∷_}
 use Prim.Native.Nat.{ℕ, _+_, _-_, _*_, _≤_, _<_}
 use native.Mathlib.Omega.{arith}
-use borrow.Author.Tests.{lt-ltb, le-ltb, ltb-false, eqb-true, eq-eqb, ne-eqb, not-true, not-false}
+use borrow.Author.Tests.{lt-ltb, le-ltb, ltb-false, eqb-true, eq-eqb, ne-eqb, not-false}
 use lib.Dec.{ltb, eqb}
 use lib.IntN.{ℤ}
 use lib.ListN.{length, take, drop}
@@ -14,13 +14,14 @@ use Rattle.texts.specs.Buffers.{put}
 use Rattle.texts.proofs.Bools.{both}
 use Rattle.texts.proofs.Puts.{mid-put, drop-put}
 use Rattle.texts.proofs.Refusals.{no-success, succeeded, unchanged}
-use Rattle.registers.specs.Register.{Line, linesBytes, linesOf, registerRight, orderRight, mostOrder, pooled, totalOf}
-use Rattle.registers.specs.Pool.{outputSize, poolTests, pooling, pooledTo, more, less, poolAnswer, IsRegister, IsPool, Pools}
+use Rattle.registers.specs.Register.{Line, linesBytes, linesOf, registerRight, orderRight, pooled, totalOf}
+use Rattle.registers.specs.Pool.{outputSize, poolTests, pooling, pooledTo, poolAnswer, IsRegister, IsPool, Pools}
 use Rattle.registers.specs.declared.pool.Pooled.{Pooled}
 use Rattle.registers.specs.declared.pool.Pooled.the-variants.{Made, Differs, Refused}
 use Rattle.registers.proofs.Pooling.{pooled-total, is-pool}
 use Rattle.registers.proofs.Registers.{whole-of, is-register, register-is}
-use Rattle.registers.proofs.Outputs.{Sized, lines-long, pooled-sized}
+use Rattle.registers.proofs.Differences.{Difference}
+use Rattle.registers.proofs.Outputs.{lines-long, pooled-sized}
 
 -- the three tests, whatever they ask
 abbrev tests : Bool → Bool → Bool → List ℕ → List Test
@@ -38,6 +39,11 @@ number-17 ms vs ns false true r e = let z : _≡_ {A = ℕ} 16 17 = cc in absurd
 number-17 ms vs ns false false true e = (refl, cc)
 number-17 ms vs ns false false false e = absurd (no-success 17 ns vs (sym e))
 
+-- what is known where 7 and 16 are not answered
+pub record Passed (t : List ℕ) (a : ℕ) (o : List ℕ) : Type 0 where
+  pub room : outputSize ≤ length o
+  pub right : (registerRight t && orderRight a) ≡ true
+
 module _ (t : List ℕ) (a : ℕ) (o : List ℕ) where
   abbrev total : ℕ
   total = totalOf (linesOf t)
@@ -50,95 +56,74 @@ module _ (t : List ℕ) (a : ℕ) (o : List ℕ) where
 
   -- the promise, from the equations that the code is proved to meet
   module _ (e : List ℕ) (x : Pooled) (ha : poolAnswer x ≡ pooling t a o) (he : e ≡ pooledTo t a o) where
-    abbrev Accepted : Type 0
-    Accepted = (outputSize ≤ length o) × IsRegister t a × (total ≡ a)
-
-    accepted : numberOf (poolAnswer x) ≡ 0 → Accepted
+    accepted : numberOf (poolAnswer x) ≡ 0 → Passed t a o × (total ≡ a)
     unfolding pooling poolTests
     accepted z =
-        let q = no-number ((total - a) ∷ (a - total) ∷ []) (length lines ∷ []) (ltb (length o) outputSize) (not (registerRight t && orderRight a)) (not (eqb total a)) (ap numberOf (sym ha) ∙ z) in
-        (ltb-false _ _ (q .0), is-register t a (not-false _ (q .1)), eqb-true _ _ (not-false _ (q .2)))
-
-    accepts : Accepted → numberOf (poolAnswer x) ≡ 0
-    unfolding pooling poolTests
-    accepts g = ap numberOf ha ∙ simp (le-ltb (length o) outputSize (g .0), register-is t a (g .1), eq-eqb total a (g .2))
-
-    refused-by : (n : ℕ) (vs : List ℕ) → poolAnswer x ≡ refusal n vs → e ≡ o
-    unfolding pooling pooledTo
-    refused-by n vs h = he ∙ unchanged (length lines ∷ []) (put o 0 bytes) o (poolTests t a o) (λ k. no-success n vs (length lines ∷ []) (sym h ∙ ha ∙ k))
+        let q = no-number _ _ _ _ _ (ap numberOf (sym ha) ∙ z) in
+        (record { room = ltb-false _ _ (q .0); right = not-false _ (q .1) }, eqb-true _ _ (not-false _ (q .2)))
 
     differs-by : (m l : ℕ) → poolAnswer x ≡ refusal 17 (m ∷ l ∷ []) → IsRegister t a × (total + l ≡ a + m)
     unfolding pooling poolTests
     differs-by m l h =
         let q = number-17 ((total - a) ∷ (a - total) ∷ []) (length lines ∷ []) (m ∷ l ∷ []) (ltb (length o) outputSize) (not (registerRight t && orderRight a)) (not (eqb total a)) (sym ha ∙ h) in
-        let w = q .1 in
-        let y : total - a ≡ m = cc in
-        let z : a - total ≡ l = cc in
-        (is-register t a (not-false _ (q .0)), omega (arith, y, z))
+        let y : total - a ≡ m = cc (q .1) in
+        let z : a - total ≡ l = cc (q .1) in
+        (is-register t a (not-false _ (q .0)), omega arith)
 
     made-by : (n : ℕ) → poolAnswer x ≡ success (n ∷ [])
         → (ps : List Line) × (length ps ≡ n) × (take (20 * n) e ≡ linesBytes ps) × (drop (20 * n) e ≡ drop (20 * n) o) × IsPool (linesOf t) ps × (totalOf ps ≡ a)
     unfolding pooling pooledTo
     made-by n h =
         let q = succeeded (length lines ∷ []) (n ∷ []) (poolTests t a o) (sym h ∙ ha) in
-        let w = q .1 in
-        let k : length lines ≡ n = cc in
+        let k : length lines ≡ n = cc (q .1) in
         let g = accepted (ap numberOf h) in
         let f : e ≡ put o 0 bytes = he ∙ simp (q .0) in
-        let r = whole-of t (both (registerRight t) (orderRight a) (register-is t a (g .1)) .0) .3 in
-        let s = lines-long lines (subst (λ (ls : List Line). Sized (pooled ls)) (take-length (linesOf t)) (pooled-sized (linesOf t) (length (linesOf t)) r)) in
+        let r = whole-of t (both (registerRight t) (orderRight a) (g .0 .right) .0) .3 in
+        let s = lines-long lines (rw take-length at (pooled-sized (linesOf t) (length (linesOf t)) r)) in
         let b : length bytes ≡ 20 * n = omega (arith, s, k) in (
           lines,
           k,
           ap (take (20 * n)) f ∙ mid-put o 0 bytes (20 * n) b (omega arith),
           ap (drop (20 * n)) f ∙ drop-put o 0 bytes (20 * n) (omega (arith, b)) (omega arith),
           is-pool (linesOf t),
-          pooled-total (linesOf t) ∙ g .2,
+          pooled-total (linesOf t) ∙ g .1,
         )
 
     pools-by : Pools t a o x e
-    pools-by = record { answer = ha; output = he; exactly = (accepted, accepts); refused = refused-by; differs = differs-by; made = made-by }
+    unfolding pooling pooledTo poolTests
+    pools-by = record {
+      answer = ha;
+      output = he;
+      exactly = (
+        λ z. let g = accepted z in (g .0 .room, is-register t a (g .0 .right), g .1),
+        λ g. ap numberOf ha ∙ simp (le-ltb (length o) outputSize (g .0), register-is t a (g .1), eq-eqb total a (g .2)),
+      );
+      refused = λ n vs h. he ∙ unchanged (length lines ∷ []) (put o 0 bytes) o (poolTests t a o) (λ k. no-success n vs (length lines ∷ []) (sym h ∙ ha ∙ k));
+      differs = differs-by;
+      made = made-by;
+    }
 
   -- ---- the ways through `pool`
 
   pub short-7 : length o < outputSize → Pools t a o (Refused (record { 0 = 7 })) o
   unfolding pooling pooledTo poolTests poolAnswer
-  short-7 h = let s = lt-ltb (length o) outputSize h in pools-by o (Refused (record { 0 = 7 })) (sym (simp s)) (sym (simp s))
+  short-7 h = let s = lt-ltb (length o) outputSize h in pools-by o (Refused (record { 0 = 7 })) (simp s) (simp s)
 
-  module _ (h : outputSize ≤ length o) (g b : Bool) (eg : g ≡ registerRight t) (eb : b ≡ orderRight a) where
-    abbrev both-are : (g && b) ≡ (registerRight t && orderRight a)
-    both-are = λ i. eg i && eb i
+  pub wrong-16 : outputSize ≤ length o → (registerRight t && orderRight a) ≡ false → Pools t a o (Refused (record { 0 = 16 })) o
+  unfolding pooling pooledTo poolTests poolAnswer
+  wrong-16 h s = let l = le-ltb (length o) outputSize h in pools-by o (Refused (record { 0 = 16 })) (simp (l, s)) (simp (l, s))
 
-    pub wrong-16 : not (g && b) ≡ true → Pools t a o (Refused (record { 0 = 16 })) o
-    unfolding pooling pooledTo poolTests poolAnswer
-    wrong-16 w =
-        let l = le-ltb (length o) outputSize h in
-        let s : (registerRight t && orderRight a) ≡ false = sym both-are ∙ not-true (g && b) w in
-        pools-by o (Refused (record { 0 = 16 })) (sym (simp (l, s))) (sym (simp (l, s)))
+module _ {t : List ℕ} {a : ℕ} {o : List ℕ} (w : Passed t a o) (s : ℕ) (es : s ≡ totalOf (linesOf t)) where
+  pub differs-17 : (s ≡ a → ⊥) → (d : ℤ) → Difference s a d → Pools t a o (Differs d) o
+  unfolding pooling pooledTo poolTests poolAnswer
+  differs-17 n d f =
+      let l = le-ltb (length o) outputSize (w .room) in
+      let m = ne-eqb (totalOf (linesOf t)) a (λ q. n (es ∙ q)) in
+      pools-by t a o o (Differs d) (simp (l, w .right, m, f .0, f .1, es)) (simp (l, w .right, m))
 
-    module _ (w : not (g && b) ≡ false) where
-      right : (registerRight t && orderRight a) ≡ true
-      right = sym both-are ∙ not-false (g && b) w
-
-      pub register-right : registerRight t ≡ true
-      register-right = both (registerRight t) (orderRight a) right .0
-
-      pub order-most : a ≤ mostOrder
-      order-most = is-register t a right .orders .1
-
-      module _ (s : ℕ) (es : s ≡ total) where
-        pub differs-17 : (s ≡ a → ⊥) → (d : ℤ) → (more d ≡ s - a) × (less d ≡ a - s) → Pools t a o (Differs d) o
-        unfolding pooling pooledTo poolTests poolAnswer
-        differs-17 n d f =
-            let l = le-ltb (length o) outputSize h in
-            let m = ne-eqb total a (λ q. n (es ∙ q)) in
-            let y : more d ≡ total - a = f .0 ∙ ap (λ (k : ℕ). k - a) es in
-            let z : less d ≡ a - total = f .1 ∙ ap (λ (k : ℕ). a - k) es in
-            pools-by o (Differs d) ((λ i. refusal 17 (y i ∷ z i ∷ [])) ∙ sym (simp (l, right, m))) (sym (simp (l, right, m)))
-
-        pub made-0 : s ≡ a → (n : ℕ) (e : List ℕ) → (n ≡ length lines) × (e ≡ put o 0 bytes) → Pools t a o (Made n) e
-        unfolding pooling pooledTo poolTests poolAnswer
-        made-0 q n e f =
-            let l = le-ltb (length o) outputSize h in
-            let m = eq-eqb total a (sym es ∙ q) in
-            pools-by e (Made n) (ap (λ (k : ℕ). success (k ∷ [])) (f .0) ∙ sym (simp (l, right, m))) (f .1 ∙ sym (simp (l, right, m)))
+  pub made-0 : s ≡ a → (n : ℕ) (e : List ℕ) → (n ≡ length (pooled (linesOf t))) × (e ≡ put o 0 (linesBytes (pooled (linesOf t)))) → Pools t a o (Made n) e
+  unfolding pooling pooledTo poolTests poolAnswer
+  made-0 q n e f =
+      let l = le-ltb (length o) outputSize (w .room) in
+      let m = eq-eqb (totalOf (linesOf t)) a (sym es ∙ q) in
+      pools-by t a o e (Made n) (simp (l, w .right, m, f .0)) (simp (l, w .right, m, f .1))

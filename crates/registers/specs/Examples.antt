@@ -4,10 +4,8 @@ use mathlib.Core.List.{List, [], _∷_, _++_, map}
 use Prim.Native.Nat.{ℕ, _-_, _+_, _^_}
 use lib.ListN.{take, replicate}
 use Rattle.texts.specs.Quoted.{Text, bytes}
-use Rattle.texts.specs.Texts.{same, every, between, valueOf, weighted}
 use Rattle.texts.specs.Answers.{Answer, success, refusal}
-use Rattle.texts.specs.Buffers.{put}
-use Rattle.sheets.specs.Forms.{checkDigit}
+use Rattle.sheets.specs.Working.Computing.{sheetsComputing}
 use Rattle.registers.specs.Register.{linesBytes, linesIn, linesRight, mostOrder, without, appearing, sumOf, pooled, totalOf}
 use Rattle.registers.specs.Pool.{poolTests, pooling, pooledTo}
 
@@ -53,10 +51,10 @@ answers =
     ∷ [])
 
 answered : map (λ (e : Arguments × Answer). pooling (e .0 .0) (e .0 .1) (held (e .0 .2))) answers ≡ map (λ (e : Arguments × Answer). e .1) answers
-unfolding answers three one a b held pooling poolTests linesBytes linesIn linesRight pooled appearing without sumOf totalOf same every between valueOf weighted checkDigit
+unfolding answers three one a b held pooling poolTests linesBytes linesIn linesRight pooled appearing without sumOf totalOf sheetsComputing
 answered = refl
 
 -- "output places past the pooled lines keep what they held"
 left : pooledTo three 13 (held 10000) ≡ linesBytes ((a, 6) ∷ (b, 7) ∷ []) ++ held 9960
-unfolding three a b held pooledTo poolTests put linesBytes linesIn linesRight pooled appearing without sumOf totalOf same every between valueOf weighted checkDigit
+unfolding three a b held pooledTo poolTests linesBytes linesIn linesRight pooled appearing without sumOf totalOf sheetsComputing
 left = refl

@@ -5,18 +5,14 @@ use Prim.Native.Nat.{ℕ, _≤_}
 use borrow.Author.Tests.{le-leb}
 use lib.ListN.{length}
 use Rattle.texts.specs.Quoted.{Text, bytes}
-use Rattle.texts.specs.Texts.{every, any, are, among, same, between, value, valueOf, number, weighted, _isOneOf_, _beginsOneOf_}
-use Rattle.texts.specs.Buffers.{put}
-use Rattle.sheets.specs.Sheet.{slotOf, cell, cellText, cellOk, cellOf, textOf, _⟨_⟩, given}
-use Rattle.sheets.specs.Forms.{checkDigit, person, document, snilsCheck, snils, pension, leap, monthDays, gregorian, date}
-use Rattle.rules.specs.Rules.{rules, fieldOf, testOf, keeps, keepsAll, firstNot}
-use Rattle.drafts.specs.Message.{messageText, readTests, readingOf, headBytes, messageOf}
-use Rattle.drafts.specs.Draft.{slotIn, slotCell, slotText, slotBytes, slotWith, slotFormed, slotsFormed, draftFormed, freshDraft, slotComparison, comparisonOf, postTests, postingOf, stored, postedTo, cells, draftSheet}
+use Rattle.drafts.specs.Message.{messageOf}
 use Rattle.orders.specs.Fillings.{listOf, toFill, choices, look, fillings, firstFilling}
 use Rattle.orders.specs.Complete.{setOf, sheetTests, completeTests, completing, completed}
 use Rattle.orders.specs.Stream.{pieceOf, endsStream, pieces, messagesOf}
 use Rattle.report.specs.Lines.{decimalIn, decimal, item}
 use Rattle.report.specs.Report.{messageLine, fieldLine, fieldLines, endLines, ending, reportFrom, reportOf, reported}
+use Rattle.rules.specs.Working.Computing.{rulesComputing}
+use Rattle.drafts.specs.Working.Computing.{draftsComputing}
 
 -- "Input 00 0A 01 0E 00 00 00 01 30 30 34 35 (hexadecimal) prints exactly"
 input : List ℕ
@@ -26,7 +22,7 @@ output : List ℕ
 output = bytes "1 newer" ++ (10 ∷ []) ++ bytes "end 8 14 1" ++ (10 ∷ [])
 
 example : reportOf input ≡ output
-unfolding input output every any are among same between put slotOf cell cellText cellOk cellOf textOf _⟨_⟩ rules fieldOf testOf keeps firstNot messageText readTests readingOf slotIn slotCell slotText slotBytes slotWith slotFormed slotsFormed draftFormed freshDraft slotComparison comparisonOf postTests postingOf stored postedTo cells draftSheet sheetTests completeTests completing completed pieceOf endsStream pieces messagesOf decimalIn decimal item messageLine endLines ending reportFrom reportOf
+unfolding input output sheetTests completeTests completing completed pieceOf endsStream pieces messagesOf decimalIn decimal item messageLine endLines ending reportFrom reportOf rulesComputing draftsComputing
 example = refl
 
 -- the same of what `report` promises, in every buffer that has room
@@ -101,5 +97,5 @@ wholeOutput =
     ∷ [])
 
 whole : reportOf wholeInput ≡ wholeOutput
-unfolding wholeInput wholeOutput feeds messageOf headBytes every any are among same between value valueOf number _isOneOf_ _beginsOneOf_ put slotOf cell cellText cellOk cellOf textOf _⟨_⟩ given person document snilsCheck snils pension checkDigit weighted leap monthDays gregorian date rules fieldOf testOf keeps keepsAll firstNot listOf toFill choices look fillings firstFilling setOf messageText readTests readingOf slotIn slotCell slotText slotBytes slotWith slotFormed slotsFormed draftFormed freshDraft slotComparison comparisonOf postTests postingOf stored postedTo cells draftSheet sheetTests completeTests completing completed pieceOf endsStream pieces messagesOf decimalIn decimal item messageLine fieldLine fieldLines endLines ending reportFrom reportOf
+unfolding wholeInput wholeOutput feeds listOf toFill choices look fillings firstFilling setOf sheetTests completeTests completing completed pieceOf endsStream pieces messagesOf decimalIn decimal item messageLine fieldLine fieldLines endLines ending reportFrom reportOf rulesComputing draftsComputing
 whole = refl

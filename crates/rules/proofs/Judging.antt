@@ -1,6 +1,6 @@
 -- The ways through the functions that look for the first broken rule, and through `check`. Assumes nothing.
 use mathlib.Core.Path.{_≡_, refl, ap, sym, _∙_}
-use mathlib.Core.Bool.{Bool, true, false, not, cond, _&&_, _||_, false≢true}
+use mathlib.Core.Bool.{Bool, true, false, not, cond, _&&_, _||_, false≢true, Bool·not-not}
 use mathlib.Core.List.{List, [], _∷_, _++_, map}
 use Prim.Native.Nat.{ℕ, zero, suc, _+_, _-_, _≤_, _<_}
 use native.Mathlib.Numerals.{add-one}
@@ -119,14 +119,10 @@ ahead-first f x y os r ex ey eo h s o b =
     ∙ ap (λ (g : Facts). firstNot (holds g) ahead) (o .facts)
     ∙ sym (not-alike (keeps s) (holds (factsOf s)) (λ n. budget-keeps s n b) ahead)
 
-not-not : (b : Bool) → not (not b) ≡ b
-not-not true = refl
-not-not false = refl
-
 pub budget-is : (f : Facts) (s : Sheet) → Read f s → (f .banking .account .a || f .banking .account .b) ≡ budget s
 budget-is f s o =
-    sym (not-not (f .banking .account .a || f .banking .account .b))
-    ∙ ap not (ap (λ (g : Facts). ordinary g) (o .facts) ∙ ordinary-on s) ∙ not-not (budget s)
+    sym (Bool·not-not (f .banking .account .a || f .banking .account .b))
+    ∙ ap not (ap (λ (g : Facts). ordinary g) (o .facts) ∙ ordinary-on s) ∙ Bool·not-not (budget s)
 
 -- ---- outcomes
 
@@ -147,27 +143,8 @@ placed f g x t b d y eg ex et eb ed ey = λ i. place (eg i) (ex i) (et i) (eb i)
 
 -- ---- broken
 
-pub broken-ordinary : (f : Facts) (o : Bool) (os : List Bool) (r : ℕ) → o ≡ ordinary f → o ≡ true → os ≡ generalOn f → r ≡ firstNot (kept os) order → r ≡ firstNot (kept (judgedOn f)) order
-unfolding judgedOn
-broken-ordinary f o os r e t h i = cc
-
-pub broken-budget : (f : Facts) (o : Bool) (os : List Bool) (r : ℕ) → o ≡ ordinary f → o ≡ false → os ≡ outcomesOn f → r ≡ firstNot (kept os) order → r ≡ firstNot (kept (judgedOn f)) order
-unfolding judgedOn
-broken-budget f o os r e t h i = cc
-
--- ---- class_of
-
-pub class-a : (f : Facts) → f .banking .account .a ≡ true → A ≡ classOn f
-unfolding classOn
-class-a f t = cc
-
-pub class-b : (f : Facts) → f .banking .account .a ≡ false → f .banking .account .b ≡ true → B ≡ classOn f
-unfolding classOn
-class-b f t u = cc
-
-pub class-o : (f : Facts) → f .banking .account .a ≡ false → f .banking .account .b ≡ false → O ≡ classOn f
-unfolding classOn
-class-o f t u = cc
+pub broken-judged : (f : Facts) (o b : Bool) (os : List Bool) (r : ℕ) → o ≡ ordinary f → o ≡ b → os ≡ cond b (generalOn f) (outcomesOn f) → r ≡ firstNot (kept os) order → r ≡ firstNot (kept (judgedOn f)) order
+broken-judged f o b os r e t h i = cc
 
 -- ---- field_of: the table has the fields of the rules by their numbers, which go up by one
 

@@ -16,7 +16,7 @@ use Rattle.sheets.specs.Sheet.{slotOf, textOf, _⟨_⟩, Sheet, given}
 use Rattle.sheets.specs.Lists.{wantInn, wantTen, wantTwelve, wantZero, numbersOf}
 use Rattle.sheets.specs.Forms.{_⇒_, inn, inn10, inn12}
 use Rattle.rules.specs.Rules.{Rule, budget, classOf, special, forBudget, rules, testOf, keeps, rule6, rule23}
-use Rattle.sheets.specs.Working.Facts.{payerOf, codeOf, formOf, groupsOf, standingOf, basisOf, documentOf, dayOf, generalOf, accountOf, bankingOf, partiesOf, classifiersOf, factsOf, wantedBy}
+use Rattle.sheets.specs.Working.Facts.{payerOf, codeOf, formOf, groupsOf, standingOf, basisOf, documentOf, dayOf, generalOf, accountOf, factsBy, factsOf, wantedBy}
 use Rattle.rules.specs.Working.Tests.{suits, classOn, ordinary, on6, on23, generalOn, specialOn, outcomesOn, judgedOn, kept, holds}
 use Rattle.sheets.specs.declared.forms.Wanted.the-variants.{Any, Inn, Ten, Twelve, Zero}
 use Rattle.sheets.specs.declared.facts.Payer.{Payer}
@@ -32,7 +32,7 @@ six-order : (a b c d e f g h i j k l : Bool) → ((a && (b && (c && (e && (f && 
 six-order a b c d e f g h i j k l = simp (and-assoc, and-left-comm, and-comm)
 
 on-6 : (s : Sheet) → on6 (factsOf s) ≡ rule6 s
-unfolding factsOf bankingOf standingOf basisOf documentOf dayOf every given slotOf
+unfolding factsBy standingOf basisOf documentOf dayOf every given slotOf
 on-6 s = six-order (given s 3) (given s 4) (given s 5) (given s 6) (given s 7) (given s 8) (given s 9) (given s 10) (given s 11) (given s 12) (given s 13) (given s 14)
 
 -- rule 23: the form that a status wants, where no status is in two of its lists
@@ -66,7 +66,7 @@ wants-is n p =
     of q k = among k (numbersOf 2 q)
 
 on-23 : (s : Sheet) → on23 (factsOf s) ≡ rule23 s
-unfolding factsOf partiesOf payerOf standingOf slotOf _⟨_⟩ every number value valueOf
+unfolding factsBy payerOf standingOf slotOf _⟨_⟩ every number value valueOf
 on-23 s =
     let t = textOf s 6 in
     let a = is-one-of 2 t wantInn refl in
@@ -82,7 +82,7 @@ unfoldable pub testsOf : Sheet → List Rule → List Bool
 testsOf s rs = map (λ (r : Rule). r .test s) rs
 
 special-on : (s : Sheet) → specialOn (factsOf s) ≡ testsOf s special
-unfolding testsOf factsOf bankingOf partiesOf classifiersOf generalOf accountOf codeOf payerOf formOf groupsOf standingOf basisOf documentOf dayOf slotOf _⟨_⟩
+unfolding testsOf factsBy generalOf accountOf codeOf payerOf formOf groupsOf standingOf basisOf documentOf dayOf slotOf _⟨_⟩
 special-on s = λ i. set (set (specialOn (factsOf s)) 1 (on-6 s i)) 18 (on-23 s i)
 
 guard-on : (s : Sheet) (rs : List Rule) → budget s ≡ true → testsOf s (map forBudget rs) ≡ testsOf s rs
@@ -144,7 +144,7 @@ keeps-at s zero = none-at s
 keeps-at s (suc n) = tests-at s n rules rules-counted
 
 general-is : (s : Sheet) → true ∷ testsOf s rules ≡ generalOn (factsOf s) ++ testsOf s (map forBudget special)
-unfolding testsOf rules factsOf bankingOf generalOf accountOf standingOf slotOf _⟨_⟩
+unfolding testsOf rules factsBy generalOf accountOf standingOf slotOf _⟨_⟩
 general-is s = refl
 
 rules-at : (s : Sheet) (n : ℕ) → keeps s n ≡ getD (generalOn (factsOf s) ++ testsOf s (map forBudget special)) n true
@@ -169,7 +169,7 @@ twice true = refl
 twice false = refl
 
 budget-on : (s : Sheet) → budget s ≡ not (ordinary (factsOf s))
-unfolding factsOf bankingOf accountOf slotOf _⟨_⟩
+unfolding factsBy accountOf slotOf _⟨_⟩
 budget-on s = twice (budget s)
 
 pub keeps-on : (s : Sheet) (n : ℕ) → keeps s n ≡ getD (verdictsOn (factsOf s)) n true
@@ -183,16 +183,16 @@ ordinary-keeps s n b = rules-at s n ∙ beyond (generalOn (factsOf s)) (testsOf 
 
 -- the class
 pub class-on : (s : Sheet) → classOn (factsOf s) ≡ classOf s
-unfolding classOn classOf factsOf bankingOf accountOf slotOf _⟨_⟩
+unfolding classOf factsBy accountOf slotOf _⟨_⟩
 class-on s = refl
 
 pub ordinary-on : (s : Sheet) → ordinary (factsOf s) ≡ not (budget s)
-unfolding factsOf bankingOf accountOf slotOf _⟨_⟩
+unfolding factsBy accountOf slotOf _⟨_⟩
 ordinary-on s = refl
 
 -- a rule is kept by a sheet where it is kept by the outcomes that count
 pub judged-keeps : (s : Sheet) (n : ℕ) → keeps s n ≡ kept (judgedOn (factsOf s)) n
-unfolding kept judgedOn holds
+unfolding kept holds
 judged-keeps s n = go (budget s) refl ∙ ap counting (sym (ordinary-on s))
   where
     counting : Bool → Bool

@@ -11,8 +11,7 @@ use Rattle.texts.specs.Texts.{every, any, are, among}
 use Rattle.texts.proofs.Bools.{both}
 use Rattle.texts.proofs.Every.{every-member}
 use Rattle.sheets.specs.Sheet.{Sheet, slotOf, textOf, _⟨_⟩}
-use Rattle.sheets.specs.Working.Facts.{generalOf, factsOf}
-use Rattle.sheets.proofs.Frames.{factsBy, facts-by}
+use Rattle.sheets.specs.Working.Facts.{generalOf, factsBy}
 use Rattle.rules.specs.Rules.{budget, order, keeps}
 use Rattle.rules.specs.Working.Groups.{readsOf, AlikeIn, AlikeBut, apart, spare}
 use Rattle.rules.proofs.On.{verdictsOn, keeps-on}
@@ -52,7 +51,7 @@ reads-only s t n m a =
   where
     by : (u : Sheet) → keeps u n ≡ verdictBy (seen (readsOf n) (textOf u)) n
     by u =
-        keeps-on u n ∙ ap (λ f. getD (verdictsOn f) n true) (facts-by u)
+        keeps-on u n
         ∙ tabled (verdictBy (textOf u)) (λ (k : ℕ). verdictBy (seen (readsOf k) (textOf u)) k) order n (verdicts-seen (textOf u)) m
 
 -- rules that read none of some slots are kept alike by sheets that differ only there

@@ -6,12 +6,10 @@ use Prim.Native.Nat.{ℕ}
 use Prim.Native.String.{String}
 use lib.ListN.{set, replicate}
 use Rattle.texts.specs.Quoted.{Text, bytes, words}
-use Rattle.texts.specs.Texts.{every, any, same, between, are, among, valueOf, value, number, weighted, _isOneOf_, _beginsOneOf_}
 use Rattle.texts.specs.Answers.{Answer, success, refusal}
-use Rattle.sheets.specs.Sheet.{slotOf, cell, cellText, cellOk, cellOf, textOf, slotOk, _⟨_⟩, given}
-use Rattle.sheets.specs.Forms.{checkDigit, person, document, snilsCheck, snils, pension, leap, monthDays, gregorian, date}
-use Rattle.rules.specs.Rules.{classOf, firstBlank, rules, testOf, fieldOf, keeps, firstNot}
-use Rattle.rules.specs.Verdicts.{checkTests, checked}
+use Rattle.sheets.specs.Sheet.{slotOf, cell}
+use Rattle.rules.specs.Verdicts.{checked}
+use Rattle.rules.specs.Working.Computing.{rulesComputing}
 
 infix 20 _≔_
 -- the text of a field
@@ -58,7 +56,7 @@ unfoldable pub sheetWith : List Change → List ℕ
 sheetWith cs = sheetOf (changed s cs)
 
 unfoldable pub answer : List Change → Answer
-unfolding _≔_ changed sheetOf s accepted broken every any same between are among valueOf value number _isOneOf_ _beginsOneOf_ slotOf cell cellText cellOk cellOf textOf slotOk _⟨_⟩ person document leap monthDays gregorian snilsCheck snils pension date checkDigit classOf given firstBlank rules testOf fieldOf keeps firstNot checkTests checked sheetWith weighted
+unfolding _≔_ changed sheetOf s accepted broken sheetWith rulesComputing
 answer cs = checked (sheetWith cs)
 
 -- each of a table's sheets, differences from S, has its answer

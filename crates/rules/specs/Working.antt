@@ -1,3 +1,4 @@
 -- How the code works: a reader of the promises needs none of this.
 pub mod Tests
 pub mod Groups
+pub mod Computing

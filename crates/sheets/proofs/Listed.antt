@@ -76,39 +76,6 @@ day-entry (suc zero) = refl
 day-entry (suc (suc k)) =
     simp (le-leb 2 (suc (suc k)) (omega arith), ne-eqb (suc (suc k)) 0 (λ e. omega arith), ne-eqb (suc (suc k)) 1 (λ e. omega arith))
 
-module _ (f : Facts) (k : ℕ) where
-  pub status-listed : (r : Standing) → r ≡ standingOf (getD statusTexts k []) → f .status .blank ≡ true → r ≡ statusAt f k
-  unfolding statusAt
-  status-listed r h b = cc
-
-  pub basis-listed : (r : Basis) → r ≡ basisOf (getD basisTexts k []) → f .basis .blank ≡ true → r ≡ basisAt f k
-  unfolding basisAt
-  basis-listed r h b = cc
-
-  pub document-listed : (r : Document) → r ≡ documentOf (getD zeroTexts k []) → f .document .blank ≡ true → r ≡ documentAt f k
-  unfolding documentAt
-  document-listed r h b = cc
-
-  pub day-listed : (r : Day) → r ≡ dayOf (getD zeroTexts k []) → f .day .blank ≡ true → r ≡ dayAt f k
-  unfolding dayAt
-  day-listed r h b = cc
-
-  pub status-given : f .status .blank ≡ false → f .status ≡ statusAt f k
-  unfolding statusAt
-  status-given b = cc
-
-  pub basis-given : f .basis .blank ≡ false → f .basis ≡ basisAt f k
-  unfolding basisAt
-  basis-given b = cc
-
-  pub document-given : f .document .blank ≡ false → f .document ≡ documentAt f k
-  unfolding documentAt
-  document-given b = cc
-
-  pub day-given : f .day .blank ≡ false → f .day ≡ dayAt f k
-  unfolding dayAt
-  day-given b = cc
-
 -- ---- rows: the blank past the end; a status by its number; "0", "00", and a letter pair
 
 pub past-row : (texts : List Text) (n k : ℕ) → length texts ≡ n → n ≤ k → 0 ∷ 0 ∷ 0 ∷ [] ≡ rowOf (getD texts k [])

@@ -17,7 +17,7 @@ use Rattle.texts.proofs.Arms.{AnyOf, arm, outside}
 use Rattle.sheets.specs.Sheet.{cellText, textOf}
 use Rattle.sheets.specs.Forms.{foreignCode, weights10, checkDigit, inn10, inn12, digits5, digits10, digits12, digitOrCapital, kpp, person, document, snilsBound, snilsCheck, snils, pension, leap, monthDays, gregorian, date}
 use Rattle.sheets.specs.Lists.{bankA, banksB, accountB, accountsB, account03100, account03212, statuses, personTypes, numbersOf, zeroTexts}
-use Rattle.sheets.specs.Working.Facts.{payerOf, isA, isB, accountOf, groupsBy, standingBy, standingOf, wantedBy, basisOf, documentOf, dayOf, bankingOf, partiesOf, classifiersOf, factsOf, Read}
+use Rattle.sheets.specs.Working.Facts.{payerOf, isA, isB, accountOf, groupsBy, standingBy, standingOf, wantedBy, basisOf, documentOf, dayOf, factsBy, factsOf, Read}
 use Rattle.sheets.specs.declared.forms.Wanted.{Wanted}
 use Rattle.sheets.specs.declared.forms.Wanted.the-variants.{Any, Inn, Ten, Twelve, Zero}
 use Rattle.sheets.specs.declared.facts.Groups.{Groups}
@@ -200,10 +200,10 @@ pub facts-other : (s : List ℕ) (r : Facts) → (length s ≡ 390 → ⊥) → 
 facts-other s r l e = absurd (l e)
 
 pub facts-is : (s : List ℕ) (h : Banking) (d : Parties) (r : Classifiers) (a : Standing) (b : Basis) (c : Document) (y : Day) (t u v w : Text)
-    → h ≡ bankingOf s → d ≡ partiesOf s → r ≡ classifiersOf s → t ≡ textOf s 6 → a ≡ standingOf t → u ≡ textOf s 11 → b ≡ basisOf u
+    → h ≡ factsOf s .banking → d ≡ factsOf s .parties → r ≡ factsOf s .classifiers → t ≡ textOf s 6 → a ≡ standingOf t → u ≡ textOf s 11 → b ≡ basisOf u
     → v ≡ textOf s 13 → c ≡ documentOf v → w ≡ textOf s 14 → y ≡ dayOf w
     → length s ≡ 390 → Read (record { banking = h; parties = d; classifiers = r; status = a; basis = b; document = c; day = y }) s
-unfolding factsOf
+unfolding factsBy
 facts-is s h d r a b c y t u v w eh ed er et ea eu eb ev ec ew ey l =
     let fa : a ≡ standingOf (textOf s 6) = ea ∙ ap standingOf et in
     let fb : b ≡ basisOf (textOf s 11) = eb ∙ ap basisOf eu in

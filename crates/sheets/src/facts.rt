@@ -1,10 +1,12 @@
 // What the rules ask of a sheet, found once: each field's text is read into a few facts, and a rule is a test of facts.
 ghost use mathlib.Core.Path.{_≡_};
+ghost use mathlib.Core.Bool.{not};
+ghost use Prim.Native.Nat.{ℕ};
 ghost use lib.ListN.{length};
-ghost use Rattle.texts.specs.Texts.{every, between, number, _is_};
-ghost use Rattle.sheets.specs.Sheet.{given};
+ghost use Rattle.texts.specs.Texts.{every, between, blank, number, _is_};
+ghost use Rattle.sheets.specs.Sheet.{given, textOf};
 ghost use Rattle.sheets.specs.Forms.{inn10, digits10};
-ghost use Rattle.sheets.specs.Working.Facts.{generalOf, isA, isB, accountOf, codeOf, payerOf, formOf, groupsBy, standingBy, standingOf, basisOf, documentOf, dayOf, fixed, bankingOf, partiesOf, classifiersOf, Read};
+ghost use Rattle.sheets.specs.Working.Facts.{generalOf, isA, isB, accountOf, codeOf, payerOf, formOf, groupsBy, standingBy, standingOf, basisOf, documentOf, dayOf, fixed, factsOf, Read};
 use crate::entries::document_entry;
 use crate::forms::Status;
 use crate::forms::Wanted;
@@ -382,7 +384,7 @@ pub fn is_given(sheet: &[u8], slot: u8) -> bool
 }
 
 fn all_given(sheet: &[u8]) -> bool
-    ensures { λ r. ⌜ r ≡ every (given (now (sheet .entry))) fixed ⌝ }
+    ensures { λ r. ⌜ r ≡ every (λ (k : ℕ). not (blank (textOf (now (sheet .entry)) k))) fixed ⌝ }
 {
     is_given(sheet, 3)
         & (is_given(sheet, 4)
@@ -394,7 +396,7 @@ fn all_given(sheet: &[u8]) -> bool
 }
 
 fn banking_of(sheet: &[u8]) -> Banking
-    ensures { λ r. ⌜ r ≡ bankingOf (now (sheet .entry)) ⌝ }
+    ensures { λ r. ⌜ r ≡ factsOf (now (sheet .entry)) .banking ⌝ }
 {
     let bik = text(sheet, 0);
     let bank = text(sheet, 1);
@@ -410,7 +412,7 @@ fn banking_of(sheet: &[u8]) -> Banking
 }
 
 fn parties_of(sheet: &[u8]) -> Parties
-    ensures { λ r. ⌜ r ≡ partiesOf (now (sheet .entry)) ⌝ }
+    ensures { λ r. ⌜ r ≡ factsOf (now (sheet .entry)) .parties ⌝ }
 {
     let code = code_of(text(sheet, 3));
     let payer = payer_of(text(sheet, 4));
@@ -428,7 +430,7 @@ fn parties_of(sheet: &[u8]) -> Parties
 }
 
 fn classifiers_of(sheet: &[u8]) -> Classifiers
-    ensures { λ r. ⌜ r ≡ classifiersOf (now (sheet .entry)) ⌝ }
+    ensures { λ r. ⌜ r ≡ factsOf (now (sheet .entry)) .classifiers ⌝ }
 {
     let kbk = text(sheet, 9);
     let oktmo = text(sheet, 10);

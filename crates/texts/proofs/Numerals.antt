@@ -7,9 +7,9 @@ use native.Mathlib.Omega.{arith}
 use borrow.Author.Tests.{eqb-true, eqb-false, eq-eqb, ne-eqb, le-leb, lt-leb, leb-true, not-true, not-false}
 use borrow.Author.Needs.{needs}
 use lib.Dec.{eqb, leb}
-use lib.ListN.{length, getD, take, drop, drop-of-length-le}
+use lib.ListN.{length, getD, take, drop, drop-of-length-le, length-take}
 use lib.Pow.{pow-add}
-use native.Mathlib.Nat.{mul-le-mul}
+use native.Mathlib.Nat.{mul-le-mul, pow-le-pow-right}
 use lib.Seq.{drop-cons, drop-nil}
 use native.Mathlib.Numerals.{add-one}
 use Rattle.texts.proofs.Bools.{both}
@@ -63,19 +63,9 @@ value-low b h = simp (lt-leb 48 b h)
 ten-more : (i : ℕ) → 10 ^ (i + 1) ≡ 10 ^ i * 10
 ten-more i = pow-add 10 i 1
 
-ten-up : (i k : ℕ) → 10 ^ i ≤ 10 ^ (i + k)
-ten-up i zero =
-    let e : i + 0 ≡ i = omega arith in
-    rw e (omega arith)
-ten-up i (suc k) =
-    let e : i + suc k ≡ i + k + 1 = omega arith in
-    rw (e, ten-more (i + k)) (omega (arith, ten-up i k))
-
 -- so many digits fit 64 bits
 ten-most : (i : ℕ) → i ≤ 17 → 10 ^ i ≤ 10 ^ 17
-ten-most i h =
-    let e : i + (17 - i) ≡ 17 = omega arith in
-    subst (λ (k : ℕ). 10 ^ i ≤ 10 ^ k) e (ten-up i (17 - i))
+ten-most i h = pow-le-pow-right (omega arith) h
 
 module _ (t : List ℕ) (i n : ℕ) (s : length t ≤ 18) (l : n < 10 ^ i) (h : i < length t) where
   pub value-shifts : n * 10 < 2 ^ 64
@@ -120,14 +110,9 @@ weigh-fits w y h k = mul-le-mul h k
 
 -- ---- weighted_sum: the sum up to i, and what is left from i
 
-take-short : (n : ℕ) (l : List ℕ) → length (take n l) ≤ n
-take-short zero l = omega arith
-take-short (suc n) [] = omega arith
-take-short (suc n) (x ∷ xs) = omega (arith, take-short n xs)
-
 pub weights-short : (w l : List ℕ) → w ≡ between l 0 25 → length w ≤ 25
 unfolding between
-weights-short w l e = rw e (take-short 25 l)
+weights-short w l e = rw (e, length-take 25 l) (omega arith)
 
 weighted-none : (ws : List ℕ) → weighted ws [] ≡ 0
 unfolding weighted

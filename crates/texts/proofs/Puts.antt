@@ -1,18 +1,23 @@
 -- Laws of `put`: what stands before, in and behind the part that was put in. Assumes nothing.
 use mathlib.Core.Path.{_≡_, refl, sym, ap, _∙_}
 use mathlib.Core.List.{List, [], _∷_, _++_, append-assoc, append-nil}
+use mathlib.Core.Logic.{_⊎_, inl, inr}
 use Prim.Native.Nat.{ℕ, _+_, _-_, _<_, _≤_}
 use native.Mathlib.Nat.{add-assoc, zero-add, le-refl}
 use native.Mathlib.Omega.{arith}
 use borrow.Author.Tests.{le-leb, lt-leb}
 use borrow.Rule.Slice.PartMut.{putMid}
 use lib.ListN.{length, take, drop, length-append, length-drop, drop-of-length-le}
-use lib.Seq.{take-at, drop-at, take-length, paste, length-take-le, drop-drop, take-append-le, take-take}
+use lib.Seq.{take-at, drop-at, take-length, paste, length-take-le, drop-drop, take-append-le, take-take, take-add}
 use Rattle.texts.specs.Buffers.{put, putAt}
 
 -- past the end nothing is left (`drop-of-length-le`, with its place written)
 pub drop-end : (n : ℕ) (l : List ℕ) → length l ≤ n → drop n l ≡ []
 drop-end n l h = drop-of-length-le l h
+
+-- a part is what a longer front ends in
+part-front : (n a : ℕ) (l : List ℕ) → a ≤ length l → take n (drop a l) ≡ drop a (take (a + n) l)
+part-front n a l h = sym (ap (drop a) (take-add a n l) ∙ drop-at (take a l) (take n (drop a l)) a (length-take-le a l h))
 
 module _ (d : List ℕ) (at : ℕ) (s : List ℕ) where
   -- what a loop has pasted in at its end
@@ -55,6 +60,12 @@ module _ (d : List ℕ) (at : ℕ) (s : List ℕ) where
       ap (λ (x : List ℕ). take n (drop at x)) (append-assoc (take at d) s (drop (at + length s) d))
       ∙ ap (take n) (drop-at (take at d) (s ++ drop (at + length s) d) at (length-take-le at d l))
       ∙ take-at s (drop (at + length s) d) n e
+
+  -- a part that ends before what was put in, or begins behind it
+  pub part-put : (a n : ℕ) → (a + n ≤ at) ⊎ (at + length s ≤ a) → at + length s ≤ length d → take n (drop a (put d at s)) ≡ take n (drop a d)
+  part-put a n (inl h) l =
+      part-front n a (put d at s) (omega (arith, length-put l)) ∙ ap (drop a) (take-put (a + n) h (omega arith)) ∙ sym (part-front n a d (omega arith))
+  part-put a n (inr h) l = ap (take n) (drop-put a h (omega arith))
 
   -- what is put in behind what was put in
   pub put-put : (t : List ℕ) (n : ℕ) → at + length s ≡ n → n + length t ≤ length d → put (put d at s) n t ≡ put d at (s ++ t)

@@ -3,3 +3,4 @@ pub mod Texts
 pub mod Numbers
 pub mod Buffers
 pub mod Answers
+pub mod Working

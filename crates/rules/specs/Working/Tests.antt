@@ -17,7 +17,7 @@ use Rattle.sheets.specs.declared.facts.Facts.{Facts}
 abbrev pub ordinary : Facts → Bool
 ordinary f = not (f .banking .account .a || f .banking .account .b)
 
-unfoldable pub classOn : Facts → Class
+abbrev pub classOn : Facts → Class
 classOn f = cond (f .banking .account .a) A (cond (f .banking .account .b) B O)
 
 -- 60 has the form that the status wants
@@ -151,7 +151,7 @@ abbrev pub outcomesOn : Facts → List Bool
 outcomesOn f = generalOn f ++ specialOn f
 
 -- those that count: the rest is for classes A and B
-unfoldable pub judgedOn : Facts → List Bool
+abbrev pub judgedOn : Facts → List Bool
 judgedOn f = cond (ordinary f) (generalOn f) (outcomesOn f)
 
 -- the rule with a number is kept, by its outcome; one without an outcome is

@@ -25,16 +25,16 @@ unfoldable pub filledAt : Sheet → ℕ → List ℕ → Sheet
 filledAt s k x = cond (blank (textOf s k)) (putAt s (k * 26) x) s
 
 -- the facts of a field with entry k of its list, where the field is blank
-unfoldable pub statusAt : Facts → ℕ → Standing
+abbrev pub statusAt : Facts → ℕ → Standing
 statusAt f k = cond (f .status .blank) (standingOf (getD statusTexts k [])) (f .status)
 
-unfoldable pub basisAt : Facts → ℕ → Basis
+abbrev pub basisAt : Facts → ℕ → Basis
 basisAt f k = cond (f .basis .blank) (basisOf (getD basisTexts k [])) (f .basis)
 
-unfoldable pub documentAt : Facts → ℕ → Document
+abbrev pub documentAt : Facts → ℕ → Document
 documentAt f k = cond (f .document .blank) (documentOf (getD zeroTexts k [])) (f .document)
 
-unfoldable pub dayAt : Facts → ℕ → Day
+abbrev pub dayAt : Facts → ℕ → Day
 dayAt f k = cond (f .day .blank) (dayOf (getD zeroTexts k [])) (f .day)
 
 abbrev pub withAll : Facts → Standing → Basis → Document → Day → Facts

@@ -1,7 +1,7 @@
 -- What the rules ask of a sheet, found once: each field's text is read into facts, and a rule is a test of facts. A reader
 -- of the promise needs none of this; On, in the proofs of rules, shows that the tests on facts are the rules. Assumes nothing.
 use mathlib.Core.Path.{_≡_}
-use mathlib.Core.Bool.{Bool, cond, _&&_, _||_}
+use mathlib.Core.Bool.{Bool, not, cond, _&&_, _||_}
 use mathlib.Core.List.{List, [], _∷_}
 use Prim.Native.Nat.{ℕ}
 use lib.Dec.{eqb}
@@ -127,43 +127,38 @@ dayOf t = record { blank = blank t; zero = t is "0"; zeros = t is "00"; date = d
 abbrev pub fixed : List ℕ
 fixed = 3 ∷ 4 ∷ 5 ∷ 7 ∷ 8 ∷ 9 ∷ 10 ∷ 12 ∷ []
 
-unfoldable pub bankingOf : Sheet → Banking
-bankingOf s =
+-- by the texts of the slots
+unfoldable pub factsBy : (ℕ → Text) → Facts
+factsBy T =
     record {
-      general = generalOf (textOf s 0) (textOf s 1) (textOf s 2);
-      account = accountOf (textOf s 0) (textOf s 1) (textOf s 2);
-      given = every (given s) fixed;
+      banking =
+          record {
+            general = generalOf (T 0) (T 1) (T 2);
+            account = accountOf (T 0) (T 1) (T 2);
+            given = every (λ (k : ℕ). not (blank (T k))) fixed;
+          };
+      parties =
+          record {
+            code = codeOf (T 3);
+            payer = payerOf (T 4);
+            payee = inn10 (T 5);
+            kpp = formOf (T 7) (kpp (T 7));
+            payeekpp = kpp (T 8);
+          };
+      classifiers =
+          record {
+            kbk = formOf (T 9) (kbk (T 9));
+            oktmo = formOf (T 10) (oktmo (T 10));
+            office = formOf (T 12) (office (T 12));
+          };
+      status = standingOf (T 6);
+      basis = basisOf (T 11);
+      document = documentOf (T 13);
+      day = dayOf (T 14);
     }
 
-unfoldable pub partiesOf : Sheet → Parties
-partiesOf s =
-    record {
-      code = codeOf (textOf s 3);
-      payer = payerOf (textOf s 4);
-      payee = inn10 (textOf s 5);
-      kpp = formOf (textOf s 7) (kpp (textOf s 7));
-      payeekpp = kpp (textOf s 8);
-    }
-
-unfoldable pub classifiersOf : Sheet → Classifiers
-classifiersOf s =
-    record {
-      kbk = formOf (textOf s 9) (kbk (textOf s 9));
-      oktmo = formOf (textOf s 10) (oktmo (textOf s 10));
-      office = formOf (textOf s 12) (office (textOf s 12));
-    }
-
-unfoldable pub factsOf : Sheet → Facts
-factsOf s =
-    record {
-      banking = bankingOf s;
-      parties = partiesOf s;
-      classifiers = classifiersOf s;
-      status = standingOf (textOf s 6);
-      basis = basisOf (textOf s 11);
-      document = documentOf (textOf s 13);
-      day = dayOf (textOf s 14);
-    }
+abbrev pub factsOf : Sheet → Facts
+factsOf s = factsBy (textOf s)
 
 -- f is what was read of the sheet s. A crate above sees facts by this alone.
 pub record Read (f : Facts) (s : Sheet) : Type 0 where

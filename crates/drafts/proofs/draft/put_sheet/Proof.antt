@@ -1,7 +1,6 @@
-use Rattle.drafts.proofs.DraftPromises.{sheets, cells-more}
+use Rattle.drafts.proofs.DraftPromises.{sheets, cells-more, sheet-other}
 use native.Mathlib.Omega.{arith}
 use Prim.Native.Nat.{_≤_, _-_}
-use lib.ListN.{length, replicate}
 use mathlib.Core.Path.{_≡_}
 use Rattle.drafts.specs.Draft.{cells}
 use Rattle.texts.specs.Buffers.{put}
@@ -15,4 +14,4 @@ abbrev μ-loop : tie.MeasureT-loop
 μ-loop draft sheet₀ slot₀ sheet slot = 15 - slot
 
 pub put-sheet-spec : {M : Type 1} → statement M
-put-sheet-spec = tie.close (tie.spec Inv-loop μ-loop (λ c. search sheets) (λ c. search sheets) (λ c. search sheets) (λ c κs. search sheets) (λ c. search sheets) (λ c κs. search sheets) (λ c κs. search sheets) (λ c κs. search sheets) (λ c. search sheets) (λ c. search sheets) (λ c. (omega arith, cells-more _ _ (c .before .before .before .before .before .before .before .before .before .before .if1 .left) (c .before .before .before .before .before .before .before .before .before .if2 .left) _ _ (c .before .before .before .before .before .before .before .before .loop .inv .1) _ _ _ _ (c .before .before .before .before .before .before .before .loop-test .taken) (c .before .before .before .before .slot-in .ensures) (c .before .before .before .slot-cell .ensures) (c .before .before .before .before .before .wide .ensures) (c .before .before .put .ensures))) (λ c. search sheets) (λ c. search sheets))
+put-sheet-spec = tie.close (tie.spec Inv-loop μ-loop (λ c. sheet-other _ _ (λ p. c .if1 .taken (p .0))) (λ c. sheet-other _ _ (λ p. c .if2 .taken (p .1))) (λ c. search sheets) (λ c κs. search sheets) (λ c. search sheets) (λ c κs. search sheets) (λ c κs. search sheets) (λ c κs. search sheets) (λ c. search sheets) (λ c. search sheets) (λ c. (omega arith, cells-more _ _ (c .before .before .before .before .before .before .before .before .before .before .if1 .left) (c .before .before .before .before .before .before .before .before .before .if2 .left) _ _ (c .before .before .before .before .before .before .before .before .loop .inv .1) _ _ _ _ (c .before .before .before .before .before .before .before .loop-test .taken) (c .before .before .before .before .slot-in .ensures) (c .before .before .before .slot-cell .ensures) (c .before .before .before .before .before .wide .ensures) (c .before .before .put .ensures))) (λ c. search sheets) (λ c. search sheets))

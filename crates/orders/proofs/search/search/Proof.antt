@@ -1,5 +1,5 @@
 use borrow.Author.Needs.{needs}
-use Rattle.orders.proofs.Hopeless.{none-passes}
+use Rattle.orders.proofs.Passing.{none-passes}
 use Rattle.orders.proofs.search.search.Statement.{statement}
 use Rattle.orders.proofs.search.search.Tie as tie
 

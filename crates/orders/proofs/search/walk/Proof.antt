@@ -1,22 +1,21 @@
 -- Each loop's invariant: what looking through the level's picks finds is what looking through those that are left finds, of every sheet
 -- that the facts were read of. Assumes nothing.
 use mathlib.Core.Path.{_≡_, refl, sym, ap, _∙_}
-use mathlib.Core.Logic.{⊎-elim, inl, inr}
-use mathlib.Core.Bool.{Bool, false}
-use mathlib.Core.List.{List, [], _∷_, map}
+use mathlib.Core.Logic.{⊎-elim}
+use mathlib.Core.Bool.{Bool, false, cond}
+use mathlib.Core.List.{List, [], _∷_}
 use Prim.Native.Nat.{ℕ, _+_, _-_, _*_, _≤_}
 use native.Mathlib.Omega.{arith}
 use borrow.Author.Needs.{needs}
-use Rattle.texts.specs.Texts.{blank}
-use Rattle.sheets.specs.Sheet.{Sheet, textOf}
+use Rattle.sheets.specs.Sheet.{Sheet}
 use Rattle.sheets.specs.Lists.{statusCount, basisCount, zeroCount}
 use Rattle.sheets.specs.declared.facts.Facts.{Facts}
-use Rattle.orders.specs.Working.Search.{passesAt, width, Payment}
+use Rattle.orders.specs.Fillings.{look}
+use Rattle.orders.specs.Working.Search.{passesAt, width, firstPick, Payment}
 use Rattle.orders.specs.Working.Found.{foundOf}
-use Rattle.orders.specs.declared.search.Pick.{Pick}
 use Rattle.orders.specs.declared.search.Found.the-variants.{Place, Nothing}
 use Rattle.orders.proofs.Levels.{Picks, Left, left-none, turn, hit, all, one-passed, one-hit}
-use Rattle.orders.proofs.Passing.{passes-is, R1, R2, R3, R4, first-hit, first-none, Outcome, at-place, at-none}
+use Rattle.orders.proofs.Passing.{passes-is, rest, first-pick}
 use Rattle.orders.proofs.search.walk.Statement.{statement}
 use Rattle.orders.proofs.search.walk.Tie as tie
 
@@ -25,43 +24,43 @@ Lefts f h R N n₀ k n = (u : Sheet) → Payment f u → Left (passesAt u) h R N
 
 abbrev Inv-days : tie.InvT-days
 Inv-days f count₀ pick₀ found₀ kept n101 n106 n108 n109 a f1 kept1 b f2 kept2 c f3 kept3 d₀ count pick found d =
-    (d ≤ n109) × (count ≤ a * 48 + b * 4 + c * 2 + d) × Lefts f (λ (t : List ℕ). a ∷ b ∷ c ∷ t) R4 n109 count₀ d count × (found ≡ false) × (n109 ≤ zeroCount)
+    (d ≤ n109) × (count ≤ a * 48 + b * 4 + c * 2 + d) × Lefts f (λ (t : List ℕ). a ∷ b ∷ c ∷ t) (rest []) n109 count₀ d count × (found ≡ false) × (n109 ≤ zeroCount)
 
 abbrev μ-days : tie.MeasureT-days
 μ-days f count₀ pick₀ found₀ kept n101 n106 n108 n109 a f1 kept1 b f2 kept2 c f3 kept3 d₀ count pick found d = n109 - d
 
 abbrev Inv-documents : tie.InvT-documents
 Inv-documents f count₀ pick₀ found₀ kept n101 n106 n108 n109 a f1 kept1 b f2 kept2 c₀ count pick found c =
-    (c ≤ n108) × (count ≤ a * 48 + b * 4 + c * 2) × Lefts f (λ (t : List ℕ). a ∷ b ∷ t) (R3 n109) n108 count₀ c count × (found ≡ false) × (n108 ≤ zeroCount)
+    (c ≤ n108) × (count ≤ a * 48 + b * 4 + c * 2) × Lefts f (λ (t : List ℕ). a ∷ b ∷ t) (rest (n109 ∷ [])) n108 count₀ c count × (found ≡ false) × (n108 ≤ zeroCount)
 
 abbrev μ-documents : tie.MeasureT-documents
 μ-documents f count₀ pick₀ found₀ kept n101 n106 n108 n109 a f1 kept1 b f2 kept2 c₀ count pick found c = n108 - c
 
 abbrev Inv-bases : tie.InvT-bases
 Inv-bases f count₀ pick₀ found₀ kept n101 n106 n108 n109 a f1 kept1 b₀ count pick found b =
-    (b ≤ n106) × (count ≤ a * 48 + b * 4) × Lefts f (λ (t : List ℕ). a ∷ t) (R2 n108 n109) n106 count₀ b count × (found ≡ false) × (n106 ≤ basisCount)
+    (b ≤ n106) × (count ≤ a * 48 + b * 4) × Lefts f (λ (t : List ℕ). a ∷ t) (rest (n108 ∷ n109 ∷ [])) n106 count₀ b count × (found ≡ false) × (n106 ≤ basisCount)
 
 abbrev μ-bases : tie.MeasureT-bases
 μ-bases f count₀ pick₀ found₀ kept n101 n106 n108 n109 a f1 kept1 b₀ count pick found b = n106 - b
 
 abbrev Inv-statuses : tie.InvT-statuses
 Inv-statuses f count₀ pick₀ found₀ kept n101 n106 n108 n109 a₀ count pick found a =
-    (a ≤ n101) × (count ≤ a * 48) × Lefts f (λ (t : List ℕ). t) (R1 n106 n108 n109) n101 count₀ a count × (found ≡ false) × (n101 ≤ statusCount)
+    (a ≤ n101) × (count ≤ a * 48) × Lefts f (λ (t : List ℕ). t) (rest (n106 ∷ n108 ∷ n109 ∷ [])) n101 count₀ a count × (found ≡ false) × (n101 ≤ statusCount)
 
 abbrev μ-statuses : tie.MeasureT-statuses
 μ-statuses f count₀ pick₀ found₀ kept n101 n106 n108 n109 a₀ count pick found a = n101 - a
 
 statuses-holds : tie.Need-statuses-holds Inv-days μ-days Inv-documents μ-documents Inv-bases μ-bases Inv-statuses μ-statuses
-statuses-holds c = (omega arith, omega arith, λ u o. left-none _ _ _ _ _, refl, c .before .before .before .before .before .before .width-of .ensures .1)
+statuses-holds c = (omega arith, omega arith, λ u o. left-none, refl, c .before .before .before .before .before .before .width-of .ensures .1)
 
 bases-holds : tie.Need-bases-holds Inv-days μ-days Inv-documents μ-documents Inv-bases μ-bases Inv-statuses μ-statuses
-bases-holds c = (omega arith, omega arith, λ u o. left-none _ _ _ _ _, c .before .before .before .statuses .inv .3, c .before .before .before .before .before .before .before .before .width-of2 .ensures .1)
+bases-holds c = (omega arith, omega arith, λ u o. left-none, c .before .before .before .statuses .inv .3, c .before .before .before .before .before .before .before .before .width-of2 .ensures .1)
 
 documents-holds : tie.Need-documents-holds Inv-days μ-days Inv-documents μ-documents Inv-bases μ-bases Inv-statuses μ-statuses
-documents-holds c = (omega arith, omega arith, λ u o. left-none _ _ _ _ _, c .before .before .before .bases .inv .3, c .before .before .before .before .before .before .before .before .before .before .width-of3 .ensures .1)
+documents-holds c = (omega arith, omega arith, λ u o. left-none, c .before .before .before .bases .inv .3, c .before .before .before .before .before .before .before .before .before .before .width-of3 .ensures .1)
 
 days-holds : tie.Need-days-holds Inv-days μ-days Inv-documents μ-documents Inv-bases μ-bases Inv-statuses μ-statuses
-days-holds c = (omega arith, omega arith, λ u o. left-none _ _ _ _ _, c .before .before .before .documents .inv .3, c .before .before .before .before .before .before .before .before .before .before .before .before .width-of4 .ensures .1)
+days-holds c = (omega arith, omega arith, λ u o. left-none, c .before .before .before .documents .inv .3, c .before .before .before .before .before .before .before .before .before .before .before .before .width-of4 .ensures .1)
 
 days-again : tie.Need-days-again Inv-days μ-days Inv-documents μ-documents Inv-bases μ-bases Inv-statuses μ-statuses
 days-again c =
@@ -81,8 +80,7 @@ days-again c =
     (l .before .before .fill-document .ensures) (l .before .kept-document .ensures) (p .before .fill-day .ensures) (p .kept-day .ensures) in (
       omega arith,
       omega arith,
-      λ u o. turn (passesAt u) (λ (t : List ℕ). a ∷ b ∷ k ∷ t) R4 (w .width-of4 .result) _ d (l .days .count) (l .days .inv .2 u o) (l .days .count + 1) (p .before .before .days-test .taken)
-          (one-passed (passesAt u) (l .days .count) (a ∷ b ∷ k ∷ d ∷ []) (sym (ok u o) ∙ c .if1 .left)),
+      λ u o. turn (l .days .inv .2 u o) (p .before .before .days-test .taken) (one-passed (passesAt u) (l .days .count) (a ∷ b ∷ k ∷ d ∷ []) (sym (ok u o) ∙ c .if1 .left)),
       l .days .inv .3,
       l .days .inv .4,
     )
@@ -90,17 +88,11 @@ days-again c =
 documents-again : tie.Need-documents-again Inv-days μ-days Inv-documents μ-documents Inv-bases μ-bases Inv-statuses μ-statuses
 documents-again c =
     let i = c .before .days in
-    let l = c .before .before .before .before .before in
-    let v = l .documents in
-    let lb = l .before .before .before .before in
-    let ls = lb .before .before .before .before in
-    let w = ls .before in
-    let a = ls .statuses .a in
-    let b = lb .bases .b in (
-      omega (arith, c .before .before .before .before .documents-test .taken),
+    let v = c .before .before .before .before .before .documents in
+    let more = c .before .before .before .before .documents-test .taken in (
+      omega (arith, more),
       omega (arith, i .inv .0, i .inv .1, i .inv .4),
-      λ u o. turn (passesAt u) (λ (t : List ℕ). a ∷ b ∷ t) (R3 (w .width-of4 .result)) (w .before .before .width-of3 .result) _ (v .c) (v .count) (v .inv .2 u o) (i .count) (c .before .before .before .before .documents-test .taken)
-          (all (passesAt u) (λ (t : List ℕ). a ∷ b ∷ v .c ∷ t) R4 (w .width-of4 .result) _ (i .d) (i .count) (i .inv .2 u o) (c .days-test .left)),
+      λ u o. turn (v .inv .2 u o) more (all (i .inv .2 u o) (c .days-test .left)),
       i .inv .3,
       v .inv .4,
     )
@@ -108,15 +100,11 @@ documents-again c =
 bases-again : tie.Need-bases-again Inv-days μ-days Inv-documents μ-documents Inv-bases μ-bases Inv-statuses μ-statuses
 bases-again c =
     let i = c .before .documents in
-    let l = c .before .before .before .before .before in
-    let v = l .bases in
-    let ls = l .before .before .before .before in
-    let w = ls .before in
-    let a = ls .statuses .a in (
-      omega (arith, c .before .before .before .before .bases-test .taken),
+    let v = c .before .before .before .before .before .bases in
+    let more = c .before .before .before .before .bases-test .taken in (
+      omega (arith, more),
       omega (arith, i .inv .0, i .inv .1, i .inv .4),
-      λ u o. turn (passesAt u) (λ (t : List ℕ). a ∷ t) (R2 (w .before .before .width-of3 .result) (w .width-of4 .result)) (w .before .before .before .before .width-of2 .result) _ (v .b) (v .count) (v .inv .2 u o) (i .count) (c .before .before .before .before .bases-test .taken)
-          (all (passesAt u) (λ (t : List ℕ). a ∷ v .b ∷ t) (R3 (w .width-of4 .result)) (w .before .before .width-of3 .result) _ (i .c) (i .count) (i .inv .2 u o) (c .documents-test .left)),
+      λ u o. turn (v .inv .2 u o) more (all (i .inv .2 u o) (c .documents-test .left)),
       i .inv .3,
       v .inv .4,
     )
@@ -124,62 +112,47 @@ bases-again c =
 statuses-again : tie.Need-statuses-again Inv-days μ-days Inv-documents μ-documents Inv-bases μ-bases Inv-statuses μ-statuses
 statuses-again c =
     let i = c .before .bases in
-    let l = c .before .before .before .before .before in
-    let v = l .statuses in
-    let w = l .before in (
-      omega (arith, c .before .before .before .before .statuses-test .taken),
+    let v = c .before .before .before .before .before .statuses in
+    let more = c .before .before .before .before .statuses-test .taken in (
+      omega (arith, more),
       omega (arith, i .inv .0, i .inv .1, i .inv .4),
-      λ u o. turn (passesAt u) (λ (t : List ℕ). t) (R1 (w .before .before .before .before .width-of2 .result) (w .before .before .width-of3 .result) (w .width-of4 .result)) (w .before .before .before .before .before .before .width-of .result) _ (v .a) (v .count) (v .inv .2 u o) (i .count) (c .before .before .before .before .statuses-test .taken)
-          (all (passesAt u) (λ (t : List ℕ). v .a ∷ t) (R2 (w .before .before .width-of3 .result) (w .width-of4 .result)) (w .before .before .before .before .width-of2 .result) _ (i .b) (i .count) (i .inv .2 u o) (c .bases-test .left)),
+      λ u o. turn (v .inv .2 u o) more (all (i .inv .2 u o) (c .bases-test .left)),
       i .inv .3,
       v .inv .4,
     )
 
 -- where the loops have been left: at the end of the outermost, or by the label, through the four levels
 outcome : (c : tie.Left-statuses Inv-days μ-days Inv-documents μ-documents Inv-bases μ-bases Inv-statuses μ-statuses)
-    → Outcome (c .before .before .before .before .before .before .before .before .before .before .before .args .f) (c .statuses-test .pick) (c .statuses-test .count) (c .statuses-test .found)
-outcome c =
+    → (u : Sheet) → Payment (c .before .before .before .before .before .before .before .before .before .before .before .args .f) u
+    → cond (c .statuses-test .found) (Place (c .statuses-test .count) (c .statuses-test .pick)) (Nothing (c .statuses-test .count)) ≡ foundOf (firstPick u)
+unfolding look
+outcome c u o =
     let v = c .before .statuses in
     let w = c .before .before in
-    let n101 = (w .before .before .before .before .before .before .width-of .result) in
-    let n106 = (w .before .before .before .before .width-of2 .result) in
-    let n108 = (w .before .before .width-of3 .result) in
-    let n109 = (w .width-of4 .result) in
-    let e101 : (u : Sheet) → Payment (w .before .before .before .before .before .before .before .before .before .args .f) u → n101 ≡ width (blank (textOf u 6)) statusCount = λ u o. w .before .before .before .before .before .before .width-of .ensures .0 ∙ ap (λ (x : Bool). width x statusCount) (w .before .before .before .before .before .before .before .blank-status .ensures u (o .read)) in
-    let e106 : (u : Sheet) → Payment (w .before .before .before .before .before .before .before .before .before .args .f) u → n106 ≡ width (blank (textOf u 11)) basisCount = λ u o. w .before .before .before .before .width-of2 .ensures .0 ∙ ap (λ (x : Bool). width x basisCount) (w .before .before .before .before .before .blank-basis .ensures u (o .read)) in
-    let e108 : (u : Sheet) → Payment (w .before .before .before .before .before .before .before .before .before .args .f) u → n108 ≡ width (blank (textOf u 13)) zeroCount = λ u o. w .before .before .width-of3 .ensures .0 ∙ ap (λ (x : Bool). width x zeroCount) (w .before .before .before .blank-document .ensures u (o .read)) in
-    let e109 : (u : Sheet) → Payment (w .before .before .before .before .before .before .before .before .before .args .f) u → n109 ≡ width (blank (textOf u 14)) zeroCount = λ u o. w .width-of4 .ensures .0 ∙ ap (λ (x : Bool). width x zeroCount) (w .before .blank-day .ensures u (o .read)) in
+    let first =
+    first-pick u _ _ _ _
+    (w .before .before .before .before .before .before .width-of .ensures .0 ∙ ap (λ (x : Bool). width x statusCount) (w .before .before .before .before .before .before .before .blank-status .ensures u (o .read)))
+    (w .before .before .before .before .width-of2 .ensures .0 ∙ ap (λ (x : Bool). width x basisCount) (w .before .before .before .before .before .blank-basis .ensures u (o .read)))
+    (w .before .before .width-of3 .ensures .0 ∙ ap (λ (x : Bool). width x zeroCount) (w .before .before .before .blank-document .ensures u (o .read)))
+    (w .width-of4 .ensures .0 ∙ ap (λ (x : Bool). width x zeroCount) (w .before .blank-day .ensures u (o .read))) in
     ⊎-elim
-    (λ q. inr (
-      q .3 ∙ v .inv .3,
-      λ u o. ap (λ (k : ℕ). Nothing k) (q .1) ∙ sym (ap foundOf (first-none u n101 n106 n108 n109 (e101 u o) (e106 u o) (e108 u o) (e109 u o) (v .count) (all (passesAt u) (λ (t : List ℕ). t) (R1 n106 n108 n109) n101 0 (v .a) (v .count) (v .inv .2 u o) (q .0 .left)))),
-    ))
     (λ q.
-    let a = v .a in
-    let b = q .3 .b in
-    let k = q .7 .c in
-    let d = q .11 .d in
-    let p = a ∷ b ∷ k ∷ d ∷ [] in
-    let m = q .11 .count + 1 in
+    rw (q .3, v .inv .3)
+    (ap (λ (k : ℕ). Nothing k) (q .1) ∙ sym (ap foundOf (first ∙ all (v .inv .2 u o) (q .0 .left) .on []))))
+    (λ q.
     let ok =
-    passes-is _ _ _ _ _ a b k d _ _ _ _ _ (w .before .before .before .before .before .before .before .before .kept-fixed .ensures)
-    (q .1 .ensures) (q .2 .ensures) (q .5 .ensures) (q .6 .ensures) (q .9 .ensures) (q .10 .ensures) (q .13 .ensures) (q .14 .ensures) in
-    inl (
-      q .18,
-      λ u o.
-          let hit4 = hit (passesAt u) (λ (t : List ℕ). a ∷ b ∷ k ∷ t) R4 n109 _ d (q .11 .count) (q .11 .inv .2 u o) m p (q .12 .taken) (one-hit (passesAt u) (q .11 .count) p (sym (ok u o) ∙ q .15 .taken)) in
-          let hit3 = hit (passesAt u) (λ (t : List ℕ). a ∷ b ∷ t) (R3 n109) n108 _ k (q .7 .count) (q .7 .inv .2 u o) m p (q .8 .taken) hit4 in
-          let hit2 = hit (passesAt u) (λ (t : List ℕ). a ∷ t) (R2 n108 n109) n106 _ b (q .3 .count) (q .3 .inv .2 u o) m p (q .4 .taken) hit3 in
-          let hit1 = hit (passesAt u) (λ (t : List ℕ). t) (R1 n106 n108 n109) n101 _ a (v .count) (v .inv .2 u o) m p (q .0 .taken) hit2 in
-          (λ i. Place (q .16 i) (q .17 i)) ∙ sym (ap foundOf (first-hit u n101 n106 n108 n109 (e101 u o) (e106 u o) (e108 u o) (e109 u o) m p hit1)),
-    ))
+    passes-is _ _ _ _ _ (v .a) (q .3 .b) (q .7 .c) (q .11 .d) _ _ _ _ _ (w .before .before .before .before .before .before .before .before .kept-fixed .ensures)
+    (q .1 .ensures) (q .2 .ensures) (q .5 .ensures) (q .6 .ensures) (q .9 .ensures) (q .10 .ensures) (q .13 .ensures) (q .14 .ensures) u o in
+    let hit4 = hit (q .11 .inv .2 u o) (q .12 .taken) (one-hit (passesAt u) (q .11 .count) (v .a ∷ q .3 .b ∷ q .7 .c ∷ q .11 .d ∷ []) (sym ok ∙ q .15 .taken)) in
+    let hit1 = hit (v .inv .2 u o) (q .0 .taken) (hit (q .3 .inv .2 u o) (q .4 .taken) (hit (q .7 .inv .2 u o) (q .8 .taken) hit4)) in
+    rw (q .18) ((λ i. Place (q .16 i) (q .17 i)) ∙ sym (ap foundOf (first ∙ hit1 .ends []))))
     (c .statuses-test .came)
 
 returns : tie.Need-returns Inv-days μ-days Inv-documents μ-documents Inv-bases μ-bases Inv-statuses μ-statuses
-returns c = at-place _ _ _ _ (outcome (c .before)) (c .if2 .taken)
+returns c u o = rw (c .if2 .taken) at (outcome (c .before) u o)
 
 returns-2 : tie.Need-returns-2 Inv-days μ-days Inv-documents μ-documents Inv-bases μ-bases Inv-statuses μ-statuses
-returns-2 c = at-none _ _ _ _ (outcome (c .before)) (c .if2 .left)
+returns-2 c u o = rw (c .if2 .left) at (outcome (c .before) u o)
 
 pub walk-spec : {M : Type 1} → statement M
 walk-spec = tie.close (tie.spec Inv-days μ-days Inv-documents μ-documents Inv-bases μ-bases Inv-statuses μ-statuses (λ c κs. search needs) (λ c κs. search needs) (λ c κs. search needs) (λ c κs. search needs) (λ c κs. search needs) (λ c κs. search needs) (λ c κs. search needs) (λ c κs. search needs) (λ c κs. search needs) statuses-holds (λ c κs. search needs) (λ c κs. search needs) bases-holds (λ c κs. search needs) (λ c κs. search needs) documents-holds (λ c κs. search needs) (λ c κs. search needs) days-holds (λ c κs. search needs) (λ c κs. search needs) (λ c. omega (arith, c .before .before .before .days .inv .1, c .before .before .before .days .inv .4, c .before .before .days-test .taken, c .before .before .before .before .before .before .before .documents .inv .4, c .before .before .before .before .before .before .documents-test .taken, c .before .before .before .before .before .before .before .before .before .before .before .bases .inv .4, c .before .before .before .before .before .before .before .before .before .before .bases-test .taken, c .before .before .before .before .before .before .before .before .before .before .before .before .before .before .before .statuses .inv .4, c .before .before .before .before .before .before .before .before .before .before .before .before .before .before .statuses-test .taken)) (λ c. search needs) (λ c. search needs) days-again (λ c. search needs) (λ c. search needs) documents-again (λ c. search needs) (λ c. search needs) bases-again (λ c. search needs) (λ c. search needs) statuses-again returns returns-2)

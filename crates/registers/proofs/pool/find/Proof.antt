@@ -1,6 +1,5 @@
-use mathlib.Core.Path.{sym, subst}
 use mathlib.Core.Logic.{⊎-elim}
-use Prim.Native.Nat.{ℕ, _+_, _-_}
+use Prim.Native.Nat.{_-_}
 use native.Mathlib.Omega.{arith}
 use borrow.Author.Needs.{needs}
 use Rattle.registers.proofs.Finding.{Finding, find-none, find-hit, find-miss}
@@ -15,12 +14,10 @@ abbrev μ-loop : tie.MeasureT-loop
 
 loop-again : tie.Need-loop-again Inv-loop μ-loop
 loop-again c =
-    let a = c .before .before .before .before .args in
     let l = c .before .before .before .loop in
     let h = c .before .before .loop-test .taken in
-    let at : ℕ → Type 0 = λ found. Finding (a .numbers .now) (a .count) (a .number) found (l .j + 1) in
-    ⊎-elim (λ w. subst at (sym (w .1)) (find-hit (a .numbers .now) (a .count) (a .number) (l .j) h (w .0 .taken)))
-    (λ w. subst at (sym (w .1)) (find-miss (a .numbers .now) (a .count) (a .number) (l .j) h (l .found) (l .inv) (w .0 .left)))
+    ⊎-elim (λ w. rw (w .1) (find-hit _ _ _ (l .j) h (w .0 .taken)))
+    (λ w. rw (w .1) (find-miss _ _ _ (l .j) h (l .found) (l .inv) (w .0 .left)))
     (c .if1 .came)
 
 returns : tie.Need-returns Inv-loop μ-loop

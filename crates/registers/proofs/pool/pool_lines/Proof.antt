@@ -5,7 +5,7 @@ use native.Mathlib.Omega.{arith}
 use borrow.Author.Needs.{needs}
 use Rattle.texts.specs.Texts.{number}
 use Rattle.texts.specs.Buffers.{putAt}
-use Rattle.registers.proofs.Outputs.{SoFar, none-yet, all-pooled, moved, most-lines, inn-digits, kept-long, Turn, table-room, add-asked, sum-grown, line-copied}
+use Rattle.registers.proofs.Outputs.{SoFar, none-yet, all-pooled, most-lines, inn-digits, kept-long, Turn, table-room, add-asked, sum-grown, line-copied}
 use Rattle.registers.proofs.pool.pool_lines.Statement.{statement}
 use Rattle.registers.proofs.pool.pool_lines.Tie as tie
 
@@ -16,19 +16,14 @@ abbrev μ-loop : tie.MeasureT-loop
 μ-loop register output₀ lines numbers₀ count₀ i₀ output numbers count i = lines - i
 
 inn-number-requires : tie.Need-inn-number-requires Inv-loop μ-loop
-inn-number-requires c κs =
-    let s = c .before .before .before .before .before in
-    inn-digits (s .args .register .now) (s .args .output .now) (s .pre) (c .before .before .loop .i) (c .before .loop-test .taken) _ (c .inn-at .ensures)
+inn-number-requires c κs = inn-digits (c .before .before .loop .inv) (c .before .loop-test .taken) _ (c .inn-at .ensures)
 
 find-requires : tie.Need-find-requires Inv-loop μ-loop
-find-requires c κs =
-    let s = c .before .before .before .before .before .before .before in
-    omega (arith, most-lines (s .args .register .now) (s .args .output .now) (s .pre))
+find-requires c κs = omega (arith, most-lines (c .before .before .before .before .loop .inv))
 
 -- what is known where the INN was looked for
 turn : (c : tie.After-find Inv-loop μ-loop) → Turn (c .before .before .before .before .before .before .before .before .args .register .now) (c .before .before .before .before .before .before .before .before .args .output .now) (c .before .before .before .before .before .loop .i) (c .before .before .before .before .before .loop .count) (c .before .before .before .before .before .loop .numbers) (c .before .before .before .before .before .loop .output) (c .before .before .inn-number .result) (c .find .result)
 turn c = record {
-  asked = c .before .before .before .before .before .before .before .before .pre;
   before = c .before .before .before .before .before .loop .inv;
   more = c .before .before .before .before .loop-test .taken;
   inn = c .before .before .inn-number .ensures .0 ∙ ap (number 12) (c .before .before .before .inn-at .ensures);
@@ -41,26 +36,16 @@ add-requires c κs = add-asked (turn (c .before .before .before)) (c .before .be
 
 loop-again : tie.Need-loop-again Inv-loop μ-loop
 loop-again c =
-    let s = c .before .before .before .before .before .before .before .before .before in
-    let t = s .args .register .now in
-    let o = s .args .output .now in
     let l = c .before .before .before .before .before .before .loop in
     ⊎-elim
-    (λ w. moved t o (sum-grown (turn (c .before)) (w .0 .taken) (w .2 .result .0) _ (w .2 .ensures) (w .3 .ensures)) (w .8) (w .7) (w .6))
-    (λ w. moved t o (line-copied (turn (c .before)) (w .0 .left) (λ j. c .before .before .before .before .before .before .before .before .shared-slice-known .given j .fits) _ (w .3 .ensures ∙ ap (putAt (l .output) (l .count * 20)) (w .2 .ensures))) (w .8) (w .7) (w .6))
+    (λ w. rw (w .8, w .7, w .6) (sum-grown (turn (c .before)) (w .0 .taken) (w .2 .result .0) _ (w .2 .ensures) (w .3 .ensures)))
+    (λ w. rw (w .8, w .7, w .6) (line-copied (turn (c .before)) (w .0 .left) (λ j. c .before .before .before .before .before .before .before .before .shared-slice-known .given j .fits) _ (w .3 .ensures ∙ ap (putAt (l .output) (l .count * 20)) (w .2 .ensures))))
     (c .if1 .came)
 
-same-length : tie.Need-same-length Inv-loop μ-loop
-same-length c =
-    let s = c .before .before .before .before in
-    kept-long (s .args .register .now) (s .args .output .now) (s .pre) (c .before .loop .inv)
-
 returns : tie.Need-returns Inv-loop μ-loop
-returns c =
-    let s = c .before .before .before .before in
-    all-pooled (s .args .register .now) (s .args .output .now) (c .before .loop .inv) (c .loop-test .left)
+returns c = all-pooled (c .before .loop .inv) (c .loop-test .left)
 
 pub pool-lines-spec : {M : Type 1} → statement M
 pool-lines-spec =
     tie.close
-    (tie.spec Inv-loop μ-loop (λ c. none-yet _ _) (λ c κs. search needs) inn-number-requires find-requires (λ c κs. search needs) add-requires (λ c. search needs) (λ c. record { fits = omega (arith, table-room (turn (c .before .before))) }) (λ c. search needs) (λ c κs. search needs) (λ c κs. search needs) (λ c. record { fits = omega (arith, table-room (turn (c .before .before .before .before .before .before))) }) (λ c. table-room (turn (c .before .before .before .before .before .before))) (λ c. record { fits = omega (arith, table-room (turn (c .before .before .before .before .before .before))) }) (λ c. search needs) (λ c. search needs) loop-again same-length returns)
+    (tie.spec Inv-loop μ-loop (λ c. none-yet _ _ (c .before .before .pre)) (λ c κs. search needs) inn-number-requires find-requires (λ c κs. search needs) add-requires (λ c. search needs) (λ c. record { fits = omega (arith, table-room (turn (c .before .before))) }) (λ c. search needs) (λ c κs. search needs) (λ c κs. search needs) (λ c. record { fits = omega (arith, table-room (turn (c .before .before .before .before .before .before))) }) (λ c. table-room (turn (c .before .before .before .before .before .before))) (λ c. record { fits = omega (arith, table-room (turn (c .before .before .before .before .before .before))) }) (λ c. search needs) (λ c. search needs) loop-again (λ c. kept-long (c .before .loop .inv)) returns)

@@ -1,7 +1,5 @@
-use borrow.Author.Needs.{needs}
-use Rattle.rules.proofs.Judging.{class-a, class-b, class-o}
 use Rattle.rules.proofs.class.class_of.Statement.{statement}
 use Rattle.rules.proofs.class.class_of.Tie as tie
 
 pub class-of-spec : {M : Type 1} → statement M
-class-of-spec = tie.close (tie.spec (λ c. search (needs, class-a, class-b, class-o)) (λ c. search (needs, class-a, class-b, class-o)) (λ c. search (needs, class-a, class-b, class-o)))
+class-of-spec = tie.close (tie.spec (λ c. cc) (λ c. cc) (λ c. cc))

@@ -3,4 +3,4 @@ use Rattle.sheets.proofs.entries.blank_day.Statement.{statement}
 use Rattle.sheets.proofs.entries.blank_day.Tie as tie
 
 pub blank-day-spec : {M : Type 1} → statement M
-blank-day-spec = tie.close (tie.spec (λ c. λ s o. blank-day (c .args .f) (c .args .f) 0 s o))
+blank-day-spec = tie.close (tie.spec (λ c. λ s o. blank-day (c .args .f) s o))

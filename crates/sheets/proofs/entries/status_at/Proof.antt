@@ -1,7 +1,6 @@
 use borrow.Author.Needs.{needs}
-use Rattle.sheets.proofs.Listed.{status-listed, status-given}
 use Rattle.sheets.proofs.entries.status_at.Statement.{statement}
 use Rattle.sheets.proofs.entries.status_at.Tie as tie
 
 pub status-at-spec : {M : Type 1} → statement M
-status-at-spec = tie.close (tie.spec (λ c κs. search needs) (λ c. search (needs, status-listed)) (λ c. search (needs, status-given)))
+status-at-spec = tie.close (tie.spec (λ c κs. search needs) (λ c. cc) (λ c. cc))

@@ -33,20 +33,7 @@ returns c =
     let l = c .before in
     let a = l .before .before .before .args in
     let e : l .loop .j ≡ length (a .src .now) = omega arith in
-    let f : a .at + length (a .src .now) ≤ length (a .dst .now) = omega arith in
-    rw (l .loop .inv .1, e) (put-paste (a .dst .now) (a .at) (a .src .now) ∙ sym (put-fits (a .dst .now) (a .at) (a .src .now) f))
-
-returns-2 : tie.Need-returns-2 Inv-loop μ-loop
-returns-2 c =
-    let a = c .before .before .args in
-    let f : length (a .dst .now) < a .at + length (a .src .now) = omega arith in
-    sym (put-not (a .dst .now) (a .at) (a .src .now) f)
-
-returns-3 : tie.Need-returns-3 Inv-loop μ-loop
-returns-3 c =
-    let a = c .before .args in
-    let f : length (a .dst .now) < a .at + length (a .src .now) = omega arith in
-    sym (put-not (a .dst .now) (a .at) (a .src .now) f)
+    rw (l .loop .inv .1, e) (put-paste (a .dst .now) (a .at) (a .src .now) ∙ sym (put-fits (a .dst .now) (a .at) (a .src .now) (omega arith)))
 
 pub put-spec : {M : Type 1} → statement M
-put-spec = tie.close (tie.spec Inv-loop μ-loop (λ c. search needs) loop-holds (λ c. search needs) (λ c. search needs) (λ c. search needs) (λ c. search needs) (λ c. search needs) loop-again (λ c. c .before .loop .inv .2) returns returns-2 returns-3)
+put-spec = tie.close (tie.spec Inv-loop μ-loop (λ c. search needs) loop-holds (λ c. search needs) (λ c. search needs) (λ c. search needs) (λ c. search needs) (λ c. search needs) loop-again (λ c. c .before .loop .inv .2) returns (λ c. sym (put-not _ _ _ (omega arith))) (λ c. sym (put-not _ _ _ (omega arith))))

@@ -1,0 +1,8 @@
+-- What a computation of sheets and their forms unfolds, as one name. Assumes nothing.
+use Rattle.texts.specs.Working.Computing.{textsComputing}
+use Rattle.sheets.specs.Sheet.{slotOf, cell, cellText, cellOk, cellOf, textOf, slotOk, _⟨_⟩, given}
+use Rattle.sheets.specs.Forms.{checkDigit, person, document, snilsCheck, snils, pension, leap, monthDays, gregorian, date}
+
+unfoldable pub sheetsComputing : Unit {0}
+unfolding textsComputing slotOf cell cellText cellOk cellOf textOf slotOk _⟨_⟩ given checkDigit person document snilsCheck snils pension leap monthDays gregorian date
+sheetsComputing = tt
