@@ -1,16 +1,16 @@
 -- R-5: what moves where rule 22 is tested ahead of rule 21. Assumes nothing.
 use mathlib.Core.Path.{_≡_, refl, ap, sym, _∙_}
-use mathlib.Core.Bool.{Bool, true, false, not, cond, _&&_, _||_, false≢true}
+use mathlib.Core.Bool.{Bool, true, false, not, cond, _&&_, false≢true}
 use mathlib.Core.List.{List, [], _∷_, _++_}
 use Prim.Native.Nat.{ℕ}
 use native.Mathlib.Omega.{arith}
-use borrow.Author.Tests.{eqb-true, not-false}
+use borrow.Author.Tests.{eqb-true, not-true, not-false}
 use lib.Dec.{eqb}
 use lib.ListN.{length, getD}
 use Rattle.texts.specs.Quoted.{Text}
 use Rattle.texts.specs.Texts.{every, any, same, are, among, blank, _is_, _isOneOf_, _begins_}
 use Rattle.texts.specs.Answers.{Answer, success, refusal, _refuses_, _refuses_with_, answerBy}
-use Rattle.texts.proofs.Bools.{both, and2}
+use Rattle.texts.proofs.Bools.{both, alike}
 use Rattle.texts.proofs.Codes.{same-true}
 use Rattle.texts.proofs.Every.{every-member}
 use Rattle.sheets.specs.Sheet.{Sheet, wellFormed, _⟨_⟩}
@@ -22,38 +22,30 @@ use Rattle.rules.specs.Before.{testsBy, checkedBy}
 use Rattle.rules.specs.Examples.{broken}
 use Rattle.rules.specs.R5.{upTo20, from23, orderBefore, caught, before, Moved, MovedOnly}
 
-among-step : (a k l : ℕ) (h r : Bool) → (r ≡ false → k ≡ l) → (h && r) ≡ false → cond h k a ≡ cond h l a
-among-step a k l true r f e = f e
-among-step a k l false r f e = refl
-
-exchange-step : (x y m : ℕ) (h k : Bool) → (h || k) ≡ true → cond h (cond k m y) x ≡ cond k (cond h m x) y
+exchange-step : (x y m : ℕ) (h k : Bool) → (not h && not k) ≡ false → cond h (cond k m y) x ≡ cond k (cond h m x) y
 exchange-step x y m true true e = refl
 exchange-step x y m true false e = refl
 exchange-step x y m false true e = refl
-exchange-step x y m false false e = absurd (false≢true e)
+exchange-step x y m false false e = absurd (false≢true (sym e))
 
-module _ (p : ℕ → Bool) where
-  -- behind rules that are kept, the first broken one is the first of the rest
-  first-behind : (ks bs : List ℕ) → every p ks ≡ true → firstNot p (ks ++ bs) ≡ firstNot p bs
+behind-step : (a k l : ℕ) (h r t : Bool) → ((r && t) ≡ false → k ≡ l) → ((h && r) && t) ≡ false → cond h k a ≡ cond h l a
+behind-step a k l true r t f e = f e
+behind-step a k l false r t f e = refl
+
+module _ (p : ℕ → Bool) (x : ℕ) where
+  -- two can be exchanged, unless both are broken and those before them are kept
+  first-exchanged : (y : ℕ) (zs ks : List ℕ) → (every p ks && (not (p x) && not (p y))) ≡ false → firstNot p (ks ++ (x ∷ y ∷ zs)) ≡ firstNot p (ks ++ (y ∷ x ∷ zs))
   unfolding every firstNot
-  first-behind [] bs e = refl
-  first-behind (a ∷ ks) bs e = let q = both (p a) (every p ks) e in rw (q .0) (first-behind ks bs (q .1))
+  first-exchanged y zs [] e = exchange-step x y (firstNot p zs) (p x) (p y) e
+  first-exchanged y zs (a ∷ ks) e = behind-step a _ _ (p a) (every p ks) (not (p x) && not (p y)) (first-exchanged y zs ks) e
 
-  -- where one of them is broken, the rest does not matter
-  first-among : (ks bs cs : List ℕ) → every p ks ≡ false → firstNot p (ks ++ bs) ≡ firstNot p (ks ++ cs)
+  -- a broken one behind rules that are kept is the first
+  first-broken : (zs ks : List ℕ) → every p ks ≡ true → not (p x) ≡ true → firstNot p (ks ++ (x ∷ zs)) ≡ x
   unfolding every firstNot
-  first-among [] bs cs e = absurd (false≢true (sym e))
-  first-among (a ∷ ks) bs cs e = among-step a (firstNot p (ks ++ bs)) (firstNot p (ks ++ cs)) (p a) (every p ks) (first-among ks bs cs) e
-
-  -- two of which one is kept can be exchanged
-  first-exchanged : (x y : ℕ) (zs : List ℕ) → (p x || p y) ≡ true → firstNot p (x ∷ y ∷ zs) ≡ firstNot p (y ∷ x ∷ zs)
-  unfolding firstNot
-  first-exchanged x y zs e = exchange-step x y (firstNot p zs) (p x) (p y) e
+  first-broken zs [] e f = rw (not-true (p x) f)
+  first-broken zs (a ∷ ks) e f = let q = both (p a) (every p ks) e in rw (q .0) (first-broken zs ks (q .1) f)
 
 -- ---- when rules 21 and 22 are both broken
-
-asked : (b c d : Bool) → b ≡ true → c ≡ true → d ≡ false → (b ⇒ (c ⇒ d)) ≡ false
-asked b c d e f g = rw (e, f, g)
 
 refused : (b c d : Bool) → (b ⇒ (c ⇒ d)) ≡ false → (c ≡ true) × (d ≡ false)
 refused true true d e = (refl, e)
@@ -71,36 +63,32 @@ not-uin : (t : Text) → (t is "0") ≡ true → uin t ≡ false
 unfolding every are
 not-uin t e = ap uin (same-true t (48 ∷ []) e)
 
-module _ (s : Sheet) where
-  module _ (c : caught s ≡ true) where
-    sides : ((s ⟨ 17 ⟩ begins account03212) ≡ true) × (status s courtsGroup ≡ true) × ((s ⟨ 22 ⟩ is "0") ≡ true) × (every (keeps s) upTo20 ≡ true)
-    sides =
-        let q = both (s ⟨ 17 ⟩ begins account03212 && status s courtsGroup) _ c in
-        let f = both (s ⟨ 17 ⟩ begins account03212) (status s courtsGroup) (q .0) in
-        let g = both (s ⟨ 22 ⟩ is "0") (every (keeps s) upTo20) (q .1) in
-        (f .0, f .1, g .0, g .1)
+-- they are, behind rules that are kept, of exactly these sheets
+caught-is : (s : Sheet) → caught s ≡ (every (keeps s) upTo20 && (not (keeps s 21) && not (keeps s 22)))
+unfolding keeps testOf rules any are among
+caught-is s = alike _ _ forth back
+  where
+    f17 : Bool
+    f17 = s ⟨ 17 ⟩ begins account03212
 
-    a-budget : budget s ≡ true
-    unfolding keeps testOf rules any are among
-    a-budget = classed (budget s) (s ⟨ 101 ⟩) (every-member (keeps s) upTo20 4 refl (sides .3)) (sides .1)
+    f22 : Bool
+    f22 = s ⟨ 22 ⟩ is "0"
 
-    not-21 : keeps s 21 ≡ false
-    unfolding keeps testOf rules
-    not-21 = asked (budget s) (status s courtsGroup) (uin (s ⟨ 22 ⟩)) a-budget (sides .1) (not-uin (s ⟨ 22 ⟩) (sides .2))
+    forth : caught s ≡ true → (every (keeps s) upTo20 && (not (keeps s 21) && not (keeps s 22))) ≡ true
+    forth c =
+        let q = both (f17 && status s courtsGroup) (f22 && every (keeps s) upTo20) c in
+        let f = both f17 (status s courtsGroup) (q .0) in
+        let g = both f22 (every (keeps s) upTo20) (q .1) in
+        let b = classed (budget s) (s ⟨ 101 ⟩) (every-member (keeps s) upTo20 4 refl (g .1)) (f .1) in
+        rw (g .1, b, f .1, not-uin (s ⟨ 22 ⟩) (g .0), f .0, g .0)
 
-    not-22 : keeps s 22 ≡ false
-    unfolding keeps testOf rules
-    not-22 = asked (budget s) (s ⟨ 17 ⟩ begins account03212) (not (s ⟨ 22 ⟩ is "0")) a-budget (sides .0) (ap not (sides .2))
-
-  both-broken : every (keeps s) upTo20 ≡ true → keeps s 21 ≡ false → keeps s 22 ≡ false → caught s ≡ true
-  unfolding keeps testOf rules
-  both-broken e f g =
-      let a = refused (budget s) (status s courtsGroup) (uin (s ⟨ 22 ⟩)) f in
-      let b = refused (budget s) (s ⟨ 17 ⟩ begins account03212) (not (s ⟨ 22 ⟩ is "0")) g in
-      let f17 = s ⟨ 17 ⟩ begins account03212 in
-      let f22 = s ⟨ 22 ⟩ is "0" in
-      and2 (f17 && status s courtsGroup) (f22 && every (keeps s) upTo20) (and2 f17 (status s courtsGroup) (b .0) (a .0))
-      (and2 f22 (every (keeps s) upTo20) (not-false f22 (b .1)) e)
+    back : (every (keeps s) upTo20 && (not (keeps s 21) && not (keeps s 22))) ≡ true → caught s ≡ true
+    back c =
+        let q = both (every (keeps s) upTo20) (not (keeps s 21) && not (keeps s 22)) c in
+        let r = both (not (keeps s 21)) (not (keeps s 22)) (q .1) in
+        let a = refused (budget s) (status s courtsGroup) (uin (s ⟨ 22 ⟩)) (not-true (keeps s 21) (r .0)) in
+        let b = refused (budget s) f17 (not f22) (not-true (keeps s 22) (r .1)) in
+        rw (b .0, a .0, not-false f22 (b .1), q .0)
 
 -- ---- the answers
 
@@ -121,32 +109,17 @@ module _ (s : Sheet) (w : wellFormed s ≡ true) where
   unfolding checked checkTests
   now-is = refl
 
-  of-21 : answerOf 21 ≡ broken 22 21
+  moved-case : (b : Bool) → caught s ≡ b → Moved s
   unfolding fieldOf rules broken
-  of-21 = rw w
-
-  of-22 : answerOf 22 ≡ broken 22 22
-  unfolding fieldOf rules broken
-  of-22 = rw w
-
-  ahead : every (keeps s) upTo20 ≡ true → (keeps s 21 || keeps s 22) ≡ true → firstNot (keeps s) orderBefore ≡ firstNot (keeps s) order
-  ahead e h =
-      first-behind (keeps s) upTo20 (21 ∷ 22 ∷ from23) e
-      ∙ first-exchanged (keeps s) 21 22 from23 h
-      ∙ sym (first-behind (keeps s) upTo20 (22 ∷ 21 ∷ from23) e)
-
-  stayed : firstNot (keeps s) orderBefore ≡ firstNot (keeps s) order → (caught s ≡ true → ⊥) → Moved s
-  stayed e f =
-      let q = before-is ∙ ap answerOf e ∙ sym now-is in
-      record { exactly = (λ n. absurd (n q), λ c. absurd (f c)); was = λ c. absurd (f c); becomes = λ c. absurd (f c); stays = λ z. q }
-
-  gone : every (keeps s) upTo20 ≡ true → caught s ≡ true → Moved s
-  unfolding firstNot broken
-  gone e c =
-      let f : firstNot (keeps s) (21 ∷ 22 ∷ from23) ≡ 21 = rw (not-21 s c) in
-      let g : firstNot (keeps s) (22 ∷ 21 ∷ from23) ≡ 22 = rw (not-22 s c) in
-      let u : before s ≡ broken 22 21 = before-is ∙ ap answerOf (first-behind (keeps s) upTo20 (21 ∷ 22 ∷ from23) e ∙ f) ∙ of-21 in
-      let v : checked s ≡ broken 22 22 = now-is ∙ ap answerOf (first-behind (keeps s) upTo20 (22 ∷ 21 ∷ from23) e ∙ g) ∙ of-22 in
+  moved-case false c =
+      let q = before-is ∙ ap answerOf (first-exchanged (keeps s) 21 22 from23 upTo20 (sym (caught-is s) ∙ c)) ∙ sym now-is in
+      let no : caught s ≡ true → ⊥ = λ d. false≢true (sym c ∙ d) in
+      record { exactly = (λ n. absurd (n q), λ d. absurd (no d)); was = λ d. absurd (no d); becomes = λ d. absurd (no d); stays = λ z. q }
+  moved-case true c =
+      let q = both (every (keeps s) upTo20) (not (keeps s 21) && not (keeps s 22)) (sym (caught-is s) ∙ c) in
+      let r = both (not (keeps s 21)) (not (keeps s 22)) (q .1) in
+      let u : before s ≡ broken 22 21 = before-is ∙ ap answerOf (first-broken (keeps s) 21 (22 ∷ from23) upTo20 (q .0) (r .0)) ∙ rw w in
+      let v : checked s ≡ broken 22 22 = now-is ∙ ap answerOf (first-broken (keeps s) 22 (21 ∷ from23) upTo20 (q .0) (r .1)) ∙ rw w in
       record {
         exactly = (λ n. c, λ d q. let z : _≡_ {A = ℕ} 21 22 = ap second (sym u ∙ q ∙ v) in absurd (omega arith));
         was = λ d. u;
@@ -154,13 +127,5 @@ module _ (s : Sheet) (w : wellFormed s ≡ true) where
         stays = λ z. absurd (false≢true (sym z ∙ c));
       }
 
-  moved-case : (h k j : Bool) → every (keeps s) upTo20 ≡ h → keeps s 21 ≡ k → keeps s 22 ≡ j → Moved s
-  moved-case false k j e f g = stayed (first-among (keeps s) upTo20 (21 ∷ 22 ∷ from23) (22 ∷ 21 ∷ from23) e) (λ c. false≢true (sym e ∙ sides s c .3))
-  moved-case true true j e f g =
-      stayed (ahead e (rw f refl)) (λ c. false≢true (sym (not-21 s c) ∙ f))
-  moved-case true false true e f g =
-      stayed (ahead e (rw (f, g) refl)) (λ c. false≢true (sym (not-22 s c) ∙ g))
-  moved-case true false false e f g = gone e (both-broken s e f g)
-
 pub moved-only : MovedOnly
-moved-only s w = moved-case s w (every (keeps s) upTo20) (keeps s 21) (keeps s 22) refl refl refl
+moved-only s w = moved-case s w (caught s) refl

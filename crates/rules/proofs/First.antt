@@ -59,12 +59,6 @@ module _ (p : ℕ → Bool) where
   split [] f = absurd (f refl)
   split (k ∷ ks) f = split-step k ks (p k) refl f (split ks)
 
-  -- by another test that comes to the same
-  pub not-alike : (q : ℕ → Bool) → ((n : ℕ) → p n ≡ q n) → (ks : List ℕ) → firstNot p ks ≡ firstNot q ks
-  unfolding firstNot
-  not-alike q e [] = refl
-  not-alike q e (k ∷ ks) = λ i. cond (e k i) (not-alike q e ks i) k
-
   -- all outcomes are true
   pub all-held : (ks : List ℕ) → allTrue (map p ks) ≡ every p ks
   unfolding allTrue every

@@ -1,7 +1,7 @@
 -- A sheet with a cell put into a slot that is blank: its texts, and what is read of it. Assumes nothing.
 use mathlib.Core.Path.{_≡_, refl, sym, ap, _∙_, fun-ext}
 use mathlib.Core.Bool.{Bool, true, false, cond}
-use mathlib.Core.List.{List, [], _∷_, _++_}
+use mathlib.Core.List.{List, [], _∷_}
 use mathlib.Core.Logic.{inl, inr}
 use Prim.Native.Nat.{ℕ, zero, suc, _+_, _-_, _*_, _<_, _≤_}
 use native.Mathlib.Decide.{ℕ-discrete, decLt}
@@ -62,6 +62,15 @@ pub cell-part : (s : List ℕ) (j : ℕ) → cellOf s j ≡ take 26 (drop (j * 2
 unfolding cellOf between
 cell-part s j = let e : j * 26 + 26 - j * 26 ≡ 26 = omega arith in rw e
 
+-- one of two lists
+either : (P : List ℕ → Type 0) (b : Bool) {l m : List ℕ} → P l → P m → P (cond b l m)
+either P true p q = p
+either P false p q = q
+
+chosen : {X : Type 0} (h : List ℕ → X) (b : Bool) (t u : List ℕ) → cond b (h t) (h u) ≡ h (cond b t u)
+chosen h true t u = refl
+chosen h false t u = refl
+
 -- the texts of a sheet with t in slot k, if that is blank
 abbrev pub refilled : (ℕ → Text) → ℕ → Text → ℕ → Text
 refilled T k t j = cond (eqb j k) (cond (blank (T k)) t (T k)) (T j)
@@ -82,29 +91,17 @@ module _ (s x : List ℕ) (k : ℕ) (size : length s ≡ 390) (lk : k < 15) (lx 
       ∙ part-put s (k * 26) x (j * 26) 26 (elim (decLt j k) [ yes p ↦ inl (omega arith) | no q ↦ inr (omega arith) ]) (omega arith)
       ∙ sym (cell-part s j)
 
-  length-case : (b : Bool) → length (cond b (putAt s (k * 26) x) s) ≡ 390
-  length-case true = put-length
-  length-case false = size
-
   pub filled-length : length (filledAt s k x) ≡ 390
   unfolding filledAt
-  filled-length = length-case (blank (textOf s k))
-
-  other-case : (j : ℕ) → (j ≡ k → ⊥) → (b : Bool) → cellOf (cond b (putAt s (k * 26) x) s) j ≡ cellOf s j
-  other-case j n true = put-other j n
-  other-case j n false = refl
+  filled-length = either (λ l. length l ≡ 390) (blank (textOf s k)) put-length size
 
   pub filled-other : (j : ℕ) → (j ≡ k → ⊥) → textOf (filledAt s k x) j ≡ textOf s j
   unfolding filledAt textOf
-  filled-other j n = ap cellText (other-case j n (blank (textOf s k)))
+  filled-other j n = ap cellText (either (λ l. cellOf l j ≡ cellOf s j) (blank (textOf s k)) (put-other j n) refl)
 
-  same-case : (b : Bool) → cellText (cellOf (cond b (putAt s (k * 26) x) s) k) ≡ cond b (cellText x) (cellText (cellOf s k))
-  same-case true = ap cellText put-same
-  same-case false = refl
-
-  pub filled-same : textOf (filledAt s k x) k ≡ cond (blank (textOf s k)) (cellText x) (textOf s k)
+  filled-same : textOf (filledAt s k x) k ≡ cond (blank (textOf s k)) (cellText x) (textOf s k)
   unfolding filledAt textOf
-  filled-same = same-case (blank (textOf s k))
+  filled-same = sym (chosen (λ l. cellText (cellOf l k)) (blank (textOf s k)) _ s) ∙ ap (λ (l : List ℕ). cond (blank (textOf s k)) (cellText l) (textOf s k)) put-same
 
   filled-texts : (j : ℕ) → textOf (filledAt s k x) j ≡ refilled (textOf s) k (cellText x) j
   filled-texts j =
@@ -116,28 +113,13 @@ module _ (s x : List ℕ) (k : ℕ) (size : length s ≡ 390) (lk : k < 15) (lx 
 facts-filled : (s : Sheet) (k : ℕ) (t : Text) → length s ≡ 390 → k < 15 → length (cell t) ≡ 26 → factsOf (filledAt s k (cell t)) ≡ factsBy (refilled (textOf s) k t)
 facts-filled s k t size lk lx = ap factsBy (fun-ext (filled-texts s (cell t) k size lk lx)) ∙ ap (λ (u : Text). factsBy (refilled (textOf s) k u)) (text-cell t)
 
-chosen : {X : Type 0} (h : Text → X) (b : Bool) (t u : Text) → cond b (h t) (h u) ≡ h (cond b t u)
-chosen h true t u = refl
-chosen h false t u = refl
+-- which of the fields that can vary are blank
+pub blank-fields : (f : Facts) (s : Sheet) → Read f s
+    → (f .status .blank ≡ blank (textOf s 6)) × ((f .basis .blank ≡ blank (textOf s 11)) × ((f .document .blank ≡ blank (textOf s 13)) × (f .day .blank ≡ blank (textOf s 14))))
+unfolding factsBy standingOf basisOf documentOf dayOf
+blank-fields f s o = rw (o .facts) (refl, (refl, (refl, refl)))
 
--- what is read of a field that can vary, and of a sheet with an entry in it: `of` reads the field's facts off its text, `set` puts facts in
-module _ (f : Facts) (s : Sheet) (o : Read f s) where
-  pub blank-status : f .status .blank ≡ blank (textOf s 6)
-  unfolding factsBy standingOf
-  blank-status = ap (λ (g : Facts). g .status .blank) (o .facts)
-
-  pub blank-basis : f .basis .blank ≡ blank (textOf s 11)
-  unfolding factsBy basisOf
-  blank-basis = ap (λ (g : Facts). g .basis .blank) (o .facts)
-
-  pub blank-document : f .document .blank ≡ blank (textOf s 13)
-  unfolding factsBy documentOf
-  blank-document = ap (λ (g : Facts). g .document .blank) (o .facts)
-
-  pub blank-day : f .day .blank ≡ blank (textOf s 14)
-  unfolding factsBy dayOf
-  blank-day = ap (λ (g : Facts). g .day .blank) (o .facts)
-
+-- what is read of a sheet with an entry in such a field: `of` reads the field's facts off its text, `set` puts facts in
 module _ {X : Type 0} (of : Text → X) (set : Facts → X → Facts) (j : ℕ) (lj : j < 15) (ts : List Text) (short-ts : every short ts ≡ true)
     (puts : (t : Sheet) (x : Text) → set (factsOf t) (of (cond (blank (textOf t j)) x (textOf t j))) ≡ factsBy (refilled (textOf t) j x)) where
   -- of a sheet t that has in the field what s has

@@ -1,6 +1,5 @@
 pub mod Windows
 pub mod Sheets
-pub mod Tables
 pub mod Ways
 pub mod Listed
 pub mod Frames

@@ -1,6 +1,6 @@
 -- The facts of a list's entry, read off the code's tables. Assumes nothing.
 use mathlib.Core.Path.{_≡_, refl, ap, sym, _∙_}
-use mathlib.Core.Bool.{Bool, true, false, cond, _&&_}
+use mathlib.Core.Bool.{true, false, _&&_}
 use mathlib.Core.List.{List, [], _∷_, map}
 use Prim.Native.Nat.{ℕ, zero, suc, _+_, _-_, _/_, _%_, _≤_, _<_}
 use native.Mathlib.Omega.{arith}
@@ -13,15 +13,11 @@ use Rattle.sheets.specs.Forms.{person, document, pension, date}
 use Rattle.sheets.specs.Lists.{statuses, letterPairs, numbersOf, statusTexts, basisTexts, zeroTexts}
 use Rattle.sheets.specs.Working.Facts.{groupsBy, groupsOf, wantedBy, standingBy, standingOf, basisOf, documentOf, dayOf}
 use Rattle.sheets.specs.declared.facts.Standing.{Standing}
-use Rattle.sheets.specs.declared.facts.Basis.{Basis}
-use Rattle.sheets.specs.declared.facts.Document.{Document}
-use Rattle.sheets.specs.declared.facts.Day.{Day}
-use Rattle.sheets.specs.declared.facts.Facts.{Facts}
-use Rattle.sheets.specs.Working.Entries.{rowOf, statusAt, basisAt, documentAt, dayAt}
+use Rattle.sheets.specs.Working.Entries.{rowOf}
 use Rattle.sheets.proofs.Ways.{standing-is}
 
 -- what a table of values holds at a place within it, and a list of texts past its end
-in-list : {A : Type 0} (g : Text → A) (d : A) (ts : List Text) (k : ℕ) → k < length ts → getD (map g ts) k d ≡ g (getD ts k [])
+pub in-list : {A : Type 0} (g : Text → A) (d : A) (ts : List Text) (k : ℕ) → k < length ts → getD (map g ts) k d ≡ g (getD ts k [])
 in-list g d [] k h = absurd (omega arith)
 in-list g d (t ∷ ts) zero h = refl
 in-list g d (t ∷ ts) (suc k) h = in-list g d ts k (omega arith)
@@ -80,9 +76,7 @@ day-entry (suc (suc k)) =
 
 pub past-row : (texts : List Text) (n k : ℕ) → length texts ≡ n → n ≤ k → 0 ∷ 0 ∷ 0 ∷ [] ≡ rowOf (getD texts k [])
 unfolding rowOf
-past-row texts n k e h =
-    let l : length texts ≤ k = omega arith in
-    ap rowOf (past-list texts k l)
+past-row texts n k e h = ap rowOf (past-list texts k (omega arith))
 
 -- a table of rows that are made of a table's values
 made-row : {A : Type 0} (g : Text → A) (d : A) (row : A → List ℕ) (ts : List Text) (k : ℕ) → map (λ (t : Text). row (g t)) ts ≡ map rowOf ts → k < length ts → row (getD (map g ts) k d) ≡ rowOf (getD ts k [])
@@ -92,9 +86,6 @@ made-row g d row ts k e h =
 pub status-made : (k : ℕ) → k < 22 → 2 ∷ (48 + getD (numbersOf 2 statuses) k 0 / 10 % 10) ∷ (48 + getD (numbersOf 2 statuses) k 0 % 10) ∷ [] ≡ rowOf (getD statusTexts k [])
 unfolding rowOf every number value valueOf
 status-made k h = made-row (number 2) 0 (λ (n : ℕ). 2 ∷ (48 + n / 10 % 10) ∷ (48 + n % 10) ∷ []) statusTexts k refl h
-
-pub zero-made : (k : ℕ) → k < 2 → getD (map rowOf zeroTexts) k [] ≡ rowOf (getD zeroTexts k [])
-zero-made k h = in-list rowOf [] zeroTexts k h
 
 pub basis-zero : (k : ℕ) (r : List ℕ) → k < 2 → r ≡ rowOf (getD zeroTexts k []) → r ≡ rowOf (getD basisTexts k [])
 basis-zero k r h e = e ∙ ap rowOf (sym (List·getD-append zeroTexts (words letterPairs) [] k h))

@@ -2,25 +2,23 @@
 use mathlib.Core.Path.{_≡_, refl, ap, sym, _∙_}
 use mathlib.Core.Bool.{Bool, true, false, not, cond, _&&_, _||_, and-comm}
 use mathlib.Core.List.{List, [], _∷_}
-use mathlib.Core.Logic.{_⊎_, inl, inr, ⊎-elim}
-use Prim.Native.Nat.{ℕ, _+_, _-_, _%_, _≤_, _<_}
+use mathlib.Core.Logic.{inl, inr}
+use Prim.Native.Nat.{ℕ, _-_, _%_, _≤_, _<_}
 use native.Mathlib.Decide.{ℕ-discrete, decLt}
 use native.Mathlib.Omega.{arith}
 use borrow.Author.Tests.{eq-eqb, ne-eqb, lt-ltb, le-ltb, le-leb, lt-leb, not-true, not-false}
 use lib.Dec.{eqb, leb, ltb}
-use lib.ListN.{length, getD, take, drop}
-use Rattle.texts.specs.Quoted.{Text, bytes}
+use lib.ListN.{length, getD}
+use Rattle.texts.specs.Quoted.{Text}
 use Rattle.texts.specs.Texts.{every, any, are, among, between, same, startsWith, digits, valueOf, value, number, weighted, _is_, _begins_}
 use Rattle.texts.proofs.Bools.{both}
-use Rattle.texts.proofs.Codes.{same-true}
+use Rattle.texts.proofs.Codes.{same-true, is-one-of}
 use Rattle.texts.proofs.Arms.{AnyOf, arm, outside}
-use Rattle.sheets.specs.Sheet.{cellText, textOf}
-use Rattle.sheets.specs.Forms.{foreignCode, weights10, checkDigit, inn10, inn12, digits5, digits10, digits12, digitOrCapital, kpp, person, document, snilsBound, snilsCheck, snils, pension, leap, monthDays, gregorian, date}
-use Rattle.sheets.specs.Lists.{bankA, banksB, accountB, accountsB, account03100, account03212, statuses, personTypes, numbersOf, zeroTexts}
-use Rattle.sheets.specs.Working.Facts.{payerOf, isA, isB, accountOf, groupsBy, standingBy, standingOf, wantedBy, basisOf, documentOf, dayOf, factsBy, factsOf, Read}
-use Rattle.sheets.specs.declared.forms.Wanted.{Wanted}
-use Rattle.sheets.specs.declared.forms.Wanted.the-variants.{Any, Inn, Ten, Twelve, Zero}
-use Rattle.sheets.specs.declared.facts.Groups.{Groups}
+use Rattle.sheets.specs.Sheet.{textOf}
+use Rattle.sheets.specs.Forms.{weights10, checkDigit, inn10, digits10, digitOrCapital, kpp, document, snilsBound, snilsCheck, snils, pension, monthDays, gregorian, date}
+use Rattle.sheets.specs.Lists.{statuses, customsGroup, treasuryGroup, courtsGroup, personalGroup, banksB, numbersOf, zeroTexts}
+use Rattle.sheets.specs.Working.Facts.{isB, groupsBy, groupsOf, standingBy, standingOf, wantedBy, basisOf, documentOf, dayOf, factsBy, factsOf, Read}
+use Rattle.sheets.specs.declared.forms.Wanted.the-variants.{Any, Ten}
 use Rattle.sheets.specs.declared.facts.Standing.{Standing}
 use Rattle.sheets.specs.declared.facts.Basis.{Basis}
 use Rattle.sheets.specs.declared.facts.Document.{Document}
@@ -29,19 +27,8 @@ use Rattle.sheets.specs.declared.facts.Banking.{Banking}
 use Rattle.sheets.specs.declared.facts.Parties.{Parties}
 use Rattle.sheets.specs.declared.facts.Classifiers.{Classifiers}
 use Rattle.sheets.specs.declared.facts.Facts.{Facts}
-use Rattle.sheets.proofs.Tables.{persons-are, statuses-are, groups-are, a-is, b-is, to03100-is, to03212-is}
-
--- is_person
-pub person-is : (t u v : Text) (n : ℕ) (p q : Bool) → u ≡ between t 0 2 → n ≡ number 2 u
-    → p ≡ among n (numbersOf 2 personTypes)
-    → v ≡ between t 2 3 → q ≡ same v (59 ∷ []) → ((p && q) && leb 4 (length t)) ≡ person t
-unfolding person
-person-is t u v n p q e f g h i = cc (persons-are (between t 0 2))
 
 -- is_kpp
-pub kpp-other : (t : Text) → (length t ≡ 9 → ⊥) → false ≡ kpp t
-kpp-other t e = simp (ne-eqb (length t) 9 e)
-
 pub kpp-these : (t u v : Text) (a b : ℕ) (x y p q z : Bool) → length t ≡ 9 → a ≡ getD t 4 0 → x ≡ digitOrCapital a → b ≡ getD t 5 0 → y ≡ digitOrCapital b
     → u ≡ between t 0 4 → p ≡ digits 4 u → v ≡ between t 6 9 → q ≡ digits 3 v → z ≡ startsWith t (48 ∷ 48 ∷ []) → (not z && (p && ((x && y) && q))) ≡ kpp t
 kpp-these t u v a b x y p q z l ea ex eb ey eu ep ev eq ez = cc (eq-eqb (length t) 9 l)
@@ -96,23 +83,11 @@ pub month-30 : (m y : ℕ) → AnyOf m 4 (6 ∷ 9 ∷ 11 ∷ []) → 30 ≡ mont
 unfolding monthDays among any are
 month-30 m y a = arm (λ n. monthDays n y) 30 m 4 (6 ∷ 9 ∷ 11 ∷ []) (refl, (refl, (refl, refl))) a
 
-pub month-29 : (m y : ℕ) (b : Bool) → m ≡ 2 → b ≡ leap y → b ≡ true → 29 ≡ monthDays m y
-unfolding monthDays among any are
-month-29 m y b e f g = cc
-
-pub month-28 : (m y : ℕ) (b : Bool) → m ≡ 2 → b ≡ leap y → b ≡ false → 28 ≡ monthDays m y
-unfolding monthDays among any are
-month-28 m y b e f g = cc
-
 pub month-31 : (m y : ℕ) → (AnyOf m 4 (6 ∷ 9 ∷ 11 ∷ []) → ⊥) → (m ≡ 2 → ⊥) → 31 ≡ monthDays m y
 unfolding monthDays
 month-31 m y a e = simp (outside m 4 (6 ∷ 9 ∷ 11 ∷ []) a, ne-eqb m 2 e)
 
 -- is_date
-pub date-other : (t : Text) → (length t ≡ 10 → ⊥) → false ≡ date t
-unfolding date
-date-other t e = simp (ne-eqb (length t) 10 e)
-
 pub date-these : (t u v w x z : Text) (d m y : ℕ) (p q g : Bool) → length t ≡ 10 → u ≡ between t 2 3 → p ≡ same u (46 ∷ [])
     → v ≡ between t 5 6 → q ≡ same v (46 ∷ []) → w ≡ between t 0 2 → d ≡ number 2 w → x ≡ between t 3 5 → m ≡ number 2 x
     → z ≡ between t 6 10 → y ≡ number 4 z → g ≡ gregorian d m y → ((p && q) && g) ≡ date t
@@ -120,40 +95,31 @@ unfolding date
 date-these t u v w x z d m y p q g l e1 e2 e3 e4 e5 e6 e7 e8 e9 e10 e11 = cc (eq-eqb (length t) 10 l)
 
 -- wanted_by: an arm of neighbours is a range to the checker
-six-seven : (n : ℕ) → 6 ≤ n → n < 8 → AnyOf n 6 (7 ∷ [])
-six-seven n h k = elim (ℕ-discrete n 6) [ yes e ↦ inl e | no f ↦ inr (omega arith) ]
-
-pub wanted-inn : (n : ℕ) → AnyOf n 1 (32 ∷ []) → Inn ≡ wantedBy n
-unfolding wantedBy among any are every number value valueOf
-wanted-inn n a = arm wantedBy Inn n 1 (32 ∷ []) (refl, refl) a
-
 pub wanted-ten : (n : ℕ) → 6 ≤ n → n < 8 → Ten ≡ wantedBy n
 unfolding wantedBy among any are every number value valueOf
-wanted-ten n h k = arm wantedBy Ten n 6 (7 ∷ []) (refl, refl) (six-seven n h k)
+wanted-ten n h k = arm wantedBy Ten n 6 (7 ∷ []) (refl, refl) (elim (ℕ-discrete n 6) [ yes e ↦ inl e | no f ↦ inr (omega arith) ])
 
-pub wanted-twelve : (n : ℕ) → n ≡ 17 → Twelve ≡ wantedBy n
-unfolding wantedBy among any are every number value valueOf
-wanted-twelve n e = rw e
-
-pub wanted-zero : (n : ℕ) → n ≡ 30 → Zero ≡ wantedBy n
-unfolding wantedBy among any are every number value valueOf
-wanted-zero n e = rw e
-
-wanted-any : (n : ℕ) → (AnyOf n 1 (32 ∷ []) → ⊥) → (AnyOf n 6 (7 ∷ []) → ⊥) → (n ≡ 17 → ⊥) → (n ≡ 30 → ⊥) → Any ≡ wantedBy n
+pub wanted-any : (n : ℕ) → (AnyOf n 1 (32 ∷ []) → ⊥) → (AnyOf n 6 (7 ∷ []) → ⊥) → (n ≡ 17 → ⊥) → (n ≡ 30 → ⊥) → Any ≡ wantedBy n
 unfolding wantedBy every number value valueOf
 wanted-any n a b e f = simp (outside n 1 (32 ∷ []) a, outside n 6 (7 ∷ []) b, outside n 17 [] e, outside n 30 [] f)
 
-module _ (n : ℕ) (a : AnyOf n 1 (32 ∷ []) → ⊥) (e : n ≡ 17 → ⊥) (f : n ≡ 30 → ⊥) where
-  pub wanted-low : n < 6 → Any ≡ wantedBy n
-  wanted-low h = wanted-any n a (λ q. ⊎-elim (λ p. omega arith) (λ p. omega arith) q) e f
+-- standing_of: the numbers of the quoted lists against their texts, each by one computation
+groups-are : (t : Text) → groupsBy (number 2 t) ≡ groupsOf t
+unfolding groupsBy groupsOf every number value valueOf
+groups-are t =
+    cc (
+      is-one-of 2 t customsGroup refl,
+      is-one-of 2 t treasuryGroup refl,
+      is-one-of 2 t courtsGroup refl,
+      is-one-of 2 t personalGroup refl,
+      is-one-of 2 t "01" refl,
+      is-one-of 2 t "13" refl,
+      is-one-of 2 t "31" refl,
+    )
 
-  pub wanted-high : 7 < n → Any ≡ wantedBy n
-  wanted-high h = wanted-any n a (λ q. ⊎-elim (λ p. omega arith) (λ p. omega arith) q) e f
-
--- standing_of
 pub standing-is : (t : Text) (n : ℕ) (r : Standing) → n ≡ number 2 t → r ≡ standingBy n (eqb (length t) 0) → r ≡ standingOf t
-unfolding standingBy standingOf
-standing-is t n r e f = cc (statuses-are t, groups-are t)
+unfolding standingBy standingOf every number value valueOf
+standing-is t n r e f = cc (is-one-of 2 t statuses refl, groups-are t)
 
 -- is_b: the least account of class B is 40204
 pub b-low : (bank account : ℕ) (four : Bool) → account < 40204 → false ≡ isB bank account four
@@ -162,38 +128,9 @@ b-low bank account four h =
     simp (ne-eqb 40204 account (λ e. omega arith), ne-eqb 40503 account (λ e. omega arith), ne-eqb 40603 account (λ e. omega arith), ne-eqb 40703 account (λ e. omega arith))
     (and-comm false (among bank (numbersOf 3 banksB)))
 
-pub b-is-all : (bik account x v : Text) (m o : ℕ) (p q f : Bool) → x ≡ between bik 6 9 → o ≡ number 3 x → p ≡ among o (numbersOf 3 banksB)
-    → v ≡ between account 13 14 → f ≡ same v (52 ∷ []) → q ≡ among m (numbersOf 5 accountsB)
-    → (p && (eqb (number 5 (bytes accountB)) m || (q && f))) ≡ isB (number 3 (between bik 6 9)) m (between account 13 14 is "4")
-unfolding isB
-b-is-all bik account x v m o p q f e1 e2 e3 e4 e5 e6 = cc
-
--- account_of
-pub account-is : (bik bank account u z : Text) (m : ℕ) (k a b h : Bool) → u ≡ between account 0 5 → m ≡ number 5 u
-    → k ≡ (bank begins bankA) → a ≡ isA k m
-    → b ≡ isB (number 3 (between bik 6 9)) m (between account 13 14 is "4") → z ≡ between account 5 8 → h ≡ same z (54 ∷ 52 ∷ 51 ∷ [])
-    → record { a = a; b = b; home = h; to03100 = eqb (number 5 (bytes account03100)) m; to03212 = eqb (number 5 (bytes account03212)) m } ≡ accountOf bik bank account
-unfolding accountOf
-account-is bik bank account u z m k a b h e1 e2 e3 e4 e5 e6 e7 =
-    cc (a-is (bank begins bankA) account, b-is bik account (between account 13 14 is "4"), to03100-is account, to03212-is account)
-
--- cell_text
-pub cell-text-is : (c : List ℕ) (b n : ℕ) → b ≡ getD c 0 0 → n ≡ b → take (1 + n - 1) (drop 1 c) ≡ cellText c
-unfolding cellText between
-cell-text-is c b n eb en = ap (λ (k : ℕ). take (1 + k - 1) (drop 1 c)) (en ∙ eb)
-
-pub cell-text-past : (c u : List ℕ) (b n : ℕ) → b ≡ getD c 0 0 → n ≡ b → u ≡ between c 1 (1 + n) → u ≡ cellText c
-unfolding cellText
-cell-text-past c u b n eb en eu = eu ∙ ap (λ (k : ℕ). between c 1 (1 + k)) (en ∙ eb)
-
 -- document_of
 pub document-zero : (t : Text) (b : Bool) (r : Document) → b ≡ same t (48 ∷ []) → b ≡ true → r ≡ documentOf (getD zeroTexts 0 []) → r ≡ documentOf t
 document-zero t b r e h er = er ∙ ap documentOf (sym (same-true t (48 ∷ []) (sym e ∙ h)))
-
-pub document-is : (t : Text) (a b c d e : Bool) → a ≡ document t → b ≡ person t → c ≡ pension t → d ≡ same t (48 ∷ []) → e ≡ same t (48 ∷ 48 ∷ [])
-    → record { blank = eqb (length t) 0; fit = a; person = b; pension = c; zero = d; zeros = e } ≡ documentOf t
-unfolding documentOf
-document-is t a b c d e ha hb hc hd he = λ i. record { blank = eqb (length t) 0; fit = ha i; person = hb i; pension = hc i; zero = hd i; zeros = he i }
 
 -- facts_of
 pub facts-other : (s : List ℕ) (r : Facts) → (length s ≡ 390 → ⊥) → length s ≡ 390 → Read r s
@@ -214,10 +151,3 @@ facts-is s h d r a b c y t u v w eh ed er et ea eu eb ev ec ew ey l =
 -- has_ten
 pub inn-ten : (t : Text) (b : Bool) → b ≡ inn10 t → b ≡ true → true ≡ digits10 t
 inn-ten t b e h = let q = both (digits10 t && not (t begins "00")) (checkDigit weights10 t) (sym e ∙ h) in sym (both (digits10 t) _ (q .0) .0)
-
--- payer_of
-pub payer-is : (t : Text) (a b c d e f g : Bool) → a ≡ (t is "0") → b ≡ foreignCode t → c ≡ inn10 t → d ≡ inn12 t → e ≡ digits5 t → f ≡ digits10 t → g ≡ digits12 t
-    → record { zero = a; foreign = b; inn10 = c; inn12 = d; five = e; ten = f; twelve = g } ≡ payerOf t
-unfolding payerOf
-payer-is t a b c d e f g ha hb hc hd he hf hg =
-    λ i. record { zero = ha i; foreign = hb i; inn10 = hc i; inn12 = hd i; five = he i; ten = hf i; twelve = hg i }

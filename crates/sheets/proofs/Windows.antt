@@ -46,9 +46,7 @@ module _ (c t u : List ℕ) (n m w : ℕ) (a b : Bool) where
       let f : 26 - m ≡ w = omega arith in
       let g : 26 - n ≡ m - n + w = omega arith in
       let i : n + (m - n) ≡ m = omega arith in
-      let q : m - n ≤ w = omega arith in
-      let r : w ≤ m - n + w = omega arith in
-      cc (drop-drop (m - n) n c, every-cover (are 0) (m - n) w w (drop n c) q r)
+      cc (drop-drop (m - n) n c, every-cover (are 0) (m - n) w w (drop n c) (omega arith) (omega arith))
 
 module _ (c t u : List ℕ) (n : ℕ) (a b : Bool) where
   pub cover-16 : n ≤ 10 → t ≡ between c n (n + 16) → a ≡ every (are 0) t → u ≡ between c 10 26 → b ≡ every (are 0) u → (a && b) ≡ every (are 0) (between c n 26)
@@ -60,17 +58,10 @@ module _ (c t u : List ℕ) (n : ℕ) (a b : Bool) where
   pub cover-4 : 18 < n → n ≤ 22 → t ≡ between c n (n + 4) → a ≡ every (are 0) t → u ≡ between c 22 26 → b ≡ every (are 0) u → (a && b) ≡ every (are 0) (between c n 26)
   cover-4 l h e f g i = cover c t u n 22 4 a b h (omega arith) refl e f g i
 
-pub cover-few : (c t : List ℕ) (n : ℕ) (b : Bool) → t ≡ between c n 26 → b ≡ every (are 0) t → b ≡ every (are 0) (between c n 26)
-cover-few c t n b e f = cc
-
 -- a loop over a window of known width
 module _ (t : List ℕ) (w i : ℕ) (g : Bool) (e : every (are 0) t ≡ (g && every (are 0) (drop i t))) (l : length t ≡ w) where
   pub zero-more : i < w → every (are 0) t ≡ ((g && eqb (getD t i 0) 0) && every (are 0) (drop (i + 1) t))
-  zero-more h =
-      let k : i < length t = omega arith in
-      are-more 0 t i g e k
+  zero-more h = are-more 0 t i g e (omega arith)
 
   pub zero-kept : w ≤ i → g ≡ every (are 0) t
-  zero-kept h =
-      let k : length t ≤ i = omega arith in
-      every-kept (are 0) t i g e k
+  zero-kept h = every-kept (are 0) t i g e (omega arith)

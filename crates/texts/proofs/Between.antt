@@ -1,7 +1,7 @@
 -- A byte and a part of a text, also where they run past its end. Assumes nothing.
 use mathlib.Core.Path.{_≡_, refl, sym}
-use mathlib.Core.List.{List, [], _∷_}
-use Prim.Native.Nat.{ℕ, zero, suc, _-_, _≤_}
+use mathlib.Core.List.{List, []}
+use Prim.Native.Nat.{ℕ, _-_, _≤_}
 use native.Mathlib.Omega.{arith}
 use borrow.Author.Needs.{needs}
 use lib.ListN.{length, getD, take, drop, length-drop, drop-of-length-le, List·getD-eq-default}
@@ -18,17 +18,13 @@ module _ (t : List ℕ) (a e : ℕ) where
 
   pub part-none : e ≤ a → [] ≡ between t a e
   unfolding between
-  part-none h =
-      let z : e - a ≡ 0 = omega arith in
-      rw z
+  part-none h = let z : e - a ≡ 0 = omega arith in rw z
 
   pub part-rest : length t ≤ e → take (length t - a) (drop a t) ≡ between t a e
   unfolding between
   part-rest h =
       let l = length-drop a t in
-      let m : length (drop a t) ≤ length t - a = omega arith in
-      let o : length (drop a t) ≤ e - a = omega arith in
-      cc (take-all (length t - a) (drop a t) m, take-all (e - a) (drop a t) o)
+      cc (take-all (length t - a) (drop a t) (omega arith), take-all (e - a) (drop a t) (omega arith))
 
   pub part-whole : take (e - a) (drop a t) ≡ between t a e
   unfolding between

@@ -2,6 +2,7 @@
 use mathlib.Core.Path.{_≡_, refl, ap, _∙_}
 use mathlib.Core.List.{List, [], _∷_, _++_, append-nil}
 use Prim.Native.Nat.{ℕ, zero, suc, _+_, _*_, _/_, _%_, _^_, _<_}
+use native.Mathlib.Nat.{add-zero}
 use native.Mathlib.Omega.{arith}
 use lib.ListN.{length, getD}
 use Rattle.texts.specs.Numbers.{bigFrom, big, bytesBefore, bytesOf, bytesAt}
@@ -38,6 +39,4 @@ bytes-from a j (b ∷ bs) cs h =
     ap (λ (n : ℕ). bytesBefore n (bigFrom (a * 256 + b) bs) cs) l ∙ bytes-from (a * 256 + b) (suc j) bs cs (h .1) ∙ rw (q, r)
 
 pub bytes-big : (bs : List ℕ) → EachByte bs → bytesOf (length bs) (big bs) ≡ bs
-bytes-big bs h =
-    let l : length bs ≡ length bs + 0 = omega arith in
-    rw (big-from bs) (ap (λ (n : ℕ). bytesOf n (bigFrom 0 bs)) l ∙ bytes-from 0 0 bs [] h ∙ append-nil bs)
+bytes-big bs h = rw (big-from bs, ← add-zero (length bs)) (bytes-from 0 0 bs [] h ∙ append-nil bs)

@@ -14,16 +14,14 @@ module _ (p : ℕ → Bool) where
   every-append [] ls = refl
   every-append (k ∷ ks) ls = and-assoc (p k) (every p ks) (every p ls) ∙ ap (λ (b : Bool). p k && b) (every-append ks ls)
 
-  member-step : (k y : ℕ) (e a : Bool) → eqb y k ≡ e → (e || a) ≡ true → p y ≡ true → (a ≡ true → p k ≡ true) → p k ≡ true
-  member-step k y true a h m q f = ap p (sym (eqb-true y k h)) ∙ q
-  member-step k y false a h m q f = f m
-
   pub every-member : (ks : List ℕ) (k : ℕ) → among k ks ≡ true → every p ks ≡ true → p k ≡ true
   unfolding every any are among
   every-member [] k m a = absurd (false≢true m)
-  every-member (y ∷ ys) k m a =
-      let q = both (p y) (every p ys) a in
-      member-step k y (eqb y k) (any (are k) ys) refl m (q .0) (λ n. every-member ys k n (q .1))
+  every-member (y ∷ ys) k m a = go (eqb y k) refl m (λ n. every-member ys k n (both (p y) (every p ys) a .1))
+    where
+      go : (e : Bool) → eqb y k ≡ e → (e || any (are k) ys) ≡ true → (any (are k) ys ≡ true → p k ≡ true) → p k ≡ true
+      go true h n f = ap p (sym (eqb-true y k h)) ∙ both (p y) (every p ys) a .0
+      go false h n f = f n
 
   -- each of ls is one of ks
   abbrev within : List ℕ → List ℕ → Bool

@@ -1,9 +1,9 @@
 -- What each loop over a text keeps: the answer for the whole is what was found so far and the answer for what is left
 -- from i. One set of laws serves every test. Assumes nothing.
-use mathlib.Core.Path.{_≡_, refl, ap, sym, _∙_}
-use mathlib.Core.Bool.{Bool, true, false, not, _&&_, _||_, and-false, and-true, and-assoc, or-false, or-assoc}
+use mathlib.Core.Path.{_≡_, refl, ap}
+use mathlib.Core.Bool.{Bool, false, _&&_, _||_, and-false, and-true, and-assoc, or-false, or-assoc}
 use mathlib.Core.List.{List, [], _∷_}
-use Prim.Native.Nat.{ℕ, suc, _+_, _≤_, _<_}
+use Prim.Native.Nat.{ℕ, suc, _+_, _-_, _≤_, _<_}
 use native.Mathlib.Numerals.{add-one}
 use native.Mathlib.Omega.{arith}
 use borrow.Author.Needs.{needs}
@@ -12,14 +12,21 @@ use lib.ListN.{length, getD, drop, drop-of-length-le}
 use lib.Seq.{drop-cons}
 use Rattle.texts.specs.Texts.{every, any, are, same}
 
-module _ (p : ℕ → Bool) (t : List ℕ) (i : ℕ) (g : Bool) where
-  every-step : i < length t → every p (drop i t) ≡ (p (getD t i 0) && every p (drop (i + 1) t))
-  unfolding every
-  every-step h = rw (add-one, drop-cons t i 0)
+-- the loop's head: i bytes are passed, and g was found so far
+abbrev pub AllSoFar : (ℕ → Bool) → List ℕ → Bool → ℕ → Type 0
+AllSoFar p t g i = (i ≤ length t) × (every p t ≡ (g && every p (drop i t)))
 
+abbrev pub OneSoFar : (ℕ → Bool) → List ℕ → Bool → ℕ → Type 0
+OneSoFar p t g i = (i ≤ length t) × (any p t ≡ (g || any p (drop i t)))
+
+abbrev pub turnsLeft : List ℕ → ℕ → ℕ
+turnsLeft t i = length t - i
+
+module _ (p : ℕ → Bool) (t : List ℕ) (i : ℕ) (g : Bool) where
   pub every-more : (b : Bool) → every p t ≡ (g && every p (drop i t)) → i < length t → b ≡ p (getD t i 0)
       → every p t ≡ ((g && b) && every p (drop (i + 1) t))
-  every-more b e h q = cc (every-step h, and-assoc g b (every p (drop (i + 1) t)))
+  unfolding every
+  every-more b e h q = rw (e, q, add-one, drop-cons t i 0, and-assoc)
 
   pub every-kept : every p t ≡ (g && every p (drop i t)) → length t ≤ i → g ≡ every p t
   unfolding every
@@ -27,13 +34,10 @@ module _ (p : ℕ → Bool) (t : List ℕ) (i : ℕ) (g : Bool) where
 
 -- one of a list of anything, d standing past its end
 module _ {A : Type 0} (p : A → Bool) (t : List A) (i : ℕ) (g : Bool) (d : A) where
-  any-step : i < length t → any p (drop i t) ≡ (p (getD t i d) || any p (drop (i + 1) t))
-  unfolding any
-  any-step h = rw (add-one, drop-cons t i d)
-
   pub any-more : (b : Bool) → any p t ≡ (g || any p (drop i t)) → i < length t → b ≡ p (getD t i d)
       → any p t ≡ ((g || b) || any p (drop (i + 1) t))
-  any-more b e h q = cc (any-step h, or-assoc g b (any p (drop (i + 1) t)))
+  unfolding any
+  any-more b e h q = rw (e, q, add-one, drop-cons t i d, or-assoc)
 
   pub any-done : any p t ≡ (g || any p (drop i t)) → length t ≤ i → g ≡ any p t
   unfolding any
@@ -52,15 +56,12 @@ module _ (b : ℕ) (t : List ℕ) (i : ℕ) (g : Bool) where
   found-more e h = any-more (are b) t i g 0 (eqb (getD t i 0) b) e h refl
 
 module _ (t u : List ℕ) (i : ℕ) (g : Bool) where
-  same-step : i < length t → i < length u → same (drop i t) (drop i u) ≡ (eqb (getD t i 0) (getD u i 0) && same (drop (i + 1) t) (drop (i + 1) u))
-  unfolding same
-  same-step h k = rw (add-one, drop-cons t i 0, drop-cons u i 0)
-
   pub same-more : same t u ≡ (g && same (drop i t) (drop i u)) → length t ≡ length u → i < length t
       → same t u ≡ ((g && eqb (getD t i 0) (getD u i 0)) && same (drop (i + 1) t) (drop (i + 1) u))
+  unfolding same
   same-more e l h =
       let k : i < length u = omega arith in
-      cc (same-step h k, and-assoc g (eqb (getD t i 0) (getD u i 0)) (same (drop (i + 1) t) (drop (i + 1) u)))
+      rw (e, add-one, drop-cons t i 0, drop-cons u i 0, and-assoc)
 
   pub same-kept : same t u ≡ (g && same (drop i t) (drop i u)) → length t ≡ length u → length t ≤ i → g ≡ same t u
   unfolding same

@@ -1,86 +1,51 @@
 -- Texts of digits and their numbers. Assumes nothing.
 use mathlib.Core.Path.{_≡_, refl, ap, sym, _∙_, subst}
-use mathlib.Core.Bool.{Bool, true, false, not, cond, _&&_, _||_}
-use mathlib.Core.List.{List, [], _∷_, map}
-use Prim.Native.Nat.{ℕ, zero, suc, _+_, _-_, _*_, _^_, _≤_, _<_}
+use mathlib.Core.Bool.{Bool, true, false, not, _&&_}
+use mathlib.Core.List.{List, [], _∷_}
+use Prim.Native.Nat.{ℕ, zero, suc, _+_, _*_, _^_, _≤_, _<_}
 use native.Mathlib.Omega.{arith}
-use borrow.Author.Tests.{eqb-true, eqb-false, eq-eqb, ne-eqb, le-leb, lt-leb, leb-true, not-true, not-false}
+use borrow.Author.Tests.{eqb-true, not-true, not-false}
 use borrow.Author.Needs.{needs}
-use lib.Dec.{eqb, leb}
-use lib.ListN.{length, getD, take, drop, drop-of-length-le, length-take}
+use lib.Dec.{eqb}
+use lib.ListN.{length, getD, drop, drop-of-length-le, length-take}
 use lib.Pow.{pow-add}
 use native.Mathlib.Nat.{mul-le-mul, pow-le-pow-right}
 use lib.Seq.{drop-cons, drop-nil}
 use native.Mathlib.Numerals.{add-one}
 use Rattle.texts.proofs.Bools.{both}
-use Rattle.texts.specs.Texts.{every, any, are, among, same, between, startsWith, digit, digits, digitsNotZero, digitsNot00, valueOf, value, number, weighted}
+use Rattle.texts.specs.Texts.{every, between, digit, digits, valueOf, value, number, weighted}
 
 -- ---- the digit tests of the code
 
-pub digits-other : (t : List ℕ) (n : ℕ) → (length t ≡ n → ⊥) → false ≡ digits n t
-digits-other t n e = simp (ne-eqb (length t) n e)
+-- digits (d) that are not something else (c), as in digitsNotZero and digitsNot00; b is what the code found for d
+module _ (b c d : Bool) (e : b ≡ d) where
+  pub but-other : not b ≡ true → false ≡ (d && not c)
+  but-other h = cc (not-true b h)
 
-pub digits-these : (t : List ℕ) (n : ℕ) (b : Bool) → length t ≡ n → b ≡ every digit t → b ≡ digits n t
-digits-these t n b e h = simp (eq-eqb (length t) n e) h
+  pub but-these : (a : Bool) → not b ≡ false → a ≡ c → not a ≡ (d && not c)
+  but-these a h f = cc (not-false b h)
 
-module _ (t : List ℕ) (n : ℕ) (b : Bool) (e : b ≡ digits n t) where
-  pub zero-other : not b ≡ true → false ≡ digitsNotZero n t
-  zero-other h = cc (not-true b h)
-
-  pub zero-these : (a : Bool) → not b ≡ false → a ≡ every (are 48) t → not a ≡ digitsNotZero n t
-  zero-these a h f = cc (not-false b h)
-
-  pub 00-other : not b ≡ true → false ≡ digitsNot00 n t
-  00-other h = cc (not-true b h)
-
-  pub 00-these : (a : Bool) → not b ≡ false → a ≡ startsWith t (48 ∷ 48 ∷ []) → not a ≡ digitsNot00 n t
-  00-these a h f = cc (not-false b h)
-
-  pub number-other : (z : ℕ) → not b ≡ true → z ≡ 10 ^ n → z ≡ number n t
-  unfolding number
-  number-other z h f = cc (not-true b h)
-
-  number-this : (r : ℕ) → not b ≡ false → r ≡ value 0 t → r ≡ number n t
-  unfolding number
-  number-this r h f = cc (not-false b h)
-
-pub value-in : (b : ℕ) → 48 ≤ b → b ≤ 57 → b - 48 ≡ valueOf b
-unfolding valueOf
-value-in b h k = simp (le-leb 48 b h, le-leb b 57 k)
-
-pub value-high : (b : ℕ) → 57 < b → 0 ≡ valueOf b
-unfolding valueOf
-value-high b h =
-    let k : 48 ≤ b = omega arith in
-    simp (le-leb 48 b k, lt-leb b 57 h)
-
-pub value-low : (b : ℕ) → b < 48 → 0 ≡ valueOf b
-unfolding valueOf
-value-low b h = simp (lt-leb 48 b h)
+pub number-other : (t : List ℕ) (n z : ℕ) (b : Bool) → b ≡ digits n t → not b ≡ true → z ≡ 10 ^ n → z ≡ number n t
+unfolding number
+number-other t n z b e h f = cc (not-true b h)
 
 -- ---- value_of: what the digits up to i make, and what is left from i
 
-ten-more : (i : ℕ) → 10 ^ (i + 1) ≡ 10 ^ i * 10
-ten-more i = pow-add 10 i 1
-
--- so many digits fit 64 bits
-ten-most : (i : ℕ) → i ≤ 17 → 10 ^ i ≤ 10 ^ 17
-ten-most i h = pow-le-pow-right (omega arith) h
-
 module _ (t : List ℕ) (i n : ℕ) (s : length t ≤ 18) (l : n < 10 ^ i) (h : i < length t) where
-  pub value-shifts : n * 10 < 2 ^ 64
-  value-shifts = omega (arith, ten-most i (omega arith))
-
+  -- so many digits fit 64 bits
   pub value-adds : (m : ℕ) → m ≤ 9 → n * 10 + m < 2 ^ 64
-  value-adds m k = omega (arith, ten-most i (omega arith))
+  value-adds m k =
+      let q : i ≤ 17 = omega arith in
+      let p : 10 ^ i ≤ 10 ^ 17 = pow-le-pow-right (omega arith) q in
+      omega arith
+
+  pub value-shifts : n * 10 < 2 ^ 64
+  value-shifts = omega (arith, value-adds 0 (omega arith))
 
   pub value-more : (x m : ℕ) → value 0 t ≡ value n (drop i t) → (x ≡ valueOf (getD t i 0)) × (x ≤ 9) → m ≡ x
       → (value 0 t ≡ value (n * 10 + m) (drop (i + 1) t)) × (n * 10 + m < 10 ^ (i + 1))
   unfolding value
-  value-more x m e v w =
-      let f = w ∙ v .0 in
-      let b = v .1 in
-      (e ∙ rw (add-one, drop-cons t i 0) (ap (λ (k : ℕ). value (n * 10 + k) (drop (suc i) t)) (sym f)), rw (ten-more i) (omega arith))
+  value-more x m e v w = (e ∙ rw (add-one, drop-cons t i 0, w, v .0), rw (pow-add 10 i 1) (omega (arith, v .1)))
 
 pub value-done : (t : List ℕ) (i n : ℕ) → value 0 t ≡ value n (drop i t) → n < 10 ^ i → i ≤ length t → length t ≤ i → (n ≡ value 0 t) × (n < 10 ^ length t)
 unfolding value
@@ -98,7 +63,8 @@ module _ (t : List ℕ) (n : ℕ) (b : Bool) (e : b ≡ digits n t) (h : not b �
   digits-short k = omega (arith, digits-sized)
 
   pub number-is : (r : ℕ) → (r ≡ value 0 t) × (r < 10 ^ length t) → r ≡ number n t
-  number-is r v = number-this t n b e r h (v .0)
+  unfolding number
+  number-is r v = cc (not-false b h, v .0)
 
   pub number-below : (r : ℕ) → (r ≡ value 0 t) × (r < 10 ^ length t) → r < 10 ^ n
   number-below r v = subst (λ (j : ℕ). r < 10 ^ j) digits-sized (v .1)
@@ -114,29 +80,22 @@ pub weights-short : (w l : List ℕ) → w ≡ between l 0 25 → length w ≤ 2
 unfolding between
 weights-short w l e = rw (e, length-take 25 l) (omega arith)
 
-weighted-none : (ws : List ℕ) → weighted ws [] ≡ 0
-unfolding weighted
-weighted-none [] = refl
-weighted-none (w ∷ ws) = refl
-
 weighted-step : (ws t : List ℕ) (i : ℕ) → i < length ws → weighted (drop i ws) (drop i t) ≡ getD ws i 0 * valueOf (getD t i 0) + weighted (drop (suc i) ws) (drop (suc i) t)
 unfolding weighted valueOf
 weighted-step [] t i h = absurd (omega arith)
-weighted-step (w ∷ ws) [] zero h = omega (arith, weighted-none ws)
+weighted-step (w ∷ []) [] zero h = omega arith
+weighted-step (w ∷ v ∷ ws) [] zero h = omega arith
 weighted-step (w ∷ ws) (x ∷ xs) zero h = refl
 weighted-step (w ∷ ws) [] (suc i) h = ap (weighted (drop i ws)) (sym (drop-nil i)) ∙ weighted-step ws [] i (omega arith)
 weighted-step (w ∷ ws) (x ∷ xs) (suc i) h = weighted-step ws xs i (omega arith)
 
 module _ (ws t : List ℕ) (i s : ℕ) (e : weighted ws t ≡ s + weighted (drop i ws) (drop i t)) where
   pub weighted-more : (b y : ℕ) → i < length ws → b ≡ getD t i 0 → y ≡ getD ws i 0 * valueOf b → weighted ws t ≡ s + y + weighted (drop (i + 1) ws) (drop (i + 1) t)
-  weighted-more b y h eb ey =
-      let f : y ≡ getD ws i 0 * valueOf (getD t i 0) = ey ∙ ap (λ (k : ℕ). getD ws i 0 * valueOf k) eb in
-      let g = weighted-step ws t i h in
-      rw add-one (omega arith)
+  weighted-more b y h eb ey = rw (add-one, ey, eb) (omega (arith, weighted-step ws t i h))
 
   pub weighted-done : length ws ≤ i → s ≡ weighted ws t
   unfolding weighted
   weighted-done h = sym (e ∙ rw (drop-of-length-le ws h) (omega arith))
 
 pub ruleset numerals =
-    (needs, digits-other, digits-these, zero-other, zero-these, 00-other, 00-these, number-other, value-in, value-high, value-low, digits-short, number-is, number-below)
+    (needs, but-other, but-these, number-other, digits-short, number-is, number-below)

@@ -1,13 +1,13 @@
 -- Laws of a list of tests: one set for every function that refuses. Assumes nothing.
 use mathlib.Core.Path.{_≡_, refl, sym, ap, _∙_}
-use mathlib.Core.Bool.{Bool, true, false, cond, not, _&&_, false≢true, true≢false}
+use mathlib.Core.Bool.{Bool, true, false, not, _&&_, false≢true, true≢false}
 use mathlib.Core.List.{List, [], _∷_, _++_}
 use Prim.Native.Nat.{ℕ}
 use native.Mathlib.Omega.{arith}
 use borrow.Author.Tests.{eq-eqb}
 use lib.Dec.{eqb}
 use Rattle.texts.proofs.Bools.{both}
-use Rattle.texts.specs.Answers.{Answer, success, refusal, numberOf, Test, test, passes, answerBy, bufferBy}
+use Rattle.texts.specs.Answers.{success, refusal, numberOf, Test, test, passes, answerBy, bufferBy}
 
 -- a refusal is no success
 pub no-success : (n : ℕ) (vs ws : List ℕ) → refusal n vs ≡ success ws → ⊥
@@ -43,11 +43,9 @@ module _ (vs ws : List ℕ) where
 
 -- what is not a success changes no buffer
 pub unchanged : (vs new old : List ℕ) (ts : List Test) → (answerBy ts vs ≡ success vs → ⊥) → bufferBy ts new old ≡ old
-unchanged vs new old ts n = go (passes ts) refl
-  where
-    go : (b : Bool) → passes ts ≡ b → cond b new old ≡ old
-    go true e = absurd (n (succeeds vs vs ts e))
-    go false e = refl
+unchanged vs new old [] n = absurd (n refl)
+unchanged vs new old (test true k us ∷ ts) n = refl
+unchanged vs new old (test false k us ∷ ts) n = unchanged vs new old ts n
 
 -- a number that no test has is not refused with
 abbrev pub lacks : ℕ → List Test → Bool

@@ -1,6 +1,6 @@
-use Rattle.sheets.proofs.Frames.{blank-basis}
+use Rattle.sheets.proofs.Frames.{blank-fields}
 use Rattle.sheets.proofs.entries.blank_basis.Statement.{statement}
 use Rattle.sheets.proofs.entries.blank_basis.Tie as tie
 
 pub blank-basis-spec : {M : Type 1} → statement M
-blank-basis-spec = tie.close (tie.spec (λ c. λ s o. blank-basis (c .args .f) s o))
+blank-basis-spec = tie.close (tie.spec (λ c. λ s o. blank-fields (c .args .f) s o .1 .0))

@@ -1,6 +1,6 @@
-use Rattle.sheets.proofs.Frames.{blank-status}
+use Rattle.sheets.proofs.Frames.{blank-fields}
 use Rattle.sheets.proofs.entries.blank_status.Statement.{statement}
 use Rattle.sheets.proofs.entries.blank_status.Tie as tie
 
 pub blank-status-spec : {M : Type 1} → statement M
-blank-status-spec = tie.close (tie.spec (λ c. λ s o. blank-status (c .args .f) s o))
+blank-status-spec = tie.close (tie.spec (λ c. λ s o. blank-fields (c .args .f) s o .0))

@@ -1,4 +1,3 @@
-use borrow.Author.Needs.{needs}
 use Rattle.sheets.specs.Forms.{leap}
 use Rattle.sheets.proofs.forms.is_leap.Statement.{statement}
 use Rattle.sheets.proofs.forms.is_leap.Tie as tie

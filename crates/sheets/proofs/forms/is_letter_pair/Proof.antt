@@ -10,7 +10,6 @@ use Rattle.texts.specs.Quoted.{Text, words}
 use Rattle.texts.specs.Texts.{any, every, same, _isOneOf_}
 use Rattle.texts.proofs.Bools.{both}
 use Rattle.texts.proofs.Loops.{loops, any-more, any-done, same-length}
-use Rattle.sheets.specs.Forms.{letterPair}
 use Rattle.sheets.specs.Lists.{letterPairs}
 use Rattle.sheets.proofs.forms.is_letter_pair.Statement.{statement}
 use Rattle.sheets.proofs.forms.is_letter_pair.Tie as tie
@@ -29,10 +28,6 @@ none-of-them t n (u ∷ us) h =
     let l = eqb-true (length u) 2 (q .0) in
     cc (same-length t u (λ e. n (e ∙ l)), none-of-them t n us (q .1))
 
-other-length : (t : Text) → (length t ≡ 2 → ⊥) → false ≡ letterPair t
-unfolding _isOneOf_ every
-other-length t n = none-of-them t n (words letterPairs) refl
-
 pub is-letter-pair-spec : {M : Type 1} → statement M
-unfolding _isOneOf_
-is-letter-pair-spec = tie.close (tie.spec Inv-loop μ-loop (λ c. other-length (c .before .before .args .t .now) (c .if1 .taken)) (λ c. search loops) (λ c. search loops) (λ c. search loops) (λ c κs. search loops) (λ c. search loops) (λ c. search loops) (λ c. (omega arith, any-more (same (c .before .before .before .before .before .before .args .t .now)) (words letterPairs) (c .before .before .before .loop .i) (c .before .before .before .loop .found) [] (c .is-pair .result) (c .before .before .before .loop .inv .1) (c .before .before .loop-test .taken) (c .is-pair .ensures))) (λ c. any-done (same (c .before .before .before .before .args .t .now)) (words letterPairs) (c .before .loop .i) (c .before .loop .found) [] (c .before .loop .inv .1) (c .loop-test .left)))
+unfolding _isOneOf_ every
+is-letter-pair-spec = tie.close (tie.spec Inv-loop μ-loop (λ c. none-of-them (c .before .before .args .t .now) (c .if1 .taken) (words letterPairs) refl) (λ c. search loops) (λ c. search loops) (λ c. search loops) (λ c κs. search loops) (λ c. search loops) (λ c. search loops) (λ c. (omega arith, any-more (same (c .before .before .before .before .before .before .args .t .now)) (words letterPairs) (c .before .before .before .loop .i) (c .before .before .before .loop .found) [] (c .is-pair .result) (c .before .before .before .loop .inv .1) (c .before .before .loop-test .taken) (c .is-pair .ensures))) (λ c. any-done (same (c .before .before .before .before .args .t .now)) (words letterPairs) (c .before .loop .i) (c .before .loop .found) [] (c .before .loop .inv .1) (c .loop-test .left)))

@@ -6,8 +6,8 @@ use mathlib.Core.List.{_++_, append-nil}
 use mathlib.Core.Path.{_≡_, refl, _∙_}
 use native.Mathlib.Omega.{arith}
 use lib.ListN.{length, drop, replicate, length-set}
+use lib.Seq.{drop-length}
 use Rattle.texts.specs.Buffers.{zeroed}
-use Rattle.texts.proofs.Puts.{drop-end}
 use Rattle.texts.proofs.buffers.clear.Statement.{statement}
 use Rattle.texts.proofs.buffers.clear.Tie as tie
 
@@ -29,7 +29,7 @@ returns c =
     let l = c .before in
     let d = l .before .args .dst .now in
     let e : l .loop .i ≡ length d = omega arith in
-    l .loop .inv .1 ∙ rw (e, drop-end (length d) d (omega arith), append-nil)
+    l .loop .inv .1 ∙ rw (e, drop-length, append-nil)
 
 pub clear-spec : {M : Type 1} → statement M
 clear-spec = tie.close (tie.spec Inv-loop μ-loop (λ c. (omega arith, refl, refl)) (λ c. search needs) (λ c. search needs) (λ c. search needs) loop-again (λ c. c .before .loop .inv .2) returns)
