@@ -9,7 +9,7 @@ use native.Mathlib.Omega.{arith}
 use borrow.Author.Tests.{eq-eqb, ne-eqb}
 use lib.ListN.{length, getD}
 use lib.Seq.{ext-getD}
-use Rattle.sheets.specs.Sheet.{fields}
+use Rattle.sheets.specs.Sheet.{fields, slotCount}
 use Rattle.drafts.specs.Message.{messageField, readable}
 use Rattle.drafts.specs.Draft.{slotSize, draftSize, slotIn, rankOf}
 use Rattle.drafts.specs.History.{postedAll, rankIn, highest, endSlot, AllBytes, NoClash}
@@ -21,11 +21,11 @@ use Rattle.drafts.proofs.EndSlots.{named, ranked, top, top-at, all-form
 
 -- ---- a draft is its slots
 
-slots-ext : (d e : List ℕ) → length d ≡ draftSize → length e ≡ draftSize → ((i : ℕ) → i < 15 → slotIn d i ≡ slotIn e i) → d ≡ e
+slots-ext : (d e : List ℕ) → length d ≡ draftSize → length e ≡ draftSize → ((i : ℕ) → i < slotCount → slotIn d i ≡ slotIn e i) → d ≡ e
 slots-ext d e ld le h =
     ext-getD 0 d e (ld ∙ sym le)
     (λ k l.
-    let b : k / slotSize < 15 = omega (arith, ld) in
+    let b : k / slotSize < slotCount = omega (arith, ld) in
     let p : k / slotSize * slotSize + k % slotSize ≡ k = omega arith in
     let q : k % slotSize < slotSize = omega arith in
     cc (p, at-slot d (k / slotSize) (k % slotSize) q, at-slot e (k / slotSize) (k % slotSize) q, h (k / slotSize) b))

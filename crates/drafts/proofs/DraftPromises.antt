@@ -15,17 +15,18 @@ use lib.Dec.{eqb, ltb}
 use lib.ListN.{length, getD, replicate, length-replicate, replicate-append-replicate}
 use lib.Seq.{drop-at}
 use Rattle.texts.specs.Texts.{same}
-use Rattle.texts.proofs.Bools.{both}
+use Rattle.texts.proofs.Bools.{cases, both}
 use Rattle.texts.proofs.Codes.{same-true, same-self}
-use Rattle.texts.specs.Numbers.{bytesOf}
+use Rattle.texts.specs.Numbers.{Bytes, bytesOf}
 use Rattle.texts.specs.Buffers.{put, putAt, zeroed}
 use Rattle.texts.proofs.Puts.{put-fits, length-put, put-none, put-next, put-whole}
-use Rattle.sheets.specs.Sheet.{cellSize, sheetSize, cell, slotOf}
+use Rattle.sheets.specs.Sheet.{slotCount, textMax, cellSize, sheetSize, cell, slotOf}
 use Rattle.sheets.specs.declared.sheet.Field.{Field}
 use Rattle.texts.specs.Answers.{Answer, success, refusal, numberOf, passes, answerBy, bufferBy}
-use Rattle.drafts.specs.Message.{textMax, revisionSize, Bytes, IsMessage, messageField, revisionOf, messageText, readTests, readable, readingOf, readAnswer}
-use Rattle.drafts.specs.Draft.{cellPlace, slotSize, draftSize, comparison, slotIn, slotRevision, slotCell, slotText, slotBytes, slotWith, draftFormed, freshDraft, beginTests, beginningOf, begunFrom, slotComparison, comparisonOf, word, kept, postTests, postingOf, stored, postedTo, postAnswer, cells, draftSheet, copyTests, copyingOf, copiedTo, copyAnswer, sheetInto}
+use Rattle.drafts.specs.Message.{revisionSize, IsMessage, messageField, revisionOf, messageText, readTests, readable, readingOf, readAnswer}
+use Rattle.drafts.specs.Draft.{cellPlace, slotSize, draftSize, comparison, slotIn, slotRevision, slotCell, slotText, slotBytes, slotWith, draftFormed, freshDraft, beginTests, beginningOf, begunFrom, slotComparison, comparisonOf, word, draftBy, postTests, postingOf, stored, postedTo, postAnswer, cells, draftSheet, copyTests, copyingOf, copiedTo, copyAnswer}
 use Rattle.drafts.specs.History.{postedFrom, postedAll}
+use Rattle.drafts.specs.Working.Steps.{sheetInto}
 use Rattle.drafts.specs.Promises.{Reads, Postings, Freshens, Stands, newer as is-newer, same as is-same, older as is-older, clash as is-clash, Posts, Copies}
 use Rattle.drafts.specs.declared.revision.Revision.{Revision}
 use Rattle.drafts.specs.declared.revision.Comparison.{Comparison}
@@ -40,7 +41,7 @@ use Rattle.drafts.specs.declared.draft.Copied.{Copied}
 use Rattle.drafts.specs.declared.draft.Copied.the-variants as copied
 use Rattle.texts.proofs.Refusals.{no-success, none-of, succeeds, succeeded, refused, unchanged, never}
 use Rattle.drafts.proofs.Messages.{readable-means, slotted, reading-is, read-found, text-short, message-is}
-use Rattle.drafts.proofs.Ranks.{cases, clashTest}
+use Rattle.drafts.proofs.Ranks.{clashTest}
 use Rattle.drafts.proofs.EndSlots.{post-read}
 use Rattle.drafts.proofs.Arrangements.{held-by}
 use Rattle.drafts.proofs.DraftSheets.{length-cell, length-cells, length-sheet, sheet-made, sheet-into}
@@ -144,7 +145,7 @@ module _ (d m : List ℕ) (r : Posted) (p : postAnswer r ≡ postingOf d m) wher
   post-kept e q n =
       q ∙ cases (passes (postTests d m)) (λ h. rw h (old (comparisonOf d m) (posted-of r _ (p ∙ succeeds _ [] (postTests d m) h)))) (λ h. rw h)
     where
-      old : (st : Comparison) → r ≡ postedOf (success (word st)) → kept st (stored d m) d ≡ d
+      old : (st : Comparison) → r ≡ postedOf (success (word st)) → draftBy st (stored d m) d ≡ d
       old Newer h = absurd (n h)
       old Same h = refl
       old Older h = refl
@@ -224,7 +225,7 @@ module _ (d m : List ℕ) (h : (k : ℕ) → Fits w8 (getD m k 0)) (b : Bool) (e
             posts-by d m _ e h (p .0) (y ∙ rw (slot-is, found .2, et) (p .1))
 
         -- the draft as it was
-        pub post-still : (x : Comparison) (r : Posted) → st ≡ x → postAnswer r ≡ answerBy (clashTest x) (word x) → d ≡ bufferBy (clashTest x) (kept x (stored d m) d) d → Posts d m r d
+        pub post-still : (x : Comparison) (r : Posted) → st ≡ x → postAnswer r ≡ answerBy (clashTest x) (word x) → d ≡ bufferBy (clashTest x) (draftBy x (stored d m) d) d → Posts d m r d
         post-still x r q a k = let p = post-read d m x formed (found .0) (sym q ∙ stood) in posts-by d m r d h (a ∙ p .0) (k ∙ p .1)
 
 -- ---- put_sheet: the cells of the first n slots stand in what was there before
@@ -235,21 +236,21 @@ module _ (d s : List ℕ) (l : length d ≡ draftSize) (z : length s ≡ sheetSi
   cells-none = sym (put-none s)
 
   module _ (x : List ℕ) (n : ℕ) (ex : x ≡ put s 0 (cells d n)) where
-    pub cells-more : (u c y : List ℕ) (w : ℕ) → n < 15 → u ≡ slotIn d n → c ≡ slotCell u → w ≡ n → y ≡ putAt x (w * cellSize) c → y ≡ put s 0 (cells d (n + 1))
+    pub cells-more : (u c y : List ℕ) (w : ℕ) → n < slotCount → u ≡ slotIn d n → c ≡ slotCell u → w ≡ n → y ≡ putAt x (w * cellSize) c → y ≡ put s 0 (cells d (n + 1))
     unfolding cells
     cells-more u c y w h eu ec ew ey =
         let lc : length c ≡ cellSize = rw (ec, eu) (length-cell d l n h) in
         let p : putAt x (n * cellSize) c ≡ put s 0 (cells d n ++ c) = put-next s (cells d n) c x (n * cellSize) (length-cells d l n (omega arith)) (omega arith) ex in
         ey ∙ rw (ew, p, add-one, ec, eu)
 
-    pub cells-length : n ≤ 15 → length x ≡ length s
+    pub cells-length : n ≤ slotCount → length x ≡ length s
     cells-length h = ap length ex ∙ length-put s 0 (cells d n) (omega (arith, length-cells d l n h))
 
-    pub cells-all : n ≤ 15 → 15 ≤ n → x ≡ sheetInto d s
+    pub cells-all : n ≤ slotCount → slotCount ≤ n → x ≡ sheetInto d s
     unfolding draftSheet
     cells-all h g =
-        let e : n ≡ 15 = omega arith in
-        ex ∙ rw e (put-whole s (cells d 15) (length-cells d l 15 (omega arith) ∙ sym z)) ∙ sym (sheet-into d s l z)
+        let e : n ≡ slotCount = omega arith in
+        ex ∙ rw e (put-whole s (cells d slotCount) (length-cells d l slotCount (omega arith) ∙ sym z)) ∙ sym (sheet-into d s l z)
 
 pub sheet-other : (d s : List ℕ) → ((length d ≡ draftSize) × (length s ≡ sheetSize) → ⊥) → s ≡ sheetInto d s
 unfolding sheetInto

@@ -12,22 +12,23 @@ use lib.Seq.{length-take-le, take-all, drop-at, take-append-le, drop-append-le}
 use Rattle.texts.specs.Texts.{between, every}
 use Rattle.texts.proofs.Bools.{both}
 use Rattle.sheets.proofs.Frames.{cell-part}
-use Rattle.sheets.specs.Sheet.{cellSize, sheetSize, cellOk, cellOf, textOf, slotOk, wellFormed}
-use Rattle.drafts.specs.Draft.{cellPlace, draftSize, slotIn, slotCell, slotText, slotFormed, draftFormed, cells, draftSheet, sheetInto}
+use Rattle.sheets.specs.Sheet.{slotCount, cellSize, sheetSize, cellOk, cellOf, textOf, slotOk, wellFormed}
+use Rattle.drafts.specs.Draft.{cellPlace, draftSize, slotIn, slotCell, slotText, slotFormed, draftFormed, cells, draftSheet}
+use Rattle.drafts.specs.Working.Steps.{sheetInto}
 use Rattle.drafts.proofs.Slots.{length-slot-in, formed-means}
 
 module _ (d : List ℕ) (size : length d ≡ draftSize) where
-  pub length-cell : (n : ℕ) → n < 15 → length (slotCell (slotIn d n)) ≡ cellSize
+  pub length-cell : (n : ℕ) → n < slotCount → length (slotCell (slotIn d n)) ≡ cellSize
   unfolding slotCell between
   length-cell n h = length-take-le cellSize (drop cellPlace (slotIn d n)) (omega (arith, length-drop cellPlace (slotIn d n), length-slot-in d size n h))
 
-  pub length-cells : (n : ℕ) → n ≤ 15 → length (cells d n) ≡ n * cellSize
+  pub length-cells : (n : ℕ) → n ≤ slotCount → length (cells d n) ≡ n * cellSize
   unfolding cells
   length-cells zero h = refl
   length-cells (suc n) h =
       length-append (cells d n) (slotCell (slotIn d n)) ∙ rw (length-cells n (omega arith), length-cell n (omega arith)) (omega arith)
 
-  cell-at : (n i : ℕ) → i < n → n ≤ 15 → cellOf (cells d n) i ≡ slotCell (slotIn d i)
+  cell-at : (n i : ℕ) → i < n → n ≤ slotCount → cellOf (cells d n) i ≡ slotCell (slotIn d i)
   unfolding cells
   cell-at zero i h l = absurd (omega arith)
   cell-at (suc n) i h l =
@@ -46,15 +47,15 @@ module _ (d : List ℕ) (size : length d ≡ draftSize) where
 
   pub length-sheet : length (draftSheet d) ≡ sheetSize
   unfolding draftSheet
-  length-sheet = length-cells 15 (omega arith)
+  length-sheet = length-cells slotCount (omega arith)
 
-pub sheet-made : (d : List ℕ) → draftFormed d ≡ true → (wellFormed (draftSheet d) ≡ true) × ((i : ℕ) → i < 15 → textOf (draftSheet d) i ≡ slotText (slotIn d i))
+pub sheet-made : (d : List ℕ) → draftFormed d ≡ true → (wellFormed (draftSheet d) ≡ true) × ((i : ℕ) → i < slotCount → textOf (draftSheet d) i ≡ slotText (slotIn d i))
 unfolding draftSheet slotFormed slotOk every textOf slotText
 sheet-made d w =
     let F = formed-means d w in
-    let is : (i : ℕ) → i < 15 → cellOf (cells d 15) i ≡ slotCell (slotIn d i) = λ i l. cell-at d (F .sized) 15 i l (omega arith) in
-    let ok : (i : ℕ) → ltb i 15 ≡ true → cellOk (cellOf (cells d 15) i) ≡ true =
-    λ i t. let l = ltb-true i 15 t in rw (is i l) (both (cellOk (slotCell (slotIn d i))) _ (F .slot i l) .0) in
+    let is : (i : ℕ) → i < slotCount → cellOf (cells d slotCount) i ≡ slotCell (slotIn d i) = λ i l. cell-at d (F .sized) slotCount i l (omega arith) in
+    let ok : (i : ℕ) → ltb i slotCount ≡ true → cellOk (cellOf (cells d slotCount) i) ≡ true =
+    λ i t. let l = ltb-true i slotCount t in rw (is i l) (both (cellOk (slotCell (slotIn d i))) _ (F .slot i l) .0) in
     (simp (eq-eqb _ _ (length-sheet d (F .sized)), ok), λ i l. rw (is i l))
 
 pub sheet-into : (d s : List ℕ) → length d ≡ draftSize → length s ≡ sheetSize → sheetInto d s ≡ draftSheet d

@@ -12,16 +12,18 @@ use lib.Dec.{eqb, ltb, eqb·suc-zero}
 use lib.ListN.{length, replicate, getD-replicate}
 use lib.Seq.{ext-getD}
 use Rattle.texts.specs.Texts.{between, every, are}
-use Rattle.texts.proofs.Bools.{both}
-use Rattle.sheets.specs.Sheet.{slotOf, cellText, cellOk}
+use Rattle.texts.proofs.Bools.{cases, both}
+use Rattle.texts.specs.Numbers.{Bytes}
+use Rattle.sheets.specs.Sheet.{slotCount, slotOf, cellText, cellOk}
 use Rattle.texts.specs.Answers.{answerBy, bufferBy}
-use Rattle.drafts.specs.Message.{Bytes, messageField, readTests, readable}
-use Rattle.drafts.specs.Draft.{slotSize, draftSize, slotsFormed, slotIn, slotCell, slotText, slotFormed, rankOf, slotRank, slotWith, draftFormed, freshDraft, comparisonOf, word, kept, postTests, postingOf, stored, postedTo}
+use Rattle.drafts.specs.Message.{messageField, readTests, readable}
+use Rattle.drafts.specs.Draft.{slotSize, draftSize, slotsFormed, slotIn, slotCell, slotText, slotFormed, rankOf, slotWith, draftFormed, freshDraft, comparisonOf, word, draftBy, postTests, postingOf, stored, postedTo}
 use Rattle.drafts.specs.History.{postedFrom, postedAll, names, rankIn, highest, firstOf, emptySlot, endSlot, Ends, none, won, AllBytes}
+use Rattle.drafts.specs.Working.Steps.{slotRank}
 use Rattle.drafts.specs.declared.revision.Comparison.{Comparison}
 use Rattle.texts.proofs.Refusals.{fails, more}
 use Rattle.drafts.proofs.Messages.{readable-means, slotted}
-use Rattle.drafts.proofs.Ranks.{cases, clashTest, rank-above, length-with, rank-with, with-formed, empty-rank, rank-kept}
+use Rattle.drafts.proofs.Ranks.{clashTest, rank-above, length-with, rank-with, with-formed, empty-rank, rank-draft}
 use Rattle.drafts.proofs.Slots.{at-slot, length-slot-in, length-put-slot, slot-same, slot-other, Formed, formed-means, formed-by}
 
 -- ---- the rank of a message in a slot
@@ -47,7 +49,7 @@ module _ (i : ℕ) (m : List ℕ) where
 
 -- a readable message against a well-formed draft: what is left to test is the clash
 pub post-read : (d m : List ℕ) (st : Comparison) → draftFormed d ≡ true → readable m ≡ true → st ≡ comparisonOf d m
-    → (answerBy (clashTest st) (word st) ≡ postingOf d m) × (bufferBy (clashTest st) (kept st (stored d m) d) d ≡ postedTo d m)
+    → (answerBy (clashTest st) (word st) ≡ postingOf d m) × (bufferBy (clashTest st) (draftBy st (stored d m) d) d ≡ postedTo d m)
 unfolding readable postingOf postedTo postTests
 post-read d m st w z e =
     let p = more (clashTest st) (word st) (readTests m) z in
@@ -65,7 +67,7 @@ module _ (d m : List ℕ) (f : Formed d) where
   unfolding names rankIn readable postedTo postTests
   posted-is =
       cases (readable m)
-      (λ z. rw (z, eq-eqb (own m) (own m) refl) (sym (post-read d m (comparisonOf d m) (formed-by d f) z refl .1) ∙ rank-kept d m (stored d m)))
+      (λ z. rw (z, eq-eqb (own m) (own m) refl) (sym (post-read d m (comparisonOf d m) (formed-by d f) z refl .1) ∙ rank-draft d m (stored d m)))
       (λ z. rw (z, le-ltb (slotRank (slotIn d (own m))) 0 (omega arith), formed-by d f, fails (readTests m) (clashTest (comparisonOf d m)) z))
 
   -- what it does to each slot
@@ -139,7 +141,7 @@ fresh-formed : Formed freshDraft
 unfolding freshDraft draftFormed slotsFormed slotFormed slotIn slotCell slotText cellOk cellText between every are
 fresh-formed = formed-means freshDraft refl
 
-fresh-slot : (i : ℕ) → i < 15 → slotIn freshDraft i ≡ emptySlot
+fresh-slot : (i : ℕ) → i < slotCount → slotIn freshDraft i ≡ emptySlot
 unfolding freshDraft emptySlot
 fresh-slot i h =
     let l = length-slot-in (replicate draftSize 0) refl i h in
@@ -156,7 +158,7 @@ module _ (ms : List (List ℕ)) (b : AllBytes ms) where
   unfolding postedAll
   all-formed = posted-list freshDraft ms fresh-formed b .0
 
-  pub all-slot : (i : ℕ) → i < 15 → slotIn (postedAll ms) i ≡ endSlot i ms
+  pub all-slot : (i : ℕ) → i < slotCount → slotIn (postedAll ms) i ≡ endSlot i ms
   unfolding postedAll endSlot
   all-slot i l = posted-list freshDraft ms fresh-formed b .1 i ∙ rw (fresh-slot i l, empty-rank) (last (highest i ms) (slotWith (firstOf i (highest i ms) ms)) emptySlot)
 

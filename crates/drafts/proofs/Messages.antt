@@ -15,13 +15,13 @@ use lib.ListN.{length, take, drop, getD, length-drop}
 use lib.Seq.{take-all, drop-cons}
 use Rattle.texts.specs.Answers.{success, refusal, passes}
 use Rattle.texts.specs.Texts.{between}
-use Rattle.texts.specs.Numbers.{big, bytesOf, bytesAt}
+use Rattle.texts.specs.Numbers.{Bytes, big, bytesOf, bytesAt}
 use Rattle.texts.specs.Buffers.{put, putAt}
 use Rattle.texts.proofs.Big.{big-bytes, each-at, bytes-big}
 use Rattle.texts.proofs.Puts.{put-fits, put-next, mid-put, drop-put}
-use Rattle.sheets.specs.Sheet.{fields, placeOf, slotOf}
+use Rattle.sheets.specs.Sheet.{fields, slotCount, placeOf, slotOf, textMax}
 use Rattle.sheets.specs.declared.sheet.Field.{Field}
-use Rattle.drafts.specs.Message.{textMax, revisionPlace, revisionSize, headSize, leastL, mostL, Bytes, IsMessage, Writable, lengthOf, versionOf, messageField, revisionOf, messageText, readTests, readable, readingOf, readAnswer, headBytes, messageOf, writeTests, writingOf, writtenOf, writeAnswer}
+use Rattle.drafts.specs.Message.{revisionPlace, revisionSize, headSize, leastL, mostL, IsMessage, Writable, lengthOf, versionOf, messageField, revisionOf, messageText, readTests, readable, readingOf, readAnswer, headBytes, messageOf, writeTests, writingOf, writtenOf, writeAnswer}
 use Rattle.drafts.specs.Promises.{Reads, Writes}
 use Rattle.drafts.specs.declared.revision.Revision.{Revision}
 use Rattle.drafts.specs.declared.message.Reading.{Reading}
@@ -45,11 +45,11 @@ place x (y ∷ ys) = go (eqb x y) refl (place x ys)
     go false e (inl p) = inl (List·Memᴰ·tail (p .0), rw e (omega arith), rw e (p .2))
     go false e (inr p) = inr (λ m. ⊎-elim (eqb-false x y e) (p .0) (List·Memᴰ·cases-cons m), rw e (ap suc (p .1)))
 
-pub slotted : (f : ℕ) → (slotOf f ≡ 15 → ⊥) → List·Memᴰ f fields × (slotOf f < 15) × (getD fields (slotOf f) 0 ≡ f)
+pub slotted : (f : ℕ) → (slotOf f ≡ slotCount → ⊥) → List·Memᴰ f fields × (slotOf f < slotCount) × (getD fields (slotOf f) 0 ≡ f)
 unfolding slotOf
 slotted f n = ⊎-elim (λ p. p) (λ p. absurd (n (p .1))) (place f fields)
 
-pub listed-slot : (f : ℕ) → List·Memᴰ f fields → slotOf f ≡ 15 → ⊥
+pub listed-slot : (f : ℕ) → List·Memᴰ f fields → slotOf f ≡ slotCount → ⊥
 unfolding slotOf
 listed-slot f m e = ⊎-elim (λ p. omega arith) (λ p. p .0 m) (place f fields)
 
@@ -60,7 +60,7 @@ pub record Readable (m : List ℕ) : Type 0 where
   pub low : leastL ≤ lengthOf m
   pub high : lengthOf m ≤ mostL
   pub version : versionOf m ≡ 1
-  pub listed : slotOf (messageField m) ≡ 15 → ⊥
+  pub listed : slotOf (messageField m) ≡ slotCount → ⊥
   pub revised : revisionOf m ≡ 0 → ⊥
 
 pub readable-means : (m : List ℕ) → readable m ≡ true → Readable m
@@ -178,7 +178,7 @@ pub text-short : (m : List ℕ) → readable m ≡ true → length (messageText 
 text-short m e = read-writable m m e (omega arith) .short
 
 pub revision-fits : (m : List ℕ) → Bytes m → revisionOf m < 2 ^ 32
-revision-fits m h = omega (arith, h 4, h 5, h 6, h 7)
+revision-fits m h = omega (arith, h revisionPlace, h (revisionPlace + 1), h (revisionPlace + 2), h (revisionPlace + 3))
 
 is-message : (m : List ℕ) → Bytes m → readable m ≡ true → IsMessage m (messageField m) (revisionOf m) (messageText m)
 is-message m h e =
@@ -261,12 +261,12 @@ module _ (m : List ℕ) (h : (k : ℕ) → Fits w8 (getD m k 0)) (a b l : ℕ) (
               reads-by m _ h (simp (le-ltb _ _ two, eq-eqb _ _ all-is, le-ltb _ _ low-is, le-ltb _ _ high-is, ← ev, ne-eqb _ _ n))
 
           module _ (one : v ≡ 1) (f k : ℕ) (ef : f ≡ getD m 3 0) (ek : k ≡ slotOf f) where
-            pub read-unlisted : k ≡ 15 → Reads m (Refused (record { 0 = 4 }))
+            pub read-unlisted : k ≡ slotCount → Reads m (Refused (record { 0 = 4 }))
             unfolding readingOf readTests
             read-unlisted e =
                 reads-by m _ h (simp (le-ltb _ _ two, eq-eqb _ _ all-is, le-ltb _ _ low-is, le-ltb _ _ high-is, ← ev, eq-eqb _ _ one, ← ef, ← ek, eq-eqb _ _ e))
 
-            module _ (listed : k ≡ 15 → ⊥) (p q r s n : ℕ) (ep : p ≡ getD m 4 0) (eq : q ≡ getD m 5 0) (er : r ≡ getD m 6 0) (es : s ≡ getD m 7 0) (en : n ≡ big (p ∷ q ∷ r ∷ s ∷ [])) where
+            module _ (listed : k ≡ slotCount → ⊥) (p q r s n : ℕ) (ep : p ≡ getD m revisionPlace 0) (eq : q ≡ getD m (revisionPlace + 1) 0) (er : r ≡ getD m (revisionPlace + 2) 0) (es : s ≡ getD m (revisionPlace + 3) 0) (en : n ≡ big (p ∷ q ∷ r ∷ s ∷ [])) where
               number-is : n ≡ revisionOf m
               number-is = cc
 
@@ -335,11 +335,11 @@ module _ (f r k : ℕ) (t b : List ℕ) (h : Fits w32 r) where
   write-over u = not-written 2 (simp (lt-ltb _ _ u))
 
   module _ (short : length t ≤ textMax) (ek : k ≡ slotOf f) where
-    pub write-unlisted : k ≡ 15 → Writes f r t b (written.Refused (record { 0 = 4 })) b
+    pub write-unlisted : k ≡ slotCount → Writes f r t b (written.Refused (record { 0 = 4 })) b
     unfolding writingOf writeTests
     write-unlisted e = not-written 4 (simp (le-ltb _ _ short, ← ek, eq-eqb _ _ e))
 
-    module _ (listed : k ≡ 15 → ⊥) where
+    module _ (listed : k ≡ slotCount → ⊥) where
       pub write-zero : r ≡ 0 → Writes f r t b (written.Refused (record { 0 = 5 })) b
       unfolding writingOf writeTests
       write-zero e = not-written 5 (simp (le-ltb _ _ short, ← ek, ne-eqb _ _ listed, eq-eqb _ _ e))

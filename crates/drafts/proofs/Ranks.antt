@@ -9,18 +9,16 @@ use lib.Dec.{ltb}
 use lib.ListN.{length}
 use Rattle.texts.specs.Texts.{same}
 use Rattle.texts.specs.Answers.{Test, _refuses_, bufferBy}
+use Rattle.texts.specs.Numbers.{Bytes}
+use Rattle.texts.proofs.Bools.{cases}
 use Rattle.sheets.specs.Sheet.{slotOf}
-use Rattle.drafts.specs.Message.{Bytes, messageField, revisionOf, messageText, readable}
-use Rattle.drafts.specs.Draft.{slotSize, slotIn, slotRevision, slotText, slotFormed, rankOf, slotRank, slotWith, slotComparison, comparisonOf, clashes, kept}
+use Rattle.drafts.specs.Message.{messageField, revisionOf, messageText, readable}
+use Rattle.drafts.specs.Draft.{slotSize, slotIn, slotRevision, slotText, slotFormed, rankOf, slotWith, slotComparison, comparisonOf, clashes, draftBy}
 use Rattle.drafts.specs.History.{emptySlot}
+use Rattle.drafts.specs.Working.Steps.{slotRank}
 use Rattle.drafts.specs.declared.revision.Comparison.{Comparison}
 use Rattle.drafts.proofs.Messages.{readable-means, text-short, revision-fits}
 use Rattle.drafts.proofs.Slots.{length-slot, slot-revision, slot-formed}
-
--- by whether a test is passed
-pub cases : {C : Type 0} (b : Bool) → (b ≡ true → C) → (b ≡ false → C) → C
-cases true f g = f refl
-cases false f g = g refl
 
 -- ---- a readable message m, and the slot that holds it
 
@@ -56,10 +54,10 @@ abbrev pub clashTest : Comparison → List Test
 clashTest st = (clashes st refuses 6) ∷ []
 
 -- only a message of a higher rank changes the draft
-pub rank-kept : (d m new : List ℕ)
-    → bufferBy (clashTest (comparisonOf d m)) (kept (comparisonOf d m) new d) d ≡ cond (ltb (slotRank (slotIn d (slotOf (messageField m)))) (rankOf m)) new d
+pub rank-draft : (d m new : List ℕ)
+    → bufferBy (clashTest (comparisonOf d m)) (draftBy (comparisonOf d m) new d) d ≡ cond (ltb (slotRank (slotIn d (slotOf (messageField m)))) (rankOf m)) new d
 unfolding rankOf slotRank comparisonOf slotComparison
-rank-kept d m new =
+rank-draft d m new =
     let s = slotIn d (slotOf (messageField m)) in
     cases (ltb (slotRevision s) (revisionOf m)) (λ x. rw x)
     (λ x. rw x (cases (ltb (revisionOf m) (slotRevision s)) (λ y. rw y) (λ y. rw y (cases (same (slotText s) (messageText m)) (λ z. rw z) (λ z. rw z)))))

@@ -18,8 +18,8 @@ use Rattle.texts.proofs.Big.{big-bytes}
 use Rattle.texts.proofs.Bools.{both, alike}
 use Rattle.texts.proofs.Puts.{length-put, part-put, mid-put}
 use Rattle.sheets.proofs.Frames.{length-cell}
-use Rattle.sheets.specs.Sheet.{cellSize, cell, cellOk}
-use Rattle.drafts.specs.Message.{textMax, revisionSize}
+use Rattle.sheets.specs.Sheet.{slotCount, textMax, cellSize, cell, cellOk}
+use Rattle.drafts.specs.Message.{revisionSize}
 use Rattle.drafts.specs.Draft.{slotSize, draftSize, slotIn, slotRevision, slotCell, slotBytes, slotFormed, slotsFormed, draftFormed}
 
 -- ---- a slot of a revision and a text
@@ -58,10 +58,10 @@ pub at-slot : (d : List ℕ) (i k : ℕ) → k < slotSize → getD (slotIn d i) 
 at-slot d i k h = rw (slot-part d i, getD-take, getD-drop)
 
 module _ (d : List ℕ) (size : length d ≡ draftSize) where
-  pub length-slot-in : (i : ℕ) → i < 15 → length (slotIn d i) ≡ slotSize
+  pub length-slot-in : (i : ℕ) → i < slotCount → length (slotIn d i) ≡ slotSize
   length-slot-in i h = rw (slot-part d i) (length-take-le slotSize (drop (i * slotSize) d) (omega (arith, length-drop (i * slotSize) d)))
 
-  module _ (s : List ℕ) (l : length s ≡ slotSize) (j : ℕ) (jn : j < 15) where
+  module _ (s : List ℕ) (l : length s ≡ slotSize) (j : ℕ) (jn : j < slotCount) where
     pub length-put-slot : length (put d (j * slotSize) s) ≡ draftSize
     length-put-slot = length-put d (j * slotSize) s (omega arith) ∙ size
 
@@ -99,17 +99,17 @@ module _ (d s : List ℕ) (n m : ℕ) (b : Bool) (c : Counted d n m) (es : s ≡
   unfolding slotsFormed
   counted-not f = (omega arith, rw (ne-eqb m (n + 1) (λ e. omega arith), add-one n, c .1, ← es, ← eb, f) (and-false (eqb m n)))
 
-pub counted-all : (d : List ℕ) (n m : ℕ) → Counted d n m → n ≤ 15 → 15 ≤ n → length d ≡ draftSize → eqb m 15 ≡ draftFormed d
+pub counted-all : (d : List ℕ) (n m : ℕ) → Counted d n m → n ≤ slotCount → slotCount ≤ n → length d ≡ draftSize → eqb m slotCount ≡ draftFormed d
 unfolding draftFormed
 counted-all d n m c l h z =
-    let e : n ≡ 15 = omega arith in
+    let e : n ≡ slotCount = omega arith in
     rw (z, ← e) (sym (c .1))
 
 pub ruleset forms = (needs, formed-other, counted-none, counted-one, counted-not, counted-all)
 
 pub record Formed (d : List ℕ) : Type 0 where
   pub sized : length d ≡ draftSize
-  pub slot : (i : ℕ) → i < 15 → slotFormed (slotIn d i) ≡ true
+  pub slot : (i : ℕ) → i < slotCount → slotFormed (slotIn d i) ≡ true
 
 slots-each : (d : List ℕ) (n : ℕ) → slotsFormed d n ≡ true → (i : ℕ) → i < n → slotFormed (slotIn d i) ≡ true
 unfolding slotsFormed
@@ -124,11 +124,11 @@ slots-each d (suc n) e i h =
 pub formed-means : (d : List ℕ) → draftFormed d ≡ true → Formed d
 unfolding draftFormed
 formed-means d e =
-    let p = both (eqb (length d) draftSize) (slotsFormed d 15) e in
-    record { sized = eqb-true _ _ (p .0); slot = slots-each d 15 (p .1) }
+    let p = both (eqb (length d) draftSize) (slotsFormed d slotCount) e in
+    record { sized = eqb-true _ _ (p .0); slot = slots-each d slotCount (p .1) }
 
 pub formed-by : (d : List ℕ) → Formed d → draftFormed d ≡ true
 unfolding draftFormed slotsFormed
 formed-by d f =
-    let each : (i : ℕ) → ltb i 15 ≡ true → slotFormed (slotIn d i) ≡ true = λ i t. f .slot i (ltb-true i 15 t) in
+    let each : (i : ℕ) → ltb i slotCount ≡ true → slotFormed (slotIn d i) ≡ true = λ i t. f .slot i (ltb-true i slotCount t) in
     simp (eq-eqb _ _ (f .sized), each)

@@ -9,7 +9,7 @@ use Rattle.texts.specs.Texts.{between, same, blank}
 use Rattle.texts.specs.Numbers.{big, bytesOf, bytesAt}
 use Rattle.texts.specs.Buffers.{put}
 use Rattle.texts.specs.Answers.{Answer, success, refusal, Test, _refuses_, answerBy, bufferBy}
-use Rattle.sheets.specs.Sheet.{slotOf, cellSize, sheetSize, cell, cellText, cellOk}
+use Rattle.sheets.specs.Sheet.{slotCount, slotOf, cellSize, sheetSize, cell, cellText, cellOk}
 use Rattle.drafts.specs.Message.{revisionSize, messageField, revisionOf, messageText, readTests}
 use Rattle.drafts.specs.declared.revision.Comparison.{Comparison}
 use Rattle.drafts.specs.declared.revision.Comparison.the-variants.{Newer, Same, Older, Clash}
@@ -29,7 +29,7 @@ abbrev pub slotSize : ℕ
 slotSize = cellPlace + cellSize
 
 abbrev pub draftSize : ℕ
-draftSize = 15 * slotSize
+draftSize = slotCount * slotSize
 
 unfoldable pub slotIn : List ℕ → ℕ → List ℕ
 slotIn d i = between d (i * slotSize) (i * slotSize + slotSize)
@@ -50,9 +50,6 @@ slotBytes r t = bytesOf revisionSize r ++ cell t
 unfoldable pub rankOf : List ℕ → ℕ
 rankOf m = revisionOf m
 
-unfoldable pub slotRank : List ℕ → ℕ
-slotRank s = slotRevision s
-
 -- the slot that holds the message m
 unfoldable pub slotWith : List ℕ → List ℕ
 slotWith m = slotBytes (revisionOf m) (messageText m)
@@ -67,7 +64,7 @@ slotsFormed d zero = true
 slotsFormed d (suc n) = slotsFormed d n && slotFormed (slotIn d n)
 
 unfoldable pub draftFormed : List ℕ → Bool
-draftFormed d = eqb (length d) draftSize && slotsFormed d 15
+draftFormed d = eqb (length d) draftSize && slotsFormed d slotCount
 
 -- "Fresh: all zero"; "for fresh, size not 450"
 unfoldable pub freshDraft : List ℕ
@@ -110,12 +107,12 @@ word Same = bytes "same"
 word Older = bytes "older"
 word Clash = []
 
--- "the last two change nothing"
-abbrev pub kept : Comparison → List ℕ → List ℕ → List ℕ
-kept Newer new old = new
-kept Same new old = old
-kept Older new old = old
-kept Clash new old = old
+-- the draft afterwards, by how the message stands to its slot: "the last two change nothing"
+abbrev pub draftBy : Comparison → List ℕ → List ℕ → List ℕ
+draftBy Newer new old = new
+draftBy Same new old = old
+draftBy Older new old = old
+draftBy Clash new old = old
 
 unfoldable pub postTests : List ℕ → List ℕ → List Test
 postTests d m = (not (draftFormed d) refuses 1) ∷ (readTests m ++ ((clashes (comparisonOf d m) refuses 6) ∷ []))
@@ -128,7 +125,7 @@ unfoldable pub stored : List ℕ → List ℕ → List ℕ
 stored d m = put d (slotOf (messageField m) * slotSize) (slotWith m)
 
 unfoldable pub postedTo : List ℕ → List ℕ → List ℕ
-postedTo d m = bufferBy (postTests d m) (kept (comparisonOf d m) (stored d m) d) d
+postedTo d m = bufferBy (postTests d m) (draftBy (comparisonOf d m) (stored d m) d) d
 
 abbrev pub postAnswer : Posted → Answer
 postAnswer posted.Newer = success (bytes "newer")
@@ -142,11 +139,7 @@ cells d zero = []
 cells d (suc n) = cells d n ++ slotCell (slotIn d n)
 
 unfoldable pub draftSheet : List ℕ → List ℕ
-draftSheet d = cells d 15
-
--- what a buffer that held s holds after the sheet of d was put into it: s where one of them has another size
-unfoldable pub sheetInto : List ℕ → List ℕ → List ℕ
-sheetInto d s = cond (eqb (length d) draftSize && eqb (length s) sheetSize) (draftSheet d) s
+draftSheet d = cells d slotCount
 
 -- "draft or sheet malformed", "output: a sheet not of 390"
 unfoldable pub copyTests : List ℕ → List ℕ → List Test

@@ -6,8 +6,9 @@ use mathlib.Core.List.{List, [], _∷_, _++_, List·Memᴰ}
 use Prim.Native.Nat.{ℕ, _<_, _≤_, max}
 use lib.Dec.{eqb}
 use lib.ListN.{replicate}
+use Rattle.texts.specs.Numbers.{Bytes}
 use Rattle.sheets.specs.Sheet.{slotOf}
-use Rattle.drafts.specs.Message.{Bytes, messageField, messageText, readable}
+use Rattle.drafts.specs.Message.{messageField, messageText, readable}
 use Rattle.drafts.specs.Draft.{slotSize, rankOf, slotWith, freshDraft, postedTo}
 
 -- "The first posting gets a fresh draft, each later one the draft as the posting before left it"

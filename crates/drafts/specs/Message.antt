@@ -9,19 +9,11 @@ use Rattle.texts.specs.Quoted.{Text}
 use Rattle.texts.specs.Numbers.{big, bytesOf, bytesAt}
 use Rattle.texts.specs.Buffers.{put}
 use Rattle.texts.specs.Answers.{Answer, success, refusal, Test, _refuses_, passes, answerBy, bufferBy}
-use Rattle.sheets.specs.Sheet.{fields, slotOf}
+use Rattle.sheets.specs.Sheet.{fields, slotCount, slotOf, textMax}
 use Rattle.drafts.specs.declared.message.Reading.{Reading}
 use Rattle.drafts.specs.declared.message.Reading.the-variants as reading
 use Rattle.drafts.specs.declared.message.Written.{Written}
 use Rattle.drafts.specs.declared.message.Written.the-variants as written
-
--- a byte string
-abbrev pub Bytes : List ℕ → Type 0
-Bytes m = (k : ℕ) → getD m k 0 < 256
-
--- "A text has 0 to 25 bytes"
-abbrev pub textMax : ℕ
-textMax = 25
 
 -- "revision in four bytes", the last before a message's text; L counts those behind its own two, and the text's
 abbrev pub revisionPlace : ℕ
@@ -49,8 +41,8 @@ pub record IsMessage (m : List ℕ) (f v : ℕ) (t : Text) : Type 0 where
   pub r3 : ℕ
   pub r4 : ℕ
   pub parts : m ≡ l1 ∷ l2 ∷ 1 ∷ f ∷ r1 ∷ r2 ∷ r3 ∷ r4 ∷ t
-  pub size : big (l1 ∷ l2 ∷ []) ≡ 6 + length t
-  pub most : 6 + length t ≤ 31
+  pub size : big (l1 ∷ l2 ∷ []) ≡ leastL + length t
+  pub most : leastL + length t ≤ mostL
   pub listed : List·Memᴰ f fields
   pub revision : big (r1 ∷ r2 ∷ r3 ∷ r4 ∷ []) ≡ v
   pub given : v ≡ 0 → ⊥
@@ -73,7 +65,7 @@ messageText m = drop headSize m
 
 -- "field not listed"
 abbrev pub unlisted : ℕ → Bool
-unlisted f = eqb (slotOf f) 15
+unlisted f = eqb (slotOf f) slotCount
 
 -- "message under 2 bytes, L not the rest, L outside 6 to 31", "version not 1", "field not listed", "revision 0"
 unfoldable pub readTests : List ℕ → List Test

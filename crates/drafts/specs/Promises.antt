@@ -7,7 +7,7 @@ use Prim.Native.Nat.{ℕ, _+_, _≤_, _<_}
 use lib.ListN.{length, take, drop}
 use Rattle.texts.specs.Answers.{success, refusal}
 use Rattle.texts.specs.Buffers.{put}
-use Rattle.sheets.specs.Sheet.{slotOf, textOf, sheetSize, wellFormed}
+use Rattle.sheets.specs.Sheet.{slotCount, slotOf, textOf, sheetSize, wellFormed}
 use Rattle.sheets.specs.declared.sheet.Field.{Field}
 use Rattle.drafts.specs.Message.{headSize, IsMessage, Writable, messageText, readingOf, readAnswer, writingOf, writtenOf, writeAnswer}
 use Rattle.drafts.specs.Draft.{slotIn, slotRevision, slotText, draftSize, draftFormed, beginningOf, begunFrom, beginAnswer, postingOf, postedTo, postAnswer, copyingOf, copiedTo, copyAnswer}
@@ -58,8 +58,8 @@ pub record Postings (ms : List (List ℕ)) (d : List ℕ) : Type 0 where
 -- what such a draft holds (the first half of demand 3)
 pub record Held (ms : List (List ℕ)) (d : List ℕ) : Type 0 where
   pub formed : draftFormed d ≡ true
-  pub slot : (i : ℕ) → i < 15 → slotIn d i ≡ endSlot i ms
-  pub ends : (i : ℕ) → i < 15 → Ends i ms (slotIn d i)
+  pub slot : (i : ℕ) → i < slotCount → slotIn d i ≡ endSlot i ms
+  pub ends : (i : ℕ) → i < slotCount → Ends i ms (slotIn d i)
   -- "if no two readable ones of one field and revision differ in text": every arrangement of the list ends in this draft
   pub arranged : NoClash ms → (ns : List (List ℕ)) → List·Permᴰ ms ns → postedAll ns ≡ d
 
@@ -100,4 +100,4 @@ pub record Copies (d s : List ℕ) (r : Copied) (e : List ℕ) : Type 0 where
   pub refused : (r ≡ copied.Made → ⊥) → e ≡ s
   pub exactly : (r ≡ copied.Made) ↔ ((draftFormed d ≡ true) × (length s ≡ sheetSize))
   -- the sheet that was made is well formed and has the draft's texts
-  pub made : r ≡ copied.Made → (wellFormed e ≡ true) × ((i : ℕ) → i < 15 → textOf e i ≡ slotText (slotIn d i))
+  pub made : r ≡ copied.Made → (wellFormed e ≡ true) × ((i : ℕ) → i < slotCount → textOf e i ≡ slotText (slotIn d i))

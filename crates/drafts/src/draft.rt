@@ -3,9 +3,11 @@ ghost use mathlib.Core.Path.{_≡_};
 ghost use Prim.Native.Nat.{_*_, _≤_};
 ghost use lib.ListN.{length};
 ghost use Rattle.texts.specs.Buffers.{putAt};
-ghost use Rattle.drafts.specs.Message.{textMax};
-ghost use Rattle.drafts.specs.Draft.{slotSize, slotIn, slotRevision, slotCell, slotFormed, draftFormed, slotComparison, slotBytes, sheetInto};
+ghost use Rattle.sheets.specs.Sheet.{textMax};
+ghost use Rattle.drafts.specs.Draft.{slotSize, slotIn, slotRevision, slotCell, slotFormed, draftFormed, slotComparison, slotBytes};
+ghost use Rattle.drafts.specs.Working.Steps.{sheetInto};
 ghost use Rattle.drafts.specs.Promises.{Freshens, Posts, Copies};
+use crate::message::REVISION_SIZE;
 use crate::message::Reading;
 use crate::message::message_text;
 use crate::message::read;
@@ -13,6 +15,7 @@ use crate::revision::Comparison;
 use crate::revision::Revision;
 use sheets::sheet::CELL_SIZE;
 use sheets::sheet::SHEET_SIZE;
+use sheets::sheet::SLOT_COUNT;
 use sheets::sheet::cell_ok;
 use sheets::sheet::cell_text;
 use sheets::sheet::slot_of;
@@ -26,17 +29,15 @@ use texts::parts::at;
 use texts::parts::part;
 use texts::parts::wide;
 
-// Where a slot's cell begins, and the text in it.
-const CELL_PLACE: usize = 4;
+// A slot is a revision and a sheet's cell: where the cell begins, and the text in it.
+const CELL_PLACE: usize = REVISION_SIZE;
 
 const TEXT_PLACE: usize = CELL_PLACE + 1;
 
 // "A draft has 450 bytes, slot i at 30 × i".
 const SLOT_SIZE: usize = CELL_PLACE + CELL_SIZE;
 
-pub const DRAFT_SIZE: usize = 15 * SLOT_SIZE;
-
-pub const SLOT_COUNT: u8 = 15;
+pub const DRAFT_SIZE: usize = SLOT_COUNT as usize * SLOT_SIZE;
 
 pub enum Begun {
     Made,

@@ -1,10 +1,13 @@
 // Messages: reading and writing.
 ghost use mathlib.Core.Path.{_≡_};
 ghost use Prim.Native.Nat.{_≤_};
-ghost use Rattle.drafts.specs.Message.{textMax, headBytes, messageText};
+ghost use Rattle.sheets.specs.Sheet.{textMax};
+ghost use Rattle.drafts.specs.Message.{headBytes, messageText};
 ghost use Rattle.drafts.specs.Promises.{Reads, Writes};
 use crate::revision::Revision;
 use sheets::sheet::Field;
+use sheets::sheet::SLOT_COUNT;
+use sheets::sheet::TEXT_MAX;
 use sheets::sheet::slot_of;
 use texts::answers::Refusal;
 use texts::buffers::put;
@@ -14,11 +17,12 @@ use texts::numbers::number_of_4;
 use texts::parts::at;
 use texts::parts::part;
 
-// "A text has 0 to 25 bytes".
-const TEXT_MAX: usize = 25;
+// "revision in four bytes", the last before a message's text; L counts those behind its own two, and the text's.
+const REVISION_PLACE: usize = 4;
 
-// The bytes before a message's text; L counts those behind its own two, and the text's.
-pub const HEAD_SIZE: usize = 8;
+pub const REVISION_SIZE: usize = 4;
+
+pub const HEAD_SIZE: usize = REVISION_PLACE + REVISION_SIZE;
 
 const LEAST_L: usize = HEAD_SIZE - 2;
 
@@ -55,14 +59,14 @@ pub fn read(message: &[u8]) -> Reading
         return Reading::Refused(Refusal(3));
     }
     let field = Field(at(message, 3));
-    if slot_of(field) == 15 {
+    if slot_of(field) == SLOT_COUNT {
         return Reading::Refused(Refusal(4));
     }
     let number = number_of_4(
-        at(message, 4),
-        at(message, 5),
-        at(message, 6),
-        at(message, 7),
+        at(message, REVISION_PLACE),
+        at(message, REVISION_PLACE + 1),
+        at(message, REVISION_PLACE + 2),
+        at(message, REVISION_PLACE + 3),
     );
     if number == 0 {
         return Reading::Refused(Refusal(5));
@@ -94,7 +98,7 @@ pub fn write(field: Field, revision: Revision, text: &[u8], buffer: &mut [u8]) -
     if TEXT_MAX < n {
         return Written::Refused(Refusal(2));
     }
-    if slot_of(field) == 15 {
+    if slot_of(field) == SLOT_COUNT {
         return Written::Refused(Refusal(4));
     }
     if revision.number == 0 {

@@ -2,22 +2,23 @@
 use mathlib.Core.Path.{_≡_, refl, sym, ap, _∙_, subst}
 use mathlib.Core.Bool.{Bool, true, false, not, cond, _&&_, _||_, and-true}
 use mathlib.Core.List.{List, [], _∷_, map, List·Memᴰ, List·Memᴰ·head, List·Memᴰ·tail, List·Memᴰ·eq-of-singleton, Memᴰ·of-map}
-use Prim.Native.Nat.{ℕ, suc, _<_}
+use Prim.Native.Nat.{ℕ, zero, suc, _<_, _≤_}
+use native.Mathlib.Omega.{arith}
 use borrow.Author.Tests.{ltb-true}
 use lib.Dec.{ltb}
 use lib.ListN.{length, getD}
-use Rattle.texts.specs.Quoted.{Text}
 use Rattle.texts.specs.Texts.{every, any, are, among, between, blank}
 use Rattle.sheets.specs.Sheet.{Sheet, slotOf, cell, cellText, cellOf, textOf, fieldIn, given}
+use Rattle.sheets.specs.Lists.{statusCount, basisCount, zeroCount}
 use Rattle.rules.specs.Rules.{budget, needed, firstBlank, rules, ahead, testOf, fieldOf, keeps, firstNot}
 use Rattle.rules.specs.Working.Groups.{AlikeBut, spare}
 use Rattle.rules.proofs.Reading.{spared, spared-class}
-use Rattle.orders.specs.Fillings.{lists, listOf, toFill, choices, product, fillings, Filling}
-use Rattle.orders.specs.Working.Entering.{baseOf, pickedOf}
+use Rattle.orders.specs.Fillings.{listOf, toFill, choices, product, fillings, Filling}
+use Rattle.orders.specs.Working.Entering.{baseOf, pickedOf, varying}
 use Rattle.orders.specs.Working.Search.{width, places, picks}
 use Rattle.orders.specs.Pretest.{noneKeeps, brokenByAll, namedField}
-use Rattle.orders.proofs.EveryFilling.{every-at, every-mem, filling-of, of-filling}
-use Rattle.orders.proofs.Keeping.{varying, picked-alike, base-budget, base-length, fillings-are}
+use Rattle.orders.proofs.EveryFilling.{every-mem, every-listed, filling-of, of-filling}
+use Rattle.orders.proofs.Keeping.{picked-alike, base-budget, base-length, fillings-are}
 
 -- ---- lists of which a test is the same
 
@@ -38,18 +39,13 @@ at-member f h e (List·Memᴰ·tail {xs = l} m) = let c : map f l ≡ map h l = 
 
 -- ---- what is blank in a filling
 
-entered : Text → Bool
-entered t = not (blank (cellText (cell t)))
-
 module _ (s : Sheet) where
   choice-given : (k : ℕ) (x : List ℕ) → List·Memᴰ x (choices s k) → not (blank (cellText x)) ≡ cond (toFill s k) true (given s k)
-  unfolding choices given textOf listOf entered every cellText cell between
+  unfolding choices given textOf every cellText cell between
   choice-given k x = go (toFill s k)
     where
       go : (b : Bool) → List·Memᴰ x (cond b (map cell (listOf k)) (cellOf s k ∷ [])) → not (blank (cellText x)) ≡ cond b true (given s k)
-      go true m =
-          let w = Memᴰ·of-map cell (listOf k) m in
-          ap (λ (y : List ℕ). not (blank (cellText y))) (sym (w .2)) ∙ every-mem entered (every-at (every entered) [] refl lists refl k) (w .1)
+      go true m = every-listed (λ (c : List ℕ). not (blank (cellText c))) refl k m
       go false m = ap (λ (y : List ℕ). not (blank (cellText y))) (List·Memᴰ·eq-of-singleton m)
 
   -- two fillings
@@ -97,10 +93,11 @@ module _ (s : Sheet) where
 
 -- ---- the first filling
 
-first-place : (b : Bool) (n : ℕ) → (t : List ℕ) × (places (width b (suc n)) 0 ≡ 0 ∷ t)
+first-place : (b : Bool) (n : ℕ) → 1 ≤ n → (t : List ℕ) × (places (width b n) 0 ≡ 0 ∷ t)
 unfolding places
-first-place true n = (places n 1, refl)
-first-place false n = ([], refl)
+first-place b zero h = absurd (omega arith)
+first-place true (suc n) h = (places n 1, refl)
+first-place false (suc n) h = ([], refl)
 
 abbrev zeros : List ℕ
 zeros = 0 ∷ 0 ∷ 0 ∷ 0 ∷ []
@@ -108,10 +105,10 @@ zeros = 0 ∷ 0 ∷ 0 ∷ 0 ∷ []
 picks-first : (u : Sheet) → (ps : List (List ℕ)) × (picks u ≡ zeros ∷ ps)
 unfolding picks
 picks-first u =
-    let a = first-place (blank (textOf u 6)) 21 in
-    let b = first-place (blank (textOf u 11)) 11 in
-    let c = first-place (blank (textOf u 13)) 1 in
-    let d = first-place (blank (textOf u 14)) 1 in
+    let a = first-place (blank (textOf u 6)) statusCount (omega arith) in
+    let b = first-place (blank (textOf u 11)) basisCount (omega arith) in
+    let c = first-place (blank (textOf u 13)) zeroCount (omega arith) in
+    let d = first-place (blank (textOf u 14)) zeroCount (omega arith) in
     (_, λ i. product (a .1 i ∷ b .1 i ∷ c .1 i ∷ d .1 i ∷ []))
 
 -- no sheet of a list keeps a rule that all have the same verdict on
@@ -126,40 +123,40 @@ none-alike f fs n true e h = rw e
 none-alike f fs n false e h = rw (e, none-all fs n h)
 
 module _ (s : Sheet) (size : length s ≡ 390) where
-  unfoldable pub firstOf : Sheet
-  firstOf = pickedOf (baseOf s) zeros
+  unfoldable pub earliest : Sheet
+  earliest = pickedOf (baseOf s) zeros
 
   rest : List Sheet
   rest = map (pickedOf (baseOf s)) (picks-first (baseOf s) .0)
 
-  fillings-first : fillings s ≡ firstOf ∷ rest
-  unfolding firstOf rest
+  fillings-first : fillings s ≡ earliest ∷ rest
+  unfolding earliest rest
   fillings-first = fillings-are s size ∙ ap (map (pickedOf (baseOf s))) (picks-first (baseOf s) .1)
 
-  pub first-filling : Filling s firstOf
-  first-filling = filling-of s size firstOf (subst (List·Memᴰ firstOf) (sym fillings-first) (List·Memᴰ·head refl))
+  pub first-filling : Filling s earliest
+  first-filling = filling-of s size earliest (subst (List·Memᴰ earliest) (sym fillings-first) (List·Memᴰ·head refl))
 
   -- it has the class of the sheet
-  pub first-budget : budget firstOf ≡ budget s
-  unfolding every any are among firstOf
-  first-budget = sym (spared-class varying (baseOf s) firstOf (picked-alike (baseOf s) zeros (base-length s size) .1) refl) ∙ base-budget s size
+  pub first-budget : budget earliest ≡ budget s
+  unfolding every any are among earliest
+  first-budget = sym (spared-class varying (baseOf s) earliest (picked-alike (baseOf s) zeros (base-length s size) .1) refl) ∙ base-budget s size
 
   module _ (g : Sheet) (w : Filling s g) (n : ℕ) (m : List·Memᴰ n ahead) where
-    pub like-first : keeps g n ≡ keeps firstOf n
-    like-first = at-member (keeps g) (keeps firstOf) (verdicts-alike s size g firstOf w first-filling) m
+    pub like-first : keeps g n ≡ keeps earliest n
+    like-first = at-member (keeps g) (keeps earliest) (verdicts-alike s size g earliest w first-filling) m
 
-    pub fields-first : fieldOf rules n g ≡ fieldOf rules n firstOf
-    fields-first = at-member (λ (k : ℕ). fieldOf rules k g) (λ (k : ℕ). fieldOf rules k firstOf) (fields-alike s size g firstOf w first-filling) m
+    pub fields-first : fieldOf rules n g ≡ fieldOf rules n earliest
+    fields-first = at-member (λ (k : ℕ). fieldOf rules k g) (λ (k : ℕ). fieldOf rules k earliest) (fields-alike s size g earliest w first-filling) m
 
   -- what all fillings break is what the first breaks
-  pub first-broken : brokenByAll s ≡ firstNot (keeps firstOf) ahead
+  pub first-broken : brokenByAll s ≡ firstNot (keeps earliest) ahead
   unfolding brokenByAll
   first-broken =
-      first-alike (λ (n : ℕ). not (noneKeeps (fillings s) n)) (keeps firstOf) ahead
+      first-alike (λ (n : ℕ). not (noneKeeps (fillings s) n)) (keeps earliest) ahead
       (λ n m.
       ap (λ (l : List Sheet). not (noneKeeps l n)) fillings-first
-      ∙ none-alike firstOf rest n (keeps firstOf n) refl (λ g k. like-first g (filling-of s size g (subst (List·Memᴰ g) (sym fillings-first) (List·Memᴰ·tail k))) n m))
+      ∙ none-alike earliest rest n (keeps earliest n) refl (λ g k. like-first g (filling-of s size g (subst (List·Memᴰ g) (sym fillings-first) (List·Memᴰ·tail k))) n m))
 
-  pub named-field : namedField s ≡ fieldOf rules (brokenByAll s) firstOf
+  pub named-field : namedField s ≡ fieldOf rules (brokenByAll s) earliest
   unfolding namedField
   named-field = ap (λ (l : List Sheet). fieldOf rules (brokenByAll s) (getD l 0 [])) fillings-first

@@ -14,7 +14,7 @@ use Rattle.sheets.specs.Sheet.{cell, textOf, given}
 use Rattle.sheets.specs.Lists.{statusTexts, basisTexts, zeroTexts}
 use Rattle.sheets.specs.Working.Entries.{rowOf, filledAt}
 use Rattle.orders.specs.Fillings.{listOf, toFill}
-use Rattle.orders.specs.Working.Entering.{rowCell, Entry, filledWith, baseOf, pickEntries, pickedOf}
+use Rattle.orders.specs.Working.Entering.{rowCell, Entry, filledWith, baseOf, pickEntries, pickedOf, slotsOf, varying}
 use Rattle.orders.specs.Complete.{setOf}
 
 -- fill_slot
@@ -40,14 +40,14 @@ zeros-filled s a b c d e f r h ha hb hc hd he hf =
     cc
 
 -- fill_picked
-none-filled : (s : List ℕ) (es : List Entry) → every (given s) (map (λ (e : Entry). e .0) es) ≡ true → s ≡ filledWith s es
+none-filled : (s : List ℕ) (es : List Entry) → every (given s) (slotsOf es) ≡ true → s ≡ filledWith s es
 unfolding every filledAt given
 none-filled s [] e = refl
 none-filled s (x ∷ es) e =
-    let p = both (given s (x .0)) (every (given s) (map (λ (y : Entry). y .0) es)) e in
+    let p = both (given s (x .0)) (every (given s) (slotsOf es)) e in
     rw (not-true (blank (textOf s (x .0))) (p .0)) (none-filled s es (p .1))
 
-pub picked-none : (s q : List ℕ) (b : Bool) → b ≡ every (given s) (6 ∷ 11 ∷ 13 ∷ 14 ∷ []) → b ≡ true → s ≡ pickedOf s q
+pub picked-none : (s q : List ℕ) (b : Bool) → b ≡ every (given s) varying → b ≡ true → s ≡ pickedOf s q
 unfolding pickedOf
 picked-none s q b e t = none-filled s (pickEntries q) (sym e ∙ t)
 

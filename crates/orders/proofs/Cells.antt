@@ -59,14 +59,14 @@ unfolding places
 joined-cells s h = cells-from s 15 0 ∙ take-all 390 s (omega arith)
 
 -- the cells of a sheet are 26 bytes long
-pub length-cell : (s : List ℕ) (k : ℕ) → k * 26 + 26 ≤ length s → length (cellOf s k) ≡ 26
+pub length-cellOf : (s : List ℕ) (k : ℕ) → k * 26 + 26 ≤ length s → length (cellOf s k) ≡ 26
 unfolding cellOf between
-length-cell s k h = simp (length-take, length-drop) (omega arith)
+length-cellOf s k h = simp (length-take, length-drop) (omega arith)
 
 sized-from : (s : List ℕ) (n i : ℕ) → i * 26 + n * 26 ≤ length s → Sized (map (cellOf s) (places n i))
 unfolding places
 sized-from s zero i h = tt
-sized-from s (suc n) i h = (length-cell s i (omega arith), sized-from s n (suc i) (omega arith))
+sized-from s (suc n) i h = (length-cellOf s i (omega arith), sized-from s n (suc i) (omega arith))
 
 pub sized-cells : (s : List ℕ) → length s ≡ 390 → Sized (map (cellOf s) slots)
 unfolding places

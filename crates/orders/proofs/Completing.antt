@@ -12,20 +12,21 @@ use Rattle.texts.specs.Answers.{refusal}
 use Rattle.texts.specs.Buffers.{putAt}
 use Rattle.texts.proofs.Puts.{put-fits, put-whole}
 use Rattle.texts.proofs.Refusals.{no-success, unchanged}
-use Rattle.rules.specs.Rules.{budget, rules, fieldOf, keeps, firstNot, firstBroken}
+use Rattle.rules.specs.Rules.{budget, rules, basic, fieldOf, keeps, firstNot, firstBroken}
 use Rattle.sheets.specs.Working.Facts.{Read}
 use Rattle.rules.proofs.First.{none-kept}
 use Rattle.sheets.specs.declared.facts.Facts.{Facts}
-use Rattle.rules.specs.declared.rules.Rule.{Rule as RuleNumber}
+use Rattle.rules.specs.declared.rules.RuleNumber.{RuleNumber}
 use Rattle.sheets.specs.declared.sheet.Field.{Field}
-use Rattle.drafts.specs.Draft.{draftFormed, draftSheet, sheetInto}
+use Rattle.drafts.specs.Draft.{draftFormed, draftSheet}
+use Rattle.drafts.specs.Working.Steps.{sheetInto}
 use Rattle.drafts.proofs.Slots.{formed-means}
 use Rattle.drafts.proofs.DraftSheets.{sheet-into}
 use Rattle.orders.specs.Fillings.{Look, found, none, firstFilling}
 use Rattle.orders.specs.Working.Search.{Payment, firstPick}
 use Rattle.orders.specs.Working.Found.{pickOf, foundOf}
 use Rattle.orders.specs.Working.Entering.{baseOf, pickedOf}
-use Rattle.orders.specs.Complete.{setOf, basic, budgetPayment, completeAnswer, sheetTests, completeTests, completing, completed}
+use Rattle.orders.specs.Complete.{setOf, budgetPayment, completeAnswer, sheetTests, completeTests, completing, completed}
 use Rattle.orders.specs.Whole.{Completes}
 use Rattle.orders.specs.declared.search.Pick.{Pick}
 use Rattle.orders.specs.declared.search.Found.{Found}
@@ -58,7 +59,7 @@ basic-field s t n e = rw (← e) (go (keeps s 1) (keeps s 2) (keeps s 3))
 -- ---- what `complete` and `pretest` begin with
 
 -- the well-formed draft d has the sheet s, of which the base is u; the facts x are read of that, and g is the first of rules 1 to 3 broken
-pub record Begun (d s u : List ℕ) (x : Facts) (g : RuleNumber) : Type 0 where
+pub record Prepared (d s u : List ℕ) (x : Facts) (g : RuleNumber) : Type 0 where
   pub formed : draftFormed d ≡ true
   pub size : length (draftSheet d) ≡ 390
   pub sheet : s ≡ draftSheet d
@@ -66,9 +67,9 @@ pub record Begun (d s u : List ℕ) (x : Facts) (g : RuleNumber) : Type 0 where
   pub read : Read x (baseOf (draftSheet d))
   pub first : firstBroken (draftSheet d) basic ≡ g .0
 
-pub begun : (d : List ℕ) (w : Bool) → w ≡ draftFormed d → not w ≡ false → (o s : List ℕ) → length o ≡ 390 → s ≡ sheetInto d o → (u : List ℕ) (x : Facts) (g : RuleNumber)
-    → u ≡ baseOf s → (length u ≡ 390 → Read x u) → ((t : List ℕ) → Read x t → g .0 ≡ firstBroken t basic) → Begun d s u x g
-begun d w hw h o s lo hs u x g hu hx hg =
+pub prepared : (d : List ℕ) (w : Bool) → w ≡ draftFormed d → not w ≡ false → (o s : List ℕ) → length o ≡ 390 → s ≡ sheetInto d o → (u : List ℕ) (x : Facts) (g : RuleNumber)
+    → u ≡ baseOf s → (length u ≡ 390 → Read x u) → ((t : List ℕ) → Read x t → g .0 ≡ firstBroken t basic) → Prepared d s u x g
+prepared d w hw h o s lo hs u x g hu hx hg =
     let formed : draftFormed d ≡ true = sym hw ∙ not-false w h in
     let size = length-draftSheet d formed in
     let sheet : s ≡ draftSheet d = hs ∙ sheet-into d o (formed-means d formed .sized) lo in
@@ -77,7 +78,7 @@ begun d w hw h o s lo hs u x g hu hx hg =
     let first : firstBroken (draftSheet d) basic ≡ g .0 = sym (hg (baseOf (draftSheet d)) read ∙ base-broken (draftSheet d) size) in
     record { formed = formed; size = size; sheet = sheet; base = base; read = read; first = first }
 
-module _ {d s u : List ℕ} {x : Facts} {g : RuleNumber} (B : Begun d s u x g) where
+module _ {d s u : List ℕ} {x : Facts} {g : RuleNumber} (B : Prepared d s u x g) where
   pub field-is : (f : Field) → f .0 ≡ fieldOf rules (g .0) u → fieldOf rules (g .0) (draftSheet d) ≡ f .0
   field-is f j = basic-field (draftSheet d) u (g .0) (B .first) ∙ sym j
 
@@ -109,7 +110,7 @@ module _ (d b : List ℕ) (w : Bool) (hw : w ≡ draftFormed d) where
       let f : draftFormed d ≡ true = sym hw ∙ not-false w h in
       refuses d b (Refused (record { 0 = 7 })) 7 [] refl (sym (simp (f, ne-eqb (length b) 390 z)))
 
-module _ {d s u : List ℕ} {x : Facts} {g : RuleNumber} (b : List ℕ) (z : length b ≡ 390) (B : Begun d s u x g) where
+module _ {d s u : List ℕ} {x : Facts} {g : RuleNumber} (b : List ℕ) (z : length b ≡ 390) (B : Prepared d s u x g) where
   pub broken-8 : (f : Field) → (g .0 ≡ 0 → ⊥) → f .0 ≡ fieldOf rules (g .0) u → Completes d b (Broken f g) b
   unfolding completing completeTests sheetTests completeAnswer
   broken-8 f y j =

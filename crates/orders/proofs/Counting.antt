@@ -26,9 +26,9 @@ length-each (x ∷ c) rest = simp (length-append, length-map, length-each c rest
 pub length-picks : (a b c d : ℕ) → length (product (places a 0 ∷ places b 0 ∷ places c 0 ∷ places d 0 ∷ [])) ≡ a * (b * (c * d))
 length-picks a b c d = simp (length-each, length-places, mul-one)
 
-width-most : (b : Bool) (n : ℕ) → width b (suc n) ≤ suc n
-width-most true n = omega arith
-width-most false n = omega arith
+width-most : (b : Bool) (n : ℕ) → 1 ≤ n → width b n ≤ n
+width-most true n h = omega arith
+width-most false n h = h
 
 module _ (s : List ℕ) where
   length-fillings : length (fillings s) ≡ width (toFill s 6) statusCount * (width (toFill s 11) basisCount * (width (toFill s 13) zeroCount * width (toFill s 14) zeroCount))
@@ -36,7 +36,8 @@ module _ (s : List ℕ) where
 
   pub fillings-most : length (fillings s) ≤ mostFillings
   fillings-most =
-      rw length-fillings (mul-le-mul (width-most (toFill s 6) 21) (mul-le-mul (width-most (toFill s 11) 11) (mul-le-mul (width-most (toFill s 13) 1) (width-most (toFill s 14) 1))))
+      rw length-fillings
+      (mul-le-mul (width-most (toFill s 6) statusCount (omega arith)) (mul-le-mul (width-most (toFill s 11) basisCount (omega arith)) (mul-le-mul (width-most (toFill s 13) zeroCount (omega arith)) (width-most (toFill s 14) zeroCount (omega arith)))))
 
   pub fillings-one : ((k : ℕ) → toFill s k ≡ false) → length (fillings s) ≡ 1
   fillings-one h = rw (length-fillings, h 6, h 11, h 13, h 14)

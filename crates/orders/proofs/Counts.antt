@@ -3,10 +3,13 @@ use mathlib.Core.Path.{_≡_, refl, ap, _∙_}
 use mathlib.Core.Bool.{true, false}
 use mathlib.Core.List.{List, [], _∷_, map}
 use Prim.Native.Nat.{ℕ}
+use borrow.Author.Tests.{eqb-true}
+use lib.Dec.{eqb}
 use lib.ListN.{length}
 use Prim.Native.String.{String}
 use Rattle.texts.specs.Quoted.{words}
 use Rattle.texts.specs.Texts.{every}
+use Rattle.texts.proofs.Bools.{both}
 use Rattle.sheets.specs.Sheet.{cell}
 use Rattle.rules.specs.Rules.{firstBlank, rules, order, ahead, testOf, fieldOf, keeps, firstNot}
 use Rattle.rules.specs.R4.{rulesBefore}
@@ -19,18 +22,14 @@ use Rattle.orders.specs.Pretest.{brokenByAll, namedField}
 use Rattle.texts.specs.Answers.{refusal, answerBy}
 use Rattle.orders.proofs.Keeping.{mapLook, first-is}
 use Rattle.orders.proofs.Passing.{broken-fixed, none-look}
-use Rattle.orders.proofs.Ahead.{firstOf, first-broken, named-field}
+use Rattle.orders.proofs.Ahead.{earliest, first-broken, named-field}
 use Rattle.rules.specs.Working.Computing.{rulesComputing}
 
 -- a sheet by its texts in slot order, parted by spaces
 unfoldable pub sheet : String → List ℕ
 sheet q = joined (map cell (words q))
 
--- S with 22, 101, 105 to 109 blank
-blanked : List ℕ
-blanked = sheet "004525987 40102810845370000004 03100643000000014800  7701569743 6730054024  770301001 772801001 18201061201010000510     "
-
--- the same with 60 and 102 "0"
+-- S with 22, 101, 105 to 109 blank, and 60 and 102 "0"
 unfoldable pub foreign : List ℕ
 foreign = sheet "004525987 40102810845370000004 03100643000000014800  0 6730054024  0 772801001 18201061201010000510     "
 
@@ -40,64 +39,73 @@ hopeless = sheet "004525987 40102810845370000004 03212643000000014800  0 6730054
 
 -- what the search finds; to unfold it is to unfold all that it is computed by
 unfoldable picked : List ℕ → Look (List ℕ)
-unfolding blanked foreign hopeless sheet look filledAt passesAt places picks firstPick baseOf pickedOf rulesComputing
+unfolding foreign hopeless sheet look filledAt passesAt places picks firstPick baseOf pickedOf rulesComputing
 picked s = mapLook (pickedOf (baseOf s)) (firstPick (baseOf s))
-
--- "count 1": S itself
-first : firstFilling blanked ≡ found 1 (sheet "004525987 40102810845370000004 03100643000000014800 0 7701569743 6730054024 01 770301001 772801001 18201061201010000510 0 0 0 0 0")
-unfolding picked
-first = first-is blanked refl
 
 -- "status 04, count 97"
 pub later : firstFilling foreign ≡ found 97 (sheet "004525987 40102810845370000004 03100643000000014800 0 0 6730054024 04 0 772801001 18201061201010000510 0 0 0 0 0")
 unfolding picked
 later = first-is foreign refl
 
--- with 17 03222643000000014800, and 60, 102 and 104 blank too: with 01, 03 and 04 no filling keeps all rules, with 05 the first does
-fifth : firstFilling (sheet "004525987 40102810845370000004 03222643000000014800   6730054024   772801001      ")
-    ≡ found 145 (sheet "004525987 40102810845370000004 03222643000000014800 0 0 6730054024 05 0 772801001 0 0 0 0 0 0")
-unfolding picked
-fifth = first-is (sheet "004525987 40102810845370000004 03222643000000014800   6730054024   772801001      ") refl
+-- R-4: S with 101 blank and a wrong check digit in 60
+abbrev wrongDigit : String
+wrongDigit = "004525987 40102810845370000004 03100643000000014800 0 7722222222 6730054024  770301001 772801001 18201061201010000510 0 0 0 0 0"
 
--- S with status 06, 107 10000000 and 109 "00", and 106 and 108 blank: "0" does not go with "00", nor does 108 "0" with 106 "00"
-fourth : firstFilling (sheet "004525987 40102810845370000004 03100643000000014800 0 7701569743 6730054024 06 770301001 772801001 18201061201010000510 0  10000000  00")
-    ≡ found 4 (sheet "004525987 40102810845370000004 03100643000000014800 0 7701569743 6730054024 06 770301001 772801001 18201061201010000510 0 00 10000000 00 00")
-unfolding picked
-fourth = first-is (sheet "004525987 40102810845370000004 03100643000000014800 0 7701569743 6730054024 06 770301001 772801001 18201061201010000510 0  10000000  00") refl
+-- sheets, and the first filling with its place, or the count of all
+abbrev Example : Type 0
+Example = String × Look String
 
--- R-1: S with status 24, 60 and 102 "0", and 109 blank: a pension number that can't exist breaks rule 35 with both entries of 109; with one
--- that can, the first entry keeps all rules
-noSnils : firstFilling (sheet "004525987 40102810845370000004 03100643000000014800 0 0 6730054024 24 0 772801001 18201061201010000510 0 0 0 14;12345678900 ") ≡ none 2
-unfolding picked
-noSnils = first-is (sheet "004525987 40102810845370000004 03100643000000014800 0 0 6730054024 24 0 772801001 18201061201010000510 0 0 0 14;12345678900 ") refl
+completions : List Example
+completions =
+    -- "count 1": S with 22, 101, 105 to 109 blank is filled to S itself; class B, with all that can be filled blank
+    (
+      "004525987 40102810845370000004 03100643000000014800  7701569743 6730054024  770301001 772801001 18201061201010000510     ",
+      found 1 "004525987 40102810845370000004 03100643000000014800 0 7701569743 6730054024 01 770301001 772801001 18201061201010000510 0 0 0 0 0",
+    )
+    ∷ ("044525000  40204810000000000000   6730054024   772801001      ", found 97 "044525000  40204810000000000000 0 0 6730054024 04 0 772801001 0 0 0 0 0 0")
+    -- with 17 03222643000000014800, and 60, 102 and 104 blank too: with 01, 03 and 04 no filling keeps all rules, with 05 the first does
+    ∷ (
+      "004525987 40102810845370000004 03222643000000014800   6730054024   772801001      ",
+      found 145 "004525987 40102810845370000004 03222643000000014800 0 0 6730054024 05 0 772801001 0 0 0 0 0 0",
+    )
+    -- S with status 06, 107 10000000 and 109 "00", and 106 and 108 blank: "0" does not go with "00", nor does 108 "0" with 106 "00"
+    ∷ (
+      "004525987 40102810845370000004 03100643000000014800 0 7701569743 6730054024 06 770301001 772801001 18201061201010000510 0  10000000  00",
+      found 4 "004525987 40102810845370000004 03100643000000014800 0 7701569743 6730054024 06 770301001 772801001 18201061201010000510 0 00 10000000 00 00",
+    )
+    -- R-1: S with status 24, 60 and 102 "0", and 109 blank: a pension number that can't exist breaks rule 35 with both entries of 109; with
+    -- one that can, the first entry keeps all rules
+    ∷ ("004525987 40102810845370000004 03100643000000014800 0 0 6730054024 24 0 772801001 18201061201010000510 0 0 0 14;12345678900 ", none 2)
+    ∷ (
+      "004525987 40102810845370000004 03100643000000014800 0 0 6730054024 24 0 772801001 18201061201010000510 0 0 0 14;12345678964 ",
+      found 1 "004525987 40102810845370000004 03100643000000014800 0 0 6730054024 24 0 772801001 18201061201010000510 0 0 0 14;12345678964 0",
+    )
+    -- R-4: none of the 22 statuses keeps rule 8; S with 101 blank
+    ∷ (wrongDigit, none 22)
+    ∷ (
+      "004525987 40102810845370000004 03100643000000014800 0 7701569743 6730054024  770301001 772801001 18201061201010000510 0 0 0 0 0",
+      found 1 "004525987 40102810845370000004 03100643000000014800 0 7701569743 6730054024 01 770301001 772801001 18201061201010000510 0 0 0 0 0",
+    )
+    ∷ []
 
-snils1 : firstFilling (sheet "004525987 40102810845370000004 03100643000000014800 0 0 6730054024 24 0 772801001 18201061201010000510 0 0 0 14;12345678964 ")
-    ≡ found 1 (sheet "004525987 40102810845370000004 03100643000000014800 0 0 6730054024 24 0 772801001 18201061201010000510 0 0 0 14;12345678964 0")
-unfolding picked
-snils1 = first-is (sheet "004525987 40102810845370000004 03100643000000014800 0 0 6730054024 24 0 772801001 18201061201010000510 0 0 0 14;12345678964 ") refl
+-- each by the search through its picks
+first-all : (es : List Example) → every (λ (e : Example). eqb (length (sheet (e .0))) 390) es ≡ true
+    → map (λ (e : Example). firstFilling (sheet (e .0))) es ≡ map (λ (e : Example). mapLook (pickedOf (baseOf (sheet (e .0)))) (firstPick (baseOf (sheet (e .0))))) es
+unfolding every
+first-all [] h = refl
+first-all (e ∷ es) h =
+    let p = both (eqb (length (sheet (e .0))) 390) (every (λ (x : Example). eqb (length (sheet (x .0))) 390) es) h in
+    λ i. first-is (sheet (e .0)) (eqb-true (length (sheet (e .0))) 390 (p .0)) i ∷ first-all es (p .1) i
 
--- R-4: S with 101 blank and a wrong check digit in 60: none of the 22 statuses keeps rule 8; by the rules before, the first of them did
-offDraft : List ℕ
-offDraft = sheet "004525987 40102810845370000004 03100643000000014800 0 7722222222 6730054024  770301001 772801001 18201061201010000510 0 0 0 0 0"
+completes : map (λ (e : Example). firstFilling (sheet (e .0))) completions ≡ map (λ (e : Example). mapLook sheet (e .1)) completions
+unfolding picked completions every
+completes = first-all completions refl
 
-noInn : firstFilling offDraft ≡ none 22
-unfolding picked offDraft
-noInn = first-is offDraft refl
-
-inn1Before : look (λ (f : List ℕ). every (λ (n : ℕ). testOf rulesBefore n f) order) 0 (fillings offDraft) ≡ found 1 (sheet "004525987 40102810845370000004 03100643000000014800 0 7722222222 6730054024 01 770301001 772801001 18201061201010000510 0 0 0 0 0")
-unfolding picked offDraft rulesBefore fillings choices toFill listOf
+-- R-4: by the rules before, the first status did
+inn1Before : look (λ (f : List ℕ). every (λ (n : ℕ). testOf rulesBefore n f) order) 0 (fillings (sheet wrongDigit))
+    ≡ found 1 (sheet "004525987 40102810845370000004 03100643000000014800 0 7722222222 6730054024 01 770301001 772801001 18201061201010000510 0 0 0 0 0")
+unfolding picked rulesBefore fillings choices toFill listOf
 inn1Before = refl
-
-inn1 : firstFilling (sheet "004525987 40102810845370000004 03100643000000014800 0 7701569743 6730054024  770301001 772801001 18201061201010000510 0 0 0 0 0")
-    ≡ found 1 (sheet "004525987 40102810845370000004 03100643000000014800 0 7701569743 6730054024 01 770301001 772801001 18201061201010000510 0 0 0 0 0")
-unfolding picked
-inn1 = first-is (sheet "004525987 40102810845370000004 03100643000000014800 0 7701569743 6730054024  770301001 772801001 18201061201010000510 0 0 0 0 0") refl
-
--- class B, with all that can be filled blank
-ofB : firstFilling (sheet "044525000  40204810000000000000   6730054024   772801001      ")
-    ≡ found 97 (sheet "044525000  40204810000000000000 0 0 6730054024 04 0 772801001 0 0 0 0 0 0")
-unfolding picked
-ofB = first-is (sheet "044525000  40204810000000000000   6730054024   772801001      ") refl
 
 -- which sheets are budget payments, and what stands before the search: rules 1, 2 and 3, and class O
 payments : map budgetPayment (foreign ∷ sheet "044525000  40204810000000000000   6730054024   772801001      " ∷ sheet "044525006  40204810000000000000   6730054024   772801001      " ∷ [])
@@ -134,7 +142,7 @@ ahead1 s =
     (fieldOf rules n f, n)
 
 pub ahead-is : (s : List ℕ) → length s ≡ 390 → (namedField s, brokenByAll s) ≡ ahead1 s
-unfolding ahead1 firstOf
+unfolding ahead1 earliest
 ahead-is s size =
     let b = first-broken s size in
     let f = named-field s size ∙ ap (λ (n : ℕ). fieldOf rules n (pickedOf (baseOf s) (0 ∷ 0 ∷ 0 ∷ 0 ∷ []))) b in

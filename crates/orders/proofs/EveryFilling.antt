@@ -6,17 +6,16 @@ use mathlib.Core.List.{List, [], _∷_, map, List·Memᴰ, List·Memᴰ·head, L
 use Prim.Native.Nat.{ℕ, zero, suc, _+_, _<_, _≤_}
 use native.Mathlib.Nat.{zero-add}
 use native.Mathlib.Omega.{arith}
-use borrow.Author.Tests.{leb-true}
-use lib.Dec.{leb}
+use borrow.Author.Tests.{eqb-true}
+use lib.Dec.{eqb}
 use lib.ListN.{length, getD}
 use Rattle.texts.specs.Quoted.{Text}
 use Rattle.texts.specs.Texts.{every, blank}
 use Rattle.texts.proofs.Bools.{both}
-use Rattle.sheets.proofs.Frames.{length-cell as length-entry}
 use Rattle.sheets.specs.Sheet.{cell, slots, cellOf, textOf}
 use Rattle.orders.specs.Fillings.{lists, listOf, toFill, choices, each, product, joined, fillings, Filling}
 use Rattle.orders.specs.Working.Search.{places}
-use Rattle.orders.proofs.Cells.{Sized, length-cell, sized-by, length-joined, cell-joined, joined-cells}
+use Rattle.orders.proofs.Cells.{Sized, length-cellOf, sized-by, length-joined, cell-joined, joined-cells}
 
 -- ---- one of each list
 
@@ -86,25 +85,25 @@ length-places (suc n) i = ap suc (length-places n (suc i))
 
 -- ---- fillings
 
-short : Text → Bool
-short t = leb (length t) 25
+-- what the cells of all lists pass, each entry of a field's list passes
+pub every-listed : (p : List ℕ → Bool) → every (λ (l : List Text). every p (map cell l)) lists ≡ true → (k : ℕ) {x : List ℕ} → List·Memᴰ x (map cell (listOf k)) → p x ≡ true
+unfolding every listOf
+every-listed p e k m = every-mem p (every-at (λ (l : List Text). every p (map cell l)) [] refl lists e k) m
 
 module _ (s : List ℕ) where
   -- a field that is not blank stays
-  pub unchanged : (f : List ℕ) → Filling s f → (k : ℕ) → k < 15 → blank (textOf s k) ≡ false → cellOf f k ≡ cellOf s k
+  pub given-stays : (f : List ℕ) → Filling s f → (k : ℕ) → k < 15 → blank (textOf s k) ≡ false → cellOf f k ≡ cellOf s k
   unfolding choices toFill
-  unchanged f w k l e = List·Memᴰ·eq-of-singleton (rw (e, and-false) at (w .slot k l))
+  given-stays f w k l e = List·Memᴰ·eq-of-singleton (rw (e, and-false) at (w .slot k l))
 
   module _ (sized : length s ≡ 390) where
     choice-length : (k : ℕ) → k < 15 → (x : List ℕ) → List·Memᴰ x (choices s k) → length x ≡ 26
-    unfolding choices listOf every short
+    unfolding choices every cell
     choice-length k l x = go (toFill s k)
       where
         go : (b : Bool) → List·Memᴰ x (cond b (map cell (listOf k)) (cellOf s k ∷ [])) → length x ≡ 26
-        go true m =
-            let w = Memᴰ·of-map cell (listOf k) m in
-            ap length (sym (w .2)) ∙ length-entry (w .0) (leb-true (length (w .0)) 25 (every-mem short (every-at (every short) [] refl lists refl k) (w .1)))
-        go false m = ap length (List·Memᴰ·eq-of-singleton m) ∙ length-cell s k (omega arith)
+        go true m = eqb-true (length x) 26 (every-listed (λ (c : List ℕ). eqb (length c) 26) refl k m)
+        go false m = ap length (List·Memᴰ·eq-of-singleton m) ∙ length-cellOf s k (omega arith)
 
     module _ (r : List (List ℕ)) (d : Drawn (map (choices s) slots) r) where
       pub drawn-choice : (k : ℕ) → k < 15 → List·Memᴰ (getD r k []) (choices s k)

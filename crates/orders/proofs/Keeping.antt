@@ -13,18 +13,14 @@ use Rattle.sheets.specs.Working.Entries.{filledAt}
 use Rattle.rules.specs.Working.Groups.{AlikeBut}
 use Rattle.sheets.specs.Sheet.{Sheet, cell, slots, slotOf, cellOf, textOf, _⟨_⟩}
 use Rattle.sheets.specs.Lists.{statusCount, basisCount, zeroCount}
-use Rattle.rules.specs.Rules.{budget, rules, testOf, keeps, keepsAll, firstNot, firstBroken}
+use Rattle.rules.proofs.Reading.{spared, spared-class}
+use Rattle.rules.specs.Rules.{budget, rules, basic, testOf, keeps, keepsAll, firstNot, firstBroken}
 use Rattle.sheets.proofs.Frames.{status-sized, basis-sized, zero-sized, filled-length, filled-other}
 use Rattle.orders.specs.Fillings.{listOf, toFill, joined, fillings, Look, found, none, look, firstFilling}
 use Rattle.orders.specs.Working.Search.{passesAt, width, picks, firstPick}
-use Rattle.orders.specs.Working.Entering.{Entry, filledWith, zeroEntries, baseOf, pickEntries, pickedOf}
-use Rattle.orders.specs.Complete.{basic}
+use Rattle.orders.specs.Working.Entering.{Entry, filledWith, zeroEntries, baseOf, pickEntries, pickedOf, slotsOf, varying}
 use Rattle.orders.proofs.Cells.{Cells, Fit, fillCells, joined-cells, sized-cells, filled-joined}
 use Rattle.orders.proofs.Linking.{pickCell, cellsAt, fillings-picked}
-
--- the slots of 101, 106, 108 and 109
-abbrev pub varying : List ℕ
-varying = 6 ∷ 11 ∷ 13 ∷ 14 ∷ []
 
 -- the entries fit
 zeros-fit : Fit 15 zeroEntries
@@ -44,7 +40,7 @@ or-false : (a b : Bool) → (a || b) ≡ false → (a ≡ false) × (b ≡ false
 or-false true b e = absurd (false≢true (sym e))
 or-false false b e = (refl, e)
 
-pub filled-alike : (es : List Entry) (u : Sheet) → length u ≡ 390 → Fit 15 es → (length (filledWith u es) ≡ 390) × AlikeBut (map (λ (e : Entry). e .0) es) u (filledWith u es)
+pub filled-alike : (es : List Entry) (u : Sheet) → length u ≡ 390 → Fit 15 es → (length (filledWith u es) ≡ 390) × AlikeBut (slotsOf es) u (filledWith u es)
 unfolding any are among
 filled-alike [] u z f = (z, λ j h. refl)
 filled-alike (e ∷ es) u z f =
@@ -52,7 +48,7 @@ filled-alike (e ∷ es) u z f =
     let r = filled-alike es (filledAt u (e .0) (e .1)) (filled-length u (e .1) (e .0) z lk lx) (f .1) in (
       r .0,
       λ j h.
-          let q = or-false (eqb (e .0) j) (any (are j) (map (λ (x : Entry). x .0) es)) h in
+          let q = or-false (eqb (e .0) j) (any (are j) (slotsOf es)) h in
           sym (filled-other u (e .1) (e .0) z lk lx j (λ k. eqb-false (e .0) j (q .0) (sym k))) ∙ r .1 j (q .1),
     )
 
@@ -78,28 +74,28 @@ abbrev baseCells : List ℕ → Cells
 baseCells s = fillCells (map (cellOf s) slots) zeroEntries
 
 module _ (s : List ℕ) (size : length s ≡ 390) where
-  base-alike : (length (baseOf s) ≡ 390) × AlikeBut (3 ∷ 4 ∷ 7 ∷ 9 ∷ 10 ∷ 12 ∷ []) s (baseOf s)
+  base-alike : (length (baseOf s) ≡ 390) × AlikeBut (slotsOf zeroEntries) s (baseOf s)
   unfolding baseOf
   base-alike = filled-alike zeroEntries s size zeros-fit
 
   pub base-length : length (baseOf s) ≡ 390
   base-length = base-alike .0
 
-  base-text : (k : ℕ) → among k (3 ∷ 4 ∷ 7 ∷ 9 ∷ 10 ∷ 12 ∷ []) ≡ false → textOf (baseOf s) k ≡ textOf s k
+  base-text : (k : ℕ) → among k (slotsOf zeroEntries) ≡ false → textOf (baseOf s) k ≡ textOf s k
   base-text k h = sym (base-alike .1 k h)
 
   -- 14, 15 and 17 stay in the base, and so do the rules of completion and the class
   pub base-budget : budget (baseOf s) ≡ budget s
-  unfolding any are among _⟨_⟩ slotOf
-  base-budget = cc (base-text 0 refl, base-text 1 refl, base-text 2 refl)
+  unfolding every any are among
+  base-budget = sym (spared-class (slotsOf zeroEntries) s (baseOf s) (base-alike .1) refl)
 
   pub base-broken : firstBroken (baseOf s) basic ≡ firstBroken s basic
   unfolding any are among firstNot keeps rules testOf _⟨_⟩ slotOf
   base-broken = cc (base-text 0 refl, base-text 1 refl, base-text 2 refl)
 
   pub base-basic : every (keeps (baseOf s)) basic ≡ every (keeps s) basic
-  unfolding any are among every keeps rules testOf _⟨_⟩ slotOf
-  base-basic = cc (base-text 0 refl, base-text 1 refl, base-text 2 refl)
+  unfolding every any are among
+  base-basic = sym (spared (slotsOf zeroEntries) s (baseOf s) (base-alike .1) basic refl)
 
   -- a pick's filling by its cells
   picked-joined : (q : List ℕ) → pickedOf (baseOf s) q ≡ joined (cellsAt s q)
@@ -112,7 +108,7 @@ module _ (s : List ℕ) (size : length s ≡ 390) where
   pub fillings-are : fillings s ≡ map (pickedOf (baseOf s)) (picks (baseOf s))
   unfolding any are among picks toFill listOf
   fillings-are =
-      let w : (k n : ℕ) → among k (3 ∷ 4 ∷ 7 ∷ 9 ∷ 10 ∷ 12 ∷ []) ≡ false → width (blank (textOf (baseOf s) k)) n ≡ width (blank (textOf s k)) n = λ k n h. rw (base-text k h) in
+      let w : (k n : ℕ) → among k (slotsOf zeroEntries) ≡ false → width (blank (textOf (baseOf s) k)) n ≡ width (blank (textOf s k)) n = λ k n h. rw (base-text k h) in
       fillings-picked s _ _ _ _ (w 6 statusCount refl) (w 11 basisCount refl) (w 13 zeroCount refl) (w 14 zeroCount refl)
       ∙ map-congr-left {l = picks (baseOf s)} (λ q m. sym (picked-joined q))
 

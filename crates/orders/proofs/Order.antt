@@ -13,7 +13,7 @@ use Rattle.texts.specs.Quoted.{Text}
 use Rattle.texts.specs.Texts.{every, same}
 use Rattle.texts.proofs.Bools.{both}
 use Rattle.sheets.specs.Sheet.{cell, slots, cellOf}
-use Rattle.orders.specs.Fillings.{lists, listOf, toFill, choices, rank, each, product, joined, fillings, Filling, Earlier, Place}
+use Rattle.orders.specs.Fillings.{lists, listOf, toFill, choices, entryPlace, each, product, joined, fillings, Filling, Earlier, Place}
 use Rattle.orders.proofs.EveryFilling.{Drawn, each-cases, product-drawn, every-at, every-mem, at-slots, drawn-cell, filling-of, of-filling}
 
 -- ---- lists in order
@@ -56,21 +56,21 @@ ordered-map {A} {B} R S f (a ∷ l) h o = (
   ordered-map R S f l (λ c b m s. h c b (List·Memᴰ·tail m) (List·Memᴰ·tail s)) (o .1),
 )
 
--- ---- ranks
+-- ---- the places of entries in their lists
 
 abbrev Before : List (List ℕ) → List ℕ → List ℕ → Type 0
-Before c x y = rank c x < rank c y
+Before c x y = entryPlace c x < entryPlace c y
 
 -- each of xs stands in c before those that follow
 abbrev rising : List (List ℕ) → List (List ℕ) → Bool
 rising c [] = true
-rising c (x ∷ xs) = every (λ (y : List ℕ). ltb (rank c x) (rank c y)) xs && rising c xs
+rising c (x ∷ xs) = every (λ (y : List ℕ). ltb (entryPlace c x) (entryPlace c y)) xs && rising c xs
 
 rising-ordered : (c xs : List (List ℕ)) → rising c xs ≡ true → Ordered (Before c) xs
 rising-ordered c [] h = tt
 rising-ordered c (x ∷ xs) h =
-    let p = both (every (λ (y : List ℕ). ltb (rank c x) (rank c y)) xs) (rising c xs) h in
-    (λ b m. ltb-true _ _ (every-mem (λ (y : List ℕ). ltb (rank c x) (rank c y)) (p .0) m), rising-ordered c xs (p .1))
+    let p = both (every (λ (y : List ℕ). ltb (entryPlace c x) (entryPlace c y)) xs) (rising c xs) h in
+    (λ b m. ltb-true _ _ (every-mem (λ (y : List ℕ). ltb (entryPlace c x) (entryPlace c y)) (p .0) m), rising-ordered c xs (p .1))
 
 -- two picks differ first at some list, where the first has the earlier entry
 record Differs (cs : List (List (List ℕ))) (r t : List (List ℕ)) : Type 0 where
@@ -103,15 +103,15 @@ module _ (c : List (List ℕ)) (cs : List (List (List ℕ))) where
       subst₂ (Differs (c ∷ cs)) (v .2) (w .4) (differs-first x (w .0) (v .0) (w .1) (u .0 (w .0) (w .2))))
 
 -- each entry of a list stands in it before those that follow, so that none stands in it twice
-abbrev ranked : List (List ℕ) → Bool
-ranked c = rising c c
+abbrev listedOnce : List (List ℕ) → Bool
+listedOnce c = rising c c
 
-choice-ranked : (s : List ℕ) (k : ℕ) → ranked (choices s k) ≡ true
+choice-once : (s : List ℕ) (k : ℕ) → listedOnce (choices s k) ≡ true
 unfolding choices every listOf same cell
-choice-ranked s k = go (toFill s k)
+choice-once s k = go (toFill s k)
   where
-    go : (b : Bool) → ranked (cond b (map cell (listOf k)) (cellOf s k ∷ [])) ≡ true
-    go true = every-at (λ (l : List Text). ranked (map cell l)) [] refl lists refl k
+    go : (b : Bool) → listedOnce (cond b (map cell (listOf k)) (cellOf s k ∷ [])) ≡ true
+    go true = every-at (λ (l : List Text). listedOnce (map cell l)) [] refl lists refl k
     go false = refl
 
 -- ---- fillings
@@ -120,19 +120,19 @@ product-ordered : (s ks : List ℕ) → Ordered (Differs (map (choices s) ks)) (
 product-ordered s [] = (λ b m. absurd (List·Memᴰ·not-nil m), tt)
 product-ordered s (k ∷ ks) =
     let c = choices s k in
-    each-ordered c (map (choices s) ks) c (product (map (choices s) ks)) (rising-ordered c c (choice-ranked s k)) (product-ordered s ks)
+    each-ordered c (map (choices s) ks) c (product (map (choices s) ks)) (rising-ordered c c (choice-once s k)) (product-ordered s ks)
 
 -- the order is strict
 earlier-strict : (s g f : List ℕ) → Earlier s g f → Earlier s f g → ⊥
 earlier-strict s g f v w =
     elim (decLt (v .at) (w .at)) [
-      | yes h ↦ omega (arith, v .less, ap (rank (choices s (v .at))) (w .same (v .at) h))
+      | yes h ↦ omega (arith, v .less, ap (entryPlace (choices s (v .at))) (w .same (v .at) h))
       | no h ↦
           elim (decLt (w .at) (v .at)) [
-            | yes k ↦ omega (arith, w .less, ap (rank (choices s (w .at))) (v .same (w .at) k))
+            | yes k ↦ omega (arith, w .less, ap (entryPlace (choices s (w .at))) (v .same (w .at) k))
             | no k ↦
                 let e : w .at ≡ v .at = omega arith in
-                omega (arith, v .less, subst (λ (i : ℕ). rank (choices s i) (cellOf f i) < rank (choices s i) (cellOf g i)) e (w .less))
+                omega (arith, v .less, subst (λ (i : ℕ). entryPlace (choices s i) (cellOf f i) < entryPlace (choices s i) (cellOf g i)) e (w .less))
           ]
     ]
 

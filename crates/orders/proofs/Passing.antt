@@ -15,18 +15,17 @@ use Rattle.sheets.specs.Lists.{statusTexts, basisTexts, zeroTexts, statusCount,
 use Rattle.sheets.specs.Working.Entries.{filledAt}
 use Rattle.sheets.specs.declared.facts.Facts.{Facts}
 use Rattle.texts.proofs.Every.{every-within}
-use Rattle.rules.specs.Rules.{budget, order, keeps, keepsAll}
+use Rattle.rules.specs.Rules.{budget, order, basic, keeps, keepsAll}
 use Rattle.rules.specs.Working.Groups.{fixedRules, statusRules, basisRules, documentRules, dayRules, AlikeBut, apart, spare}
 use Rattle.rules.proofs.Judging.{all-grouped}
 use Rattle.rules.proofs.Reading.{spared, spared-class}
-use Rattle.orders.specs.Complete.{basic}
-use Rattle.orders.specs.Fillings.{product, none, look}
-use Rattle.orders.specs.Working.Entering.{Entry, filledWith, pickedOf}
+use Rattle.orders.specs.Fillings.{mostFillings, product, none, look}
+use Rattle.orders.specs.Working.Entering.{Entry, filledWith, pickedOf, varying}
 use Rattle.orders.specs.Working.Search.{passesAt, width, places, picks, firstPick, Payment}
 use Rattle.orders.specs.Working.Found.{foundOf}
 use Rattle.orders.specs.declared.search.Found.the-variants.{Nothing}
 use Rattle.orders.proofs.Counting.{length-picks}
-use Rattle.orders.proofs.Keeping.{varying, picks-fit, filled-alike, picked-alike}
+use Rattle.orders.proofs.Keeping.{picks-fit, filled-alike, picked-alike}
 use Rattle.orders.proofs.Levels.{Picks}
 
 -- what a group's test and an entry put in promise
@@ -117,8 +116,14 @@ none-passes f k h e n c s o =
     let p = broken-fixed s fixedRules (o .read .size) refl refl b in
     ap Nothing (c s (o .read)) ∙ sym (ap foundOf (none-look (passesAt s) p (picks s) 0 ∙ ap none (omega arith)))
 
--- count_all
-pub most : (a b c d : ℕ) → a ≤ statusCount → b ≤ basisCount → c ≤ zeroCount → d ≤ zeroCount → (c * d ≤ 4) × (b * (c * d) ≤ 48) × (a * (b * (c * d)) ≤ 1056)
+-- count_all: how many fillings have one entry in 101 and 106, and one in 101
+abbrev pub ofBasis : ℕ
+ofBasis = zeroCount * zeroCount
+
+abbrev pub ofStatus : ℕ
+ofStatus = basisCount * ofBasis
+
+pub most : (a b c d : ℕ) → a ≤ statusCount → b ≤ basisCount → c ≤ zeroCount → d ≤ zeroCount → (c * d ≤ ofBasis) × (b * (c * d) ≤ ofStatus) × (a * (b * (c * d)) ≤ mostFillings)
 most a b c d ha hb hc hd =
     let two = mul-le-mul hc hd in
     let three = mul-le-mul hb two in

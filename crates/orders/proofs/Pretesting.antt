@@ -4,6 +4,7 @@ use mathlib.Core.Logic.{_↔_}
 use mathlib.Core.Bool.{Bool, true, false, not}
 use mathlib.Core.List.{List, [], _∷_, List·Memᴰ, List·Memᴰ·head, Memᴰ·append-left, Memᴰ·append-right}
 use Prim.Native.Nat.{ℕ}
+use native.Mathlib.Omega.{arith}
 use borrow.Author.Tests.{eqb-true, eq-eqb, ne-eqb, not-true, not-false}
 use lib.Count.{ones}
 use lib.Dec.{eqb}
@@ -12,25 +13,25 @@ use Rattle.texts.specs.Texts.{every, any, are, among}
 use Rattle.texts.specs.Answers.{success, refusal, numberOf, Test, _refuses_, _refuses_with_, answerBy}
 use Rattle.texts.proofs.Bools.{both}
 use Rattle.texts.proofs.Refusals.{no-success, none-of, succeeded}
-use Rattle.rules.specs.Rules.{budget, rules, order, ahead, fieldOf, keeps, firstNot, firstBroken}
+use Rattle.rules.specs.Rules.{budget, rules, order, basic, ahead, fieldOf, keeps, firstNot, firstBroken}
 use Rattle.rules.proofs.First.{none-kept, kept-none, split}
-use Rattle.rules.specs.declared.rules.Rule.{Rule as RuleNumber}
+use Rattle.rules.specs.declared.rules.RuleNumber.{RuleNumber}
 use Rattle.sheets.specs.Working.Facts.{Read}
 use Rattle.sheets.specs.declared.facts.Facts.{Facts}
 use Rattle.sheets.specs.declared.sheet.Field.{Field}
 use Rattle.drafts.specs.Draft.{draftFormed, draftSheet}
 use Rattle.orders.specs.Fillings.{Filling, firstFilling}
-use Rattle.orders.specs.Complete.{setOf, basic, budgetPayment, nothing, counted, sheetTests, completeTests, completing}
+use Rattle.orders.specs.Complete.{setOf, budgetPayment, nothing, counted, sheetTests, completeTests, completing}
 use Rattle.orders.specs.Whole.{countOf}
 use Rattle.orders.specs.Pretest.{brokenByAll, namedField, pretestAnswer, pretestTests, pretesting, Names, Pretests}
 use Rattle.orders.specs.Working.Entering.{pickedOf}
 use Rattle.orders.specs.declared.pretest.Pretested.{Pretested}
 use Rattle.orders.specs.declared.pretest.Pretested.the-variants.{Named, Unnamed, Broken, Refused}
-use Rattle.orders.proofs.Ahead.{every-alike, firstOf, first-filling, first-budget, like-first, fields-first, first-broken, named-field}
+use Rattle.orders.proofs.Ahead.{every-alike, earliest, first-filling, first-budget, like-first, fields-first, first-broken, named-field}
 use Rattle.orders.proofs.EveryFilling.{every-mem}
 use Rattle.orders.proofs.Keeping.{picked-length}
 use Rattle.orders.proofs.Passing.{unkept}
-use Rattle.orders.proofs.Completing.{Begun, field-is, class-is, pays-by}
+use Rattle.orders.proofs.Completing.{Prepared, field-is, class-is, pays-by}
 use Rattle.orders.proofs.Whole.{basic-numbered, length-draftSheet, answer-is, lookAnswer, refused-by, all-by}
 
 -- refusals come in the same order
@@ -54,6 +55,16 @@ back-refusal true false y z v us ws cs n vs o e = e
 back-refusal true true false z v us ws cs n vs o e = e
 back-refusal true true true true v us ws cs n vs o e = let a : n ≡ 10 = cc in absurd (o a)
 back-refusal true true true false v us ws cs n vs o e = absurd (no-success n vs ws (sym e))
+
+-- the rule that is named, and 1 where none is
+abbrev ruleNamed : Pretested → ℕ
+ruleNamed (Named f n) = n .0
+ruleNamed Unnamed = 1
+ruleNamed (Broken f n) = 1
+ruleNamed (Refused n) = 1
+
+not-named : _≡_ {A = ℕ} 1 0 → ⊥
+not-named e = omega arith
 
 module _ (d : List ℕ) where
   abbrev basicKept : Bool
@@ -97,7 +108,7 @@ module _ (d : List ℕ) where
     none-answer : brokenByAll (draftSheet d) ≡ 0 → pretesting d ≡ success (0 ∷ 0 ∷ [])
     unfolding fieldOf rules
     none-answer z =
-        let f0 : namedField (draftSheet d) ≡ 0 = named-field (draftSheet d) size ∙ ap (λ (n : ℕ). fieldOf rules n (firstOf (draftSheet d) size)) z in
+        let f0 : namedField (draftSheet d) ≡ 0 = named-field (draftSheet d) size ∙ ap (λ (n : ℕ). fieldOf rules n (earliest (draftSheet d) size)) z in
         paid-is ∙ (λ i. success (f0 i ∷ z i ∷ []))
 
     says-none : (pretesting d ≡ success (0 ∷ 0 ∷ [])) ↔ ((g : List ℕ) → Filling (draftSheet d) g → every (keeps g) ahead ≡ true)
@@ -106,10 +117,10 @@ module _ (d : List ℕ) where
       λ e g w.
           let q : success (namedField (draftSheet d) ∷ brokenByAll (draftSheet d) ∷ []) ≡ success (0 ∷ 0 ∷ []) = sym paid-is ∙ e in
           let z : brokenByAll (draftSheet d) ≡ 0 = cc in
-          every-alike (keeps g) (keeps (firstOf (draftSheet d) size)) ahead (like-first (draftSheet d) size g w)
-          ∙ none-kept (keeps (firstOf (draftSheet d) size)) ahead refl (sym (first-broken (draftSheet d) size) ∙ z),
+          every-alike (keeps g) (keeps (earliest (draftSheet d) size)) ahead (like-first (draftSheet d) size g w)
+          ∙ none-kept (keeps (earliest (draftSheet d) size)) ahead refl (sym (first-broken (draftSheet d) size) ∙ z),
       λ h.
-          let z : brokenByAll (draftSheet d) ≡ 0 = first-broken (draftSheet d) size ∙ kept-none (keeps (firstOf (draftSheet d) size)) ahead (h (firstOf (draftSheet d) size) (first-filling (draftSheet d) size)) in
+          let z : brokenByAll (draftSheet d) ≡ 0 = first-broken (draftSheet d) size ∙ kept-none (keeps (earliest (draftSheet d) size)) ahead (h (earliest (draftSheet d) size) (first-filling (draftSheet d) size)) in
           none-answer z,
     )
 
@@ -117,7 +128,7 @@ module _ (d : List ℕ) where
     unfolding every any are among
     names g n y e =
         let s = draftSheet d in
-        let o = firstOf s size in
+        let o = earliest s size in
         let q : success (namedField s ∷ brokenByAll s ∷ []) ≡ success (g ∷ n ∷ []) = sym paid-is ∙ e in
         let a : namedField s ≡ g = cc in
         let b : brokenByAll s ≡ n = cc in
@@ -157,23 +168,24 @@ module _ (d : List ℕ) where
       (not-false _ (o .0), rw (k, b))
 
   -- the promise, from the equation that the code is proved to meet
-  pub pretests-by : (r : Pretested) → pretestAnswer r ≡ pretesting d → Pretests d r
-  pretests-by r e = record {
+  pub pretests-by : (r : Pretested) → pretestAnswer r ≡ pretesting d → (ruleNamed r ≡ 0 → ⊥) → Pretests d r
+  pretests-by r e y = record {
     answer = e;
     refused = λ b z n vs h. refuses-as b z n vs (sym e ∙ h);
     alsoRefused = λ b z n vs o h. e ∙ refuses-back b z n vs o h;
     paid = λ f p. ap numberOf (e ∙ paid-is f p);
     none = λ f p. rw e (says-none f p);
     named = λ g n y h. let w = passed (g ∷ n ∷ []) (sym e ∙ h) in names (w .0) (w .1) g n y (sym e ∙ h);
+    numbered = λ f n h z. y (ap ruleNamed h ∙ z);
   }
 
 -- ---- the ways through `pretest`
 
 pub ahead-1 : (d : List ℕ) (w : Bool) → w ≡ draftFormed d → not w ≡ true → Pretests d (Refused (record { 0 = 1 }))
 unfolding pretestAnswer pretesting pretestTests
-ahead-1 d w hw h = let f : draftFormed d ≡ false = sym hw ∙ not-true w h in pretests-by d (Refused (record { 0 = 1 })) (sym (simp f))
+ahead-1 d w hw h = let f : draftFormed d ≡ false = sym hw ∙ not-true w h in pretests-by d (Refused (record { 0 = 1 })) (sym (simp f)) not-named
 
-module _ {d s u : List ℕ} {x : Facts} {g : RuleNumber} (B : Begun d s u x g) where
+module _ {d s u : List ℕ} {x : Facts} {g : RuleNumber} (B : Prepared d s u x g) where
   formed : draftFormed d ≡ true
   formed = B .formed
 
@@ -183,35 +195,35 @@ module _ {d s u : List ℕ} {x : Facts} {g : RuleNumber} (B : Begun d s u x g) w
   pub ahead-8 : (f : Field) → (g .0 ≡ 0 → ⊥) → f .0 ≡ fieldOf rules (g .0) u → Pretests d (Broken f g)
   unfolding pretestAnswer pretesting pretestTests
   ahead-8 f y j =
-      pretests-by d (Broken f g) (sym (simp (formed, first, ne-eqb (g .0) 0 y) (ap (λ (n : ℕ). refusal 8 (n ∷ g .0 ∷ [])) (field-is B f j))))
+      pretests-by d (Broken f g) (sym (simp (formed, first, ne-eqb (g .0) 0 y) (ap (λ (n : ℕ). refusal 8 (n ∷ g .0 ∷ [])) (field-is B f j)))) not-named
 
   module _ (y : g .0 ≡ 0) (r : Bool) (hr : (t : List ℕ) → Read x t → r ≡ budget t) where
     pub ahead-9 : not r ≡ true → Pretests d (Refused (record { 0 = 9 }))
     unfolding pretestAnswer pretesting pretestTests
     ahead-9 t =
         let p : budget (draftSheet d) ≡ false = sym (class-is B r hr) ∙ not-true r t in
-        pretests-by d (Refused (record { 0 = 9 })) (sym (simp (formed, first ∙ y, p)))
+        pretests-by d (Refused (record { 0 = 9 })) (sym (simp (formed, first ∙ y, p))) not-named
 
     module _ (t : not r ≡ false) (v : List ℕ) (hv : v ≡ pickedOf u (0 ∷ 0 ∷ 0 ∷ 0 ∷ [])) (fx : Facts) (hfx : length v ≡ 390 → Read fx v) (m : RuleNumber) (hm : (k : List ℕ) → Read fx k → budget k ≡ true → m .0 ≡ firstBroken k ahead) where
       pays : budget (draftSheet d) ≡ true
       pays = sym (class-is B r hr) ∙ not-false r t
 
-      filled : v ≡ firstOf (draftSheet d) (B .size)
-      unfolding firstOf
+      filled : v ≡ earliest (draftSheet d) (B .size)
+      unfolding earliest
       filled = hv ∙ ap (λ (k : List ℕ). pickedOf k (0 ∷ 0 ∷ 0 ∷ 0 ∷ [])) (B .base)
 
       by-all : m .0 ≡ brokenByAll (draftSheet d)
-      unfolding firstOf
+      unfolding earliest
       by-all =
           let seen = subst (Read fx) filled (hfx (ap length filled ∙ picked-length (draftSheet d) (B .size) (0 ∷ 0 ∷ 0 ∷ 0 ∷ []))) in
-          hm (firstOf (draftSheet d) (B .size)) seen (first-budget (draftSheet d) (B .size) ∙ pays) ∙ sym (first-broken (draftSheet d) (B .size))
+          hm (earliest (draftSheet d) (B .size)) seen (first-budget (draftSheet d) (B .size) ∙ pays) ∙ sym (first-broken (draftSheet d) (B .size))
 
       pub ahead-none : m .0 ≡ 0 → Pretests d Unnamed
       unfolding pretestAnswer
-      ahead-none z = pretests-by d Unnamed (sym (none-answer d formed (pays-by B y pays) (sym by-all ∙ z)))
+      ahead-none z = pretests-by d Unnamed (sym (none-answer d formed (pays-by B y pays) (sym by-all ∙ z))) not-named
 
-      pub ahead-named : (f : Field) → f .0 ≡ fieldOf rules (m .0) v → Pretests d (Named f m)
+      pub ahead-named : (f : Field) → (m .0 ≡ 0 → ⊥) → f .0 ≡ fieldOf rules (m .0) v → Pretests d (Named f m)
       unfolding pretestAnswer
-      ahead-named f j =
+      ahead-named f z j =
           let n0 : f .0 ≡ namedField (draftSheet d) = j ∙ (λ i. fieldOf rules (by-all i) (filled i)) ∙ sym (named-field (draftSheet d) (B .size)) in
-          pretests-by d (Named f m) (sym (paid-is d formed (pays-by B y pays) ∙ (λ i. success (sym n0 i ∷ sym by-all i ∷ []))))
+          pretests-by d (Named f m) (sym (paid-is d formed (pays-by B y pays) ∙ (λ i. success (sym n0 i ∷ sym by-all i ∷ [])))) z

@@ -13,7 +13,7 @@ use Rattle.texts.specs.Texts.{every}
 use Rattle.texts.specs.Answers.{Answer, success, refusal, numberOf, _refuses_, _refuses_with_, answerBy, bufferBy}
 use Rattle.texts.proofs.Bools.{both}
 use Rattle.texts.proofs.Refusals.{no-success, never, unchanged}
-use Rattle.rules.specs.Rules.{budget, keeps, keepsAll}
+use Rattle.rules.specs.Rules.{budget, basic, keeps, keepsAll}
 use Rattle.rules.proofs.First.{numbered, kept-none, none-kept, split}
 use Rattle.rules.proofs.Judging.{ordinary-class}
 use Rattle.drafts.specs.Draft.{draftFormed, draftSheet}
@@ -23,11 +23,11 @@ use Rattle.drafts.proofs.EndSlots.{all-formed}
 use Rattle.drafts.proofs.Arrangements.{held-by}
 use Rattle.drafts.proofs.DraftSheets.{length-sheet}
 use Rattle.orders.specs.Fillings.{Filling, Place, Look, found, none, fillings, firstFilling}
-use Rattle.orders.specs.Complete.{setOf, basic, budgetPayment, completeAnswer, nothing, counted, sheetIn, sheetTests, completeTests, completing, completed}
+use Rattle.orders.specs.Complete.{setOf, budgetPayment, completeAnswer, nothing, counted, sheetIn, sheetTests, completeTests, completing, completed}
 use Rattle.orders.specs.Whole.{countOf, FirstFilling, All, FilledSet, Unpaid, broken, ordinary, Whole, Completes}
 use Rattle.orders.specs.declared.complete.Completed.{Completed}
 use Rattle.orders.specs.declared.complete.Completed.the-variants.{Filled, Impossible, Broken, Refused}
-use Rattle.orders.proofs.EveryFilling.{filling-of, of-filling, unchanged as stays}
+use Rattle.orders.proofs.EveryFilling.{filling-of, of-filling, given-stays}
 use Rattle.orders.proofs.Looking.{look-found, look-none}
 use Rattle.orders.proofs.Order.{earlier-before, place-of, once-all}
 use Rattle.orders.proofs.Counting.{fillings-most, fillings-one, filled-set}
@@ -70,7 +70,7 @@ module _ (s b : List ℕ) (z : length s ≡ 390) where
       record {
         filling = filling-of s z t m;
         keeps = w .passes;
-        unchanged = stays s t (filling-of s z t m);
+        unchanged = given-stays s t (filling-of s z t m);
         place = subst (Place s t) (sym (w .place)) (place-of s z (w .before) (w .after) t (w .split));
         first = λ g p q. w .fails g (earlier-before s z (w .before) (w .after) t (w .split) g p q);
       }

@@ -1,6 +1,5 @@
 -- What completion answers, and what it leaves in the sheet buffer (document 01, "Completion", "Answers other than success").
 -- Assumes nothing.
-use mathlib.Core.Path.{_≡_}
 use mathlib.Core.Bool.{Bool, true, false, not, cond, _&&_}
 use mathlib.Core.List.{List, [], _∷_, _++_}
 use Prim.Native.Nat.{ℕ, _+_, _^_}
@@ -10,7 +9,8 @@ use lib.ListN.{length}
 use Rattle.texts.specs.Texts.{every}
 use Rattle.texts.specs.Answers.{Answer, success, refusal, Test, _refuses_, _refuses_with_, answerBy, bufferBy}
 use Rattle.sheets.specs.Sheet.{slots, sheetSize}
-use Rattle.rules.specs.Rules.{budget, rules, fieldOf, keeps, firstBroken}
+use Rattle.rules.specs.Rules.{budget, rules, basic, keeps, firstBroken}
+use Rattle.rules.specs.Verdicts.{brokenRule}
 use Rattle.drafts.specs.Draft.{draftFormed, draftSheet}
 use Rattle.orders.specs.Fillings.{toFill, Look, found, none, firstFilling}
 use Rattle.orders.specs.declared.complete.Completed.{Completed}
@@ -23,10 +23,6 @@ bits s (k ∷ ks) = cond (toFill s k) (2 ^ k) 0 + bits s ks
 
 unfoldable pub setOf : List ℕ → ℕ
 setOf s = bits s slots
-
--- "in completion only 1 to 3"
-abbrev pub basic : List ℕ
-basic = 1 ∷ 2 ∷ 3 ∷ []
 
 -- "With 1 to 3 kept, a sheet has a class"; "A budget payment is a sheet of class A or B"
 unfoldable pub budgetPayment : List ℕ → Bool
@@ -55,7 +51,7 @@ sheetIn b (none n) = b
 -- of the draft's sheet s: "a broken rule; in completion only 1 to 3", "completion of class O"
 abbrev pub unpaidTests : List ℕ → List Test
 unpaidTests s =
-    (not (eqb (firstBroken s basic) 0) refuses 8 with (fieldOf rules (firstBroken s basic) s ∷ firstBroken s basic ∷ []))
+    brokenRule rules (firstBroken s basic) s
     ∷ (not (budget s) refuses 9)
     ∷ []
 

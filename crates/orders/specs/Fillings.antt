@@ -1,14 +1,14 @@
 -- Fillings, their order and their places (document 01, "Completion"), said without a search. Assumes nothing.
 use mathlib.Core.Path.{_≡_}
 use mathlib.Core.Logic.{_↔_}
-use mathlib.Core.Bool.{Bool, true, false, cond, _&&_}
+use mathlib.Core.Bool.{Bool, cond, _&&_}
 use mathlib.Core.List.{List, [], _∷_, _++_, map, List·Memᴰ}
-use Prim.Native.Nat.{ℕ, suc, _+_, _-_, _*_, _<_}
+use Prim.Native.Nat.{ℕ, suc, _+_, _*_, _<_}
 use lib.Dec.{ltb}
-use lib.ListN.{length, getD, replicate}
+use lib.ListN.{length, getD}
 use Rattle.texts.specs.Quoted.{Text, words}
 use Rattle.texts.specs.Texts.{blank, same}
-use Rattle.sheets.specs.Sheet.{slots, slotOf, sheetSize, cell, cellOf, textOf}
+use Rattle.sheets.specs.Sheet.{slots, sheetSize, cell, cellOf, textOf}
 use Rattle.sheets.specs.Lists.{statusTexts, basisTexts, zeroTexts, statusCount, basisCount, zeroCount}
 use Rattle.rules.specs.Rules.{keepsAll}
 
@@ -37,9 +37,9 @@ pub record Filling (s f : List ℕ) : Type 0 where
   pub slot : (k : ℕ) → k < 15 → List·Memᴰ (cellOf f k) (choices s k)
 
 -- how many entries of a list stand before x
-abbrev pub rank : List (List ℕ) → List ℕ → ℕ
-rank [] x = 0
-rank (y ∷ ys) x = cond (same x y) 0 (suc (rank ys x))
+abbrev pub entryPlace : List (List ℕ) → List ℕ → ℕ
+entryPlace [] x = 0
+entryPlace (y ∷ ys) x = cond (same x y) 0 (suc (entryPlace ys x))
 
 -- "Of two fillings the earlier is the one with the earlier list entry in the first of these four fields where they differ": in
 -- slot order these come as 101, 106, 108, 109, and no other field of a filling has a choice
@@ -47,7 +47,7 @@ pub record Earlier (s g f : List ℕ) : Type 0 where
   pub at : ℕ
   pub inside : at < 15
   pub same : (j : ℕ) → j < at → cellOf g j ≡ cellOf f j
-  pub less : rank (choices s at) (cellOf g at) < rank (choices s at) (cellOf f at)
+  pub less : entryPlace (choices s at) (cellOf g at) < entryPlace (choices s at) (cellOf f at)
 
 -- "a filling's place is one more than the number of earlier ones": the list has each earlier filling once
 pub record Place (s f : List ℕ) (n : ℕ) : Type 0 where

@@ -2,14 +2,15 @@
 use mathlib.Core.Path.{_≡_}
 use mathlib.Core.Logic.{_↔_}
 use mathlib.Core.Bool.{Bool, true, false, not, _&&_}
-use mathlib.Core.List.{List, [], _∷_, _++_, List·Memᴰ}
+use mathlib.Core.List.{List, [], _∷_, _++_}
 use Prim.Native.Nat.{ℕ}
-use lib.Dec.{eqb}
 use lib.ListN.{length, getD}
 use Rattle.texts.specs.Texts.{every}
 use Rattle.texts.specs.Answers.{Answer, success, refusal, numberOf, Test, _refuses_, answerBy}
 use Rattle.sheets.specs.Sheet.{Sheet, sheetSize}
+use Rattle.sheets.specs.declared.sheet.Field.{Field}
 use Rattle.rules.specs.Rules.{rules, fieldOf, keeps, firstNot, ahead}
+use Rattle.rules.specs.declared.rules.RuleNumber.{RuleNumber}
 use Rattle.drafts.specs.Draft.{draftFormed, draftSheet}
 use Rattle.orders.specs.Fillings.{Filling, fillings}
 use Rattle.orders.specs.Complete.{budgetPayment, unpaidTests, completing}
@@ -72,3 +73,5 @@ pub record Pretests (d : List ℕ) (r : Pretested) : Type 0 where
       → (pretestAnswer r ≡ success (0 ∷ 0 ∷ [])) ↔ ((g : List ℕ) → Filling (draftSheet d) g → every (keeps g) ahead ≡ true)
   -- "where it names one"
   pub named : (f n : ℕ) → (n ≡ 0 → ⊥) → pretestAnswer r ≡ success (f ∷ n ∷ []) → Names d (draftSheet d) f n
+  -- a rule named is not 0: that there is none, it says with `Unnamed`
+  pub numbered : (f : Field) (n : RuleNumber) → r ≡ Named f n → n .0 ≡ 0 → ⊥

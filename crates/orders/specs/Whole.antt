@@ -8,12 +8,12 @@ use lib.ListN.{length, getD}
 use Rattle.texts.specs.Texts.{every, blank}
 use Rattle.texts.specs.Answers.{Answer, success, refusal, numberOf}
 use Rattle.sheets.specs.Sheet.{slots, sheetSize, cellOf, textOf}
-use Rattle.rules.specs.Rules.{classOf, rules, fieldOf, keeps, keepsAll}
+use Rattle.rules.specs.Rules.{classOf, rules, basic, fieldOf, keeps, keepsAll}
 use Rattle.rules.specs.declared.class.Class.the-variants.{O}
 use Rattle.drafts.specs.Draft.{draftFormed, draftSheet}
 use Rattle.drafts.specs.Promises.{Postings, Held}
 use Rattle.orders.specs.Fillings.{toFill, Filling, Earlier, Place, mostFillings}
-use Rattle.orders.specs.Complete.{basic, budgetPayment, completing, completed, completeAnswer}
+use Rattle.orders.specs.Complete.{budgetPayment, completing, completed, completeAnswer}
 use Rattle.orders.specs.declared.complete.Completed.{Completed}
 use Rattle.orders.specs.declared.complete.Completed.the-variants.{Filled}
 

@@ -9,7 +9,7 @@ use drafts::draft::put_sheet;
 use drafts::draft::well_formed;
 use rules::check::broken_basic;
 use rules::class::is_budget;
-use rules::rules::Rule;
+use rules::rules::RuleNumber;
 use rules::rules::field_of;
 use sheets::facts::facts_of;
 use sheets::sheet::Field;
@@ -21,7 +21,7 @@ use texts::buffers::put;
 pub enum Completed {
     Filled { count: usize, set: u16, ones: u32 },
     Impossible(usize),
-    Broken(Field, Rule),
+    Broken(Field, RuleNumber),
     Refused(Refusal),
 }
 

@@ -6,7 +6,7 @@ ghost use Prim.Native.Nat.{_≤_};
 ghost use Rattle.texts.specs.Texts.{blank, every};
 ghost use Rattle.sheets.specs.Sheet.{textOf, given};
 ghost use Rattle.sheets.specs.Working.Entries.{filledAt};
-ghost use Rattle.orders.specs.Working.Entering.{rowCell, baseOf, pickedOf};
+ghost use Rattle.orders.specs.Working.Entering.{rowCell, baseOf, pickedOf, varying};
 ghost use Rattle.orders.specs.Complete.{setOf};
 use crate::search::Pick;
 use sheets::entries::basis_row;
@@ -63,7 +63,7 @@ pub(crate) fn fill_picked(sheet: &mut [u8], pick: Pick)
 
 // None of 101, 106, 108 and 109 is blank.
 fn picks_nothing(sheet: &[u8]) -> bool
-    ensures { λ r. ⌜ r ≡ every (given (now (sheet .entry))) (6 ∷ 11 ∷ 13 ∷ 14 ∷ []) ⌝ }
+    ensures { λ r. ⌜ r ≡ every (given (now (sheet .entry))) varying ⌝ }
 {
     is_given(sheet, 6)
         & (is_given(sheet, 11) & (is_given(sheet, 13) & (is_given(sheet, 14) & true)))

@@ -8,7 +8,7 @@ use drafts::draft::well_formed;
 use rules::check::broken_ahead;
 use rules::check::broken_basic;
 use rules::class::is_budget;
-use rules::rules::Rule;
+use rules::rules::RuleNumber;
 use rules::rules::field_of;
 use sheets::facts::facts_of;
 use sheets::sheet::Field;
@@ -17,9 +17,9 @@ use texts::answers::Refusal;
 
 // The first of its rules that all fillings break, with its field; none; 8; 1 or 9.
 pub enum Pretested {
-    Named(Field, Rule),
+    Named(Field, RuleNumber),
     Unnamed,
-    Broken(Field, Rule),
+    Broken(Field, RuleNumber),
     Refused(Refusal),
 }
 

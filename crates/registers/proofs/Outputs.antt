@@ -1,30 +1,29 @@
 -- Pooling into the output: at the loop's head the lines before i, pooled, stand at the output's start, and the numbers of
 -- their INNs in the table. A line more is added to the sum of its INN, or copied behind them. Assumes nothing.
 use mathlib.Core.Path.{_≡_, refl, ap, sym, _∙_}
-use mathlib.Core.Bool.{true, not, _&&_}
+use mathlib.Core.Bool.{true, _&&_}
 use mathlib.Core.List.{List, [], _∷_, _++_, map, append-assoc, append-nil, map-append}
 use Prim.Native.Nat.{ℕ, zero, suc, _+_, _*_, _/_, _^_, _≤_, _<_}
 use native.Mathlib.Numerals.{add-one}
 use native.Mathlib.Omega.{arith}
-use borrow.Author.Tests.{eq-eqb, ne-eqb}
-use lib.Dec.{eqb}
+use borrow.Author.Tests.{eq-eqb}
 use lib.ListN.{length, take, drop, getD, set, replicate, length-append, length-set, length-map, List·getD-map}
 use lib.Seq.{drop-cons, take-at, drop-at, set-getD, set-split, getD-take, take-suc-set, map-set-same}
 use Rattle.texts.specs.Quoted.{Text}
 use Rattle.texts.specs.Texts.{same, between, digits, digitsNot00, number}
-use Rattle.texts.specs.Numbers.{bytesOf}
+use Rattle.texts.specs.Numbers.{Bytes, bytesOf}
 use Rattle.texts.specs.Buffers.{put, putAt}
-use Rattle.texts.proofs.Bools.{both, and2}
+use Rattle.texts.proofs.Bools.{cases, both}
 use Rattle.texts.proofs.Big.{big-bytes}
-use Rattle.texts.proofs.Codes.{same-true, is-number}
+use Rattle.texts.proofs.Codes.{same-true, digits-coded, is-number}
 use Rattle.texts.proofs.Numerals.{digits-sized}
 use Rattle.texts.proofs.Puts.{length-put, put-none, put-next}
 use Rattle.sheets.specs.Forms.{checkDigit, weights11, weights12, inn12}
 use Rattle.amounts.specs.Amount.{isAmount}
 use Rattle.registers.specs.Register.{Line, lineBytes, linesBytes, linesOf, lineRight, linesRight, registerRight, pooled, appearing, totalOf}
 use Rattle.registers.specs.Working.Parts.{lineAt, bigAt, Finds}
-use Rattle.registers.proofs.Pooling.{either, others, pooled-none, pooled-first, pooled-total, HasAt, pooled-at, pooled-new}
-use Rattle.registers.proofs.Registers.{Bytes, line-whole, right-at, lines-length, lines-at, lines-all, lines-next, total-next, total-most, whole-of}
+use Rattle.registers.proofs.Pooling.{others, pooled-none, pooled-first, pooled-total, HasAt, pooled-at, pooled-new}
+use Rattle.registers.proofs.Registers.{line-whole, right-at, lines-length, lines-at, lines-all, lines-next, total-next, total-most, whole-of}
 
 -- ---- the bytes of lines
 
@@ -90,7 +89,7 @@ digits-12 t e = both (digits 12 t) _ (both (digitsNot00 12 t) (checkDigit weight
 
 sized-others : (t : Text) (ps : List Line) → Sized ps → Sized (others t ps)
 sized-others t [] s = tt
-sized-others t (p ∷ ps) s = either (same (p .0) t) (λ e. rw e (sized-others t ps (s .1))) (λ e. rw e (s .0, sized-others t ps (s .1)))
+sized-others t (p ∷ ps) s = cases (same (p .0) t) (λ e. rw e (sized-others t ps (s .1))) (λ e. rw e (s .0, sized-others t ps (s .1)))
 
 pub pooled-sized : (ls : List Line) (i : ℕ) → linesRight ls ≡ true → Sized (pooled (take i ls))
 unfolding linesRight
@@ -137,10 +136,10 @@ module _ {t o : List ℕ} {i count : ℕ} {numbers output : List ℕ} (s : SoFar
   pub most-lines : length t / 20 ≤ 500
   most-lines = whole-of t (s .asked .0) .2
 
-  pub inn-digits : i < length t / 20 → (u : Text) → u ≡ lineAt t i .0 → digits 12 u ≡ true
-  inn-digits h u e =
+  inn-digits : i < length t / 20 → digits 12 (lineAt t i .0) ≡ true
+  inn-digits h =
       let q = right-at (linesOf t) all-right i (omega (arith, lines-length t, h)) .0 in
-      digits-12 u (ap inn12 (e ∙ sym (ap (λ (l : Line). l .0) (lines-at t i h))) ∙ q)
+      digits-12 (lineAt t i .0) (ap (λ (l : Line). inn12 (l .0)) (sym (lines-at t i h)) ∙ q)
 
   bytes-long : length (linesBytes (first t i)) ≡ count * 20
   bytes-long = lines-long (first t i) (pooled-sized (linesOf t) i all-right) ∙ omega (arith, s .many)
@@ -158,7 +157,6 @@ pub record Turn (t o : List ℕ) (i count : ℕ) (numbers output : List ℕ) (n 
   pub before : SoFar t o i count numbers output
   pub more : i < length t / 20
   pub inn : n ≡ number 12 (lineAt t i .0)
-  pub small : n < 10 ^ 12
   pub finds : Finds numbers count n place
 
 module _ {t o : List ℕ} {i count : ℕ} {numbers output : List ℕ} {n place : ℕ} (w : Turn t o i count numbers output n place) where
@@ -178,8 +176,7 @@ module _ {t o : List ℕ} {i count : ℕ} {numbers output : List ℕ} {n place :
       let u = line .0 in
       let v = getD lines place ([], 0) .0 in
       let e : number 12 u ≡ number 12 v = sym (w .inn) ∙ sym (w .finds .found k) ∙ number-at place k in
-      let c = and2 (digits 12 u) (not (eqb (number 12 u) (10 ^ 12))) (inn-digits (w .before) (w .more) u refl) (ap not (ne-eqb (number 12 u) (10 ^ 12) (λ q. omega (arith, q, w .inn, w .small)))) in
-      same-true v u (is-number 12 v u c ∙ eq-eqb (number 12 u) (number 12 v) e)
+      same-true v u (is-number 12 v u (digits-coded 12 u (inn-digits (w .before) (w .more))) ∙ eq-eqb (number 12 u) (number 12 v) e)
 
   has-none : count ≤ place → (j : ℕ) → j < length lines → HasAt line lines j → ⊥
   has-none k j l e =
@@ -227,7 +224,7 @@ module _ {t o : List ℕ} {i count : ℕ} {numbers output : List ℕ} {n place :
       let q : first t (i + 1) ≡ lines ++ line ∷ [] = ap pooled (lines-next t i (w .more)) ∙ pooled-new line (take i (linesOf t)) (has-none k) in
       let b = line-whole t i (omega (arith, w .more)) f in
       let c : count < length numbers = omega (arith, w .before .room, table-room) in
-      let d = digits-sized (line .0) 12 true (sym (inn-digits (w .before) (w .more) (line .0) refl)) refl in
+      let d = digits-sized (line .0) 12 true (sym (inn-digits (w .before) (w .more))) refl in
       let m = lines-long (line ∷ []) (d, tt) in
       let next = put-next o (linesBytes lines) (linesBytes (line ∷ [])) output (count * 20) (bytes-long (w .before)) (omega (arith, m, c, w .before .room, w .before .asked .1)) (w .before .bytes) in
       record {

@@ -2,7 +2,7 @@
 -- them. Assumes nothing.
 use mathlib.Core.Path.{_≡_, refl, ap, sym, _∙_}
 use mathlib.Core.Logic.{⊎-elim}
-use mathlib.Core.Bool.{Bool, true, false, cond}
+use mathlib.Core.Bool.{false, cond}
 use mathlib.Core.List.{List, [], _∷_, _++_, map, append-nil, List·Memᴰ, List·Memᴰ·head, List·Memᴰ·tail, List·Memᴰ·cases-cons, Memᴰ·of-map}
 use Prim.Native.Nat.{ℕ, zero, suc, _+_, _≤_, _<_}
 use native.Mathlib.Nat.{add-zero, zero-add, add-assoc}
@@ -11,7 +11,7 @@ use lib.ListN.{length, getD, set, List·getD-map}
 use lib.Seq.{append-snoc}
 use Rattle.texts.specs.Quoted.{Text}
 use Rattle.texts.specs.Texts.{same}
-use Rattle.texts.proofs.Bools.{alike}
+use Rattle.texts.proofs.Bools.{cases, alike}
 use Rattle.texts.proofs.Codes.{same-true, same-self}
 use Rattle.registers.specs.Register.{Line, without, appearing, innsOf, sumOf, pooled, totalOf}
 use Rattle.registers.specs.Pool.{firstAt, IsPool}
@@ -19,13 +19,8 @@ use Rattle.registers.specs.Pool.{firstAt, IsPool}
 same-turn : (t u : Text) → same t u ≡ same u t
 same-turn t u = alike (same t u) (same u t) (λ e. ap (same u) (same-true t u e) ∙ same-self u) (λ e. ap (same t) (same-true u t e) ∙ same-self t)
 
--- a test is passed or not
-pub either : {C : Type 0} (b : Bool) → (b ≡ true → C) → (b ≡ false → C) → C
-either true f g = f refl
-either false f g = g refl
-
 different : (t u : Text) → (u ≡ t → ⊥) → same t u ≡ false
-different t u n = either (same t u) (λ e. absurd (n (sym (same-true t u e)))) (λ e. e)
+different t u n = cases (same t u) (λ e. absurd (n (sym (same-true t u e)))) (λ e. e)
 
 -- ---- the first line taken off
 
@@ -43,7 +38,7 @@ module _ (l : Line) (ls : List Line) where
   unfolding without sumOf
   sums-others [] = refl
   sums-others (u ∷ us) =
-      either (same u (l .0)) (λ e. rw e (sums-others us))
+      cases (same u (l .0)) (λ e. rw e (sums-others us))
       (λ e. cc (e, same-turn (l .0) u, zero-add (sumOf u ls), sums-others us))
 
   pub pooled-first : pooled (l ∷ ls) ≡ (l .0, l .1 + sumOf (l .0) ls) ∷ others (l .0) (pooled ls)
@@ -60,9 +55,9 @@ others-add : (t : Text) (ps : List Line) (l : Line) → others t (addTo ps l) �
 others-add t [] l = refl
 others-add t (p ∷ ps) l =
     let r = others-add t ps l in
-    either (same (l .0) (p .0))
-    (λ e. let q = ap (λ (u : Text). same u t) (same-true (l .0) (p .0) e) in either (same (p .0) t) (λ f. cc) (λ f. cc))
-    (λ e. either (same (p .0) t) (λ f. cc) (λ f. either (same (l .0) t) (λ g. cc) (λ g. cc)))
+    cases (same (l .0) (p .0))
+    (λ e. let q = ap (λ (u : Text). same u t) (same-true (l .0) (p .0) e) in cases (same (p .0) t) (λ f. cc) (λ f. cc))
+    (λ e. cases (same (p .0) t) (λ f. cc) (λ f. cases (same (l .0) t) (λ g. cc) (λ g. cc)))
 
 sum-more : (t : Text) (ls : List Line) (l : Line) → sumOf t (ls ++ l ∷ []) ≡ sumOf t ls + cond (same (l .0) t) (l .1) 0
 unfolding sumOf
@@ -78,14 +73,14 @@ pooled-more (k ∷ ks) l =
     let c = pooled-more ks l in
     let d = others-add (k .0) (pooled ks) l in
     let s = sum-more (k .0) ks l in
-    either (same (l .0) (k .0)) (λ e. cc (add-assoc (k .1) (sumOf (k .0) ks) (l .1))) (λ e. cc (add-zero (sumOf (k .0) ks)))
+    cases (same (l .0) (k .0)) (λ e. cc (add-assoc (k .1) (sumOf (k .0) ks) (l .1))) (λ e. cc (add-zero (sumOf (k .0) ks)))
 
 -- ---- the total
 
 total-add : (ps : List Line) (l : Line) → totalOf (addTo ps l) ≡ totalOf ps + l .1
 unfolding totalOf
 total-add [] l = omega arith
-total-add (p ∷ ps) l = either (same (l .0) (p .0)) (λ e. rw e (omega arith)) (λ e. rw e (omega (arith, total-add ps l)))
+total-add (p ∷ ps) l = cases (same (l .0) (p .0)) (λ e. rw e (omega arith)) (λ e. rw e (omega (arith, total-add ps l)))
 
 total-from : (rs ls : List Line) → totalOf (pooled (rs ++ ls)) ≡ totalOf (pooled rs) + totalOf ls
 unfolding totalOf
@@ -120,7 +115,7 @@ module _ (ls : List Line) where
   unfolding firstAt
   turn-others l m n [] h t = tt
   turn-others l m n (p ∷ ps) h t =
-      either (same (p .0) (l .0)) (λ e. rw e (turn-others l m (suc (firstAt (p .0) ls)) ps (omega (arith, t .0)) (t .1)))
+      cases (same (p .0) (l .0)) (λ e. rw e (turn-others l m (suc (firstAt (p .0) ls)) ps (omega (arith, t .0)) (t .1)))
       (λ e. rw (e, same-turn (l .0) (p .0), e) (omega (arith, t .0), turn-others l (suc (suc (firstAt (p .0) ls))) (suc (firstAt (p .0) ls)) ps (omega arith) (t .1)))
 
 in-turn : (ls : List Line) → InTurn ls 0 (pooled ls)
@@ -133,14 +128,14 @@ in-turn (l ∷ ls) = rw (pooled-first l ls, same-self (l .0)) (omega arith, turn
 mem-others : (t u : Text) (ps : List Line) → List·Memᴰ t (innsOf (others u ps)) → List·Memᴰ t (innsOf ps)
 mem-others t u [] m = m
 mem-others t u (p ∷ ps) m =
-    either (same (p .0) u) (λ e. List·Memᴰ·tail (mem-others t u ps (rw e at m)))
+    cases (same (p .0) u) (λ e. List·Memᴰ·tail (mem-others t u ps (rw e at m)))
     (λ e. ⊎-elim (λ h. List·Memᴰ·head h) (λ n. List·Memᴰ·tail (mem-others t u ps n)) (List·Memᴰ·cases-cons (rw e at m)))
 
 others-mem : (t u : Text) (ps : List Line) → same t u ≡ false → List·Memᴰ t (innsOf ps) → List·Memᴰ t (innsOf (others u ps))
 others-mem t u [] n m = m
 others-mem t u (p ∷ ps) n m =
     let r = others-mem t u ps n in
-    ⊎-elim (λ h. rw (rw h at n) (List·Memᴰ·head h)) (λ k. either (same (p .0) u) (λ e. rw e (r k)) (λ e. rw e (List·Memᴰ·tail (r k))))
+    ⊎-elim (λ h. rw (rw h at n) (List·Memᴰ·head h)) (λ k. cases (same (p .0) u) (λ e. rw e (r k)) (λ e. rw e (List·Memᴰ·tail (r k))))
     (List·Memᴰ·cases-cons m)
 
 module _ (t : Text) where
@@ -155,7 +150,7 @@ module _ (t : Text) where
   among-pooled (l ∷ ls) m =
       rw (pooled-first l ls)
       (⊎-elim (λ h. List·Memᴰ·head h)
-      (λ k. either (same t (l .0)) (λ e. List·Memᴰ·head (same-true t (l .0) e)) (λ e. List·Memᴰ·tail (others-mem t (l .0) (pooled ls) e (among-pooled ls k))))
+      (λ k. cases (same t (l .0)) (λ e. List·Memᴰ·head (same-true t (l .0) e)) (λ e. List·Memᴰ·tail (others-mem t (l .0) (pooled ls) e (among-pooled ls k))))
       (List·Memᴰ·cases-cons m))
 
 module _ (ls : List Line) where

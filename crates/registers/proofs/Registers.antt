@@ -11,7 +11,7 @@ use lib.Dec.{leb, eqb}
 use lib.ListN.{length, take, drop, getD, take-append-drop, length-drop}
 use lib.Seq.{length-take-le, take-all, take-suc, take-add, drop-at, drop-cons, drop-drop, take-take}
 use Rattle.texts.specs.Texts.{between}
-use Rattle.texts.specs.Numbers.{big, bytesAt}
+use Rattle.texts.specs.Numbers.{Bytes, big, bytesAt}
 use Rattle.texts.proofs.Big.{each-at, bytes-big}
 use Rattle.texts.proofs.Bools.{both, and2}
 use Rattle.sheets.specs.Forms.{inn12}
@@ -26,9 +26,6 @@ use Rattle.registers.specs.Working.Parts.{lineAt, bigAt}
 take-bytes : (t : List ℕ) (at k : ℕ) → at + k ≤ length t → take k (drop at t) ≡ bytesAt t at k
 take-bytes t at zero h = refl
 take-bytes t at (suc k) h = cc (drop-cons t at 0 (omega arith), take-bytes t (suc at) k (omega arith))
-
-abbrev pub Bytes : List ℕ → Type 0
-Bytes t = (j : ℕ) → getD t j 0 < 256
 
 module _ (t : List ℕ) (i : ℕ) (h : i * 20 + 20 ≤ length t) where
   pub inn-part : between t (i * 20) (i * 20 + 12) ≡ lineAt t i .0
@@ -54,14 +51,10 @@ module _ (t : List ℕ) (i : ℕ) (h : i * 20 + 20 ≤ length t) where
       let e : i * 20 + 20 - i * 20 ≡ 20 = omega arith in
       cc (e, last-eight, bytes-big (bytesAt t (i * 20 + 12) 8) (each-at t (i * 20 + 12) 8 f), take-append-drop 12 (take 20 (drop (i * 20) t)))
 
--- two halves make the number of eight bytes
-module _ (t : List ℕ) (at : ℕ) (h : at + 8 ≤ length t) where
-  abbrev byteAt : ℕ → ℕ
-  byteAt j = getD t (at + j) 0
-
-  pub halves : (high low : ℕ) → high ≡ big (getD t at 0 ∷ byteAt 1 ∷ byteAt 2 ∷ byteAt 3 ∷ []) → low ≡ big (byteAt 4 ∷ byteAt 5 ∷ byteAt 6 ∷ byteAt 7 ∷ [])
-      → high * 4294967296 + low ≡ bigAt t at
-  halves high low p q = omega (arith, simp towards-suc at p, simp towards-suc at q) ∙ sym (ap big (take-bytes t at 8 h))
+-- the number of the eight bytes from place at on
+pub eight-at : (t : List ℕ) (at : ℕ) → at + 8 ≤ length t
+    → big (getD t at 0 ∷ getD t (at + 1) 0 ∷ getD t (at + 2) 0 ∷ getD t (at + 3) 0 ∷ getD t (at + 4) 0 ∷ getD t (at + 5) 0 ∷ getD t (at + 6) 0 ∷ getD t (at + 7) 0 ∷ []) ≡ bigAt t at
+eight-at t at h = simp towards-suc (sym (ap big (take-bytes t at 8 h)))
 
 -- ---- the lines
 

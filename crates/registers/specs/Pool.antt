@@ -19,7 +19,7 @@ use Rattle.registers.specs.declared.pool.Pooled.the-variants.{Made, Diff
 
 -- "an output of fewer than 500 places"
 abbrev pub outputSize : ℕ
-outputSize = 10000
+outputSize = mostLines * lineSize
 
 -- "tested 7, 16, 17": with 17 by how much the register is more than the order, and by how much less, one of which is 0
 unfoldable pub poolTests : List ℕ → ℕ → List ℕ → List Test

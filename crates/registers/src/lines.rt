@@ -3,12 +3,13 @@ ghost use mathlib.Core.Path.{_≡_};
 ghost use mathlib.Core.Bool.{true};
 ghost use Prim.Native.Nat.{_+_, _*_, _≤_};
 ghost use lib.ListN.{length};
-ghost use Rattle.registers.specs.Register.{linesOf, lineRight, linesRight, registerRight, totalOf};
+ghost use Rattle.amounts.specs.Amount.{mostKopecks};
+ghost use Rattle.registers.specs.Register.{lineSize, kopecksSize, mostLines, linesOf, lineRight, linesRight, registerRight, totalOf};
 ghost use Rattle.registers.specs.Working.Parts.{lineAt, bigAt};
 use amounts::amount::Kopecks;
 use amounts::amount::is_amount;
 use sheets::forms::is_inn12;
-use texts::numbers::number_of_4;
+use texts::numbers::number_of_8;
 use texts::parts::part;
 
 // "12 bytes, then eight, big-endian"
@@ -19,24 +20,25 @@ pub(crate) const INN_SIZE: usize = 12;
 // "1 to 500 lines"
 const MOST_LINES: usize = 500;
 
-fn long(n: u32) -> u64
-    ensures { λ r. ⌜ r ≡ n ⌝ }
-{
-    n as u64
-}
-
 // The number of the eight bytes from place at on.
 pub(crate) fn number_at(t: &[u8], at: usize) -> u64
-    requires { ⌜ at + 8 ≤ length (now t) ⌝ }
+    requires { ⌜ at + kopecksSize ≤ length (now t) ⌝ }
     ensures { λ r. ⌜ r ≡ bigAt (now (t .entry)) at ⌝ }
 {
-    let high = number_of_4(t[at], t[at + 1], t[at + 2], t[at + 3]);
-    let low = number_of_4(t[at + 4], t[at + 5], t[at + 6], t[at + 7]);
-    long(high) * 4_294_967_296 + long(low)
+    number_of_8(
+        t[at],
+        t[at + 1],
+        t[at + 2],
+        t[at + 3],
+        t[at + 4],
+        t[at + 5],
+        t[at + 6],
+        t[at + 7],
+    )
 }
 
 pub(crate) fn inn_at(register: &[u8], i: usize) -> &[u8]
-    requires { ⌜ i * 20 + 20 ≤ length (now register) ⌝ }
+    requires { ⌜ i * lineSize + lineSize ≤ length (now register) ⌝ }
     ensures { λ r. ⌜ now r ≡ lineAt (now (register .entry)) i .0 ⌝ }
 {
     let at = i * LINE_SIZE;
@@ -44,7 +46,7 @@ pub(crate) fn inn_at(register: &[u8], i: usize) -> &[u8]
 }
 
 pub(crate) fn kopecks_at(register: &[u8], i: usize) -> Kopecks
-    requires { ⌜ i * 20 + 20 ≤ length (now register) ⌝ }
+    requires { ⌜ i * lineSize + lineSize ≤ length (now register) ⌝ }
     ensures { λ r. ⌜ r .0 ≡ lineAt (now (register .entry)) i .1 ⌝ }
 {
     Kopecks(number_at(register, i * LINE_SIZE + INN_SIZE))
@@ -52,7 +54,7 @@ pub(crate) fn kopecks_at(register: &[u8], i: usize) -> Kopecks
 
 // "each a 12-digit INN (under R-4) and 1 to 10^12 kopecks"
 fn is_line(register: &[u8], i: usize) -> bool
-    requires { ⌜ i * 20 + 20 ≤ length (now register) ⌝ }
+    requires { ⌜ i * lineSize + lineSize ≤ length (now register) ⌝ }
     ensures { λ r. ⌜ r ≡ lineRight (lineAt (now (register .entry)) i) ⌝ }
 {
     is_inn12(inn_at(register, i)) & is_amount(kopecks_at(register, i))
@@ -91,7 +93,7 @@ pub(crate) fn is_register(register: &[u8]) -> bool
 // "the total of the register"
 pub(crate) fn total_of(register: &[u8]) -> Kopecks
     requires { ⌜ registerRight (now register) ≡ true ⌝ }
-    ensures { λ r. ⌜ (r .0 ≡ totalOf (linesOf (now (register .entry)))) × (r .0 ≤ 500000000000000) ⌝ }
+    ensures { λ r. ⌜ (r .0 ≡ totalOf (linesOf (now (register .entry)))) × (r .0 ≤ mostLines * mostKopecks) ⌝ }
 {
     let count = register.len() / LINE_SIZE;
     let mut sum: u64 = 0;

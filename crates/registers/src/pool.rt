@@ -3,11 +3,10 @@ ghost use mathlib.Core.Path.{_≡_};
 ghost use mathlib.Core.Bool.{true};
 ghost use Prim.Native.Nat.{_+_, _-_, _*_, _^_, _≤_, _<_};
 ghost use lib.ListN.{length};
-ghost use Rattle.texts.specs.Texts.{digits, number};
 ghost use Rattle.texts.specs.Numbers.{bytesOf};
 ghost use Rattle.texts.specs.Buffers.{put};
-ghost use Rattle.registers.specs.Register.{linesBytes, linesOf, registerRight, orderRight, pooled, mostOrder};
-ghost use Rattle.registers.specs.Pool.{more, less, Pools};
+ghost use Rattle.registers.specs.Register.{lineSize, innSize, kopecksSize, mostLines, linesBytes, linesOf, registerRight, orderRight, pooled, mostOrder};
+ghost use Rattle.registers.specs.Pool.{outputSize, more, less, Pools};
 ghost use Rattle.registers.specs.Working.Parts.{bigAt, Finds};
 use crate::lines::INN_SIZE;
 use crate::lines::LINE_SIZE;
@@ -19,7 +18,8 @@ use crate::lines::total_of;
 use amounts::amount::Kopecks;
 use texts::answers::Refusal;
 use texts::buffers::put;
-use texts::digits::digit_value;
+use texts::digits::number_12;
+use texts::numbers::bytes_of_8;
 use texts::parts::part;
 
 // How many pooled lines there are; 17 with the signed difference register minus order; 7 or 16.
@@ -52,29 +52,9 @@ fn difference(total: Kopecks, amount: Kopecks) -> i64
     0 - (amount.0 - total.0) as i64
 }
 
-fn wide(b: u8) -> u64
-    ensures { λ r. ⌜ r ≡ b ⌝ }
-{
-    b as u64
-}
-
-// The number of an INN, by which INNs are compared.
-fn inn_number(inn: &[u8]) -> u64
-    requires { ⌜ digits 12 (now inn) ≡ true ⌝ }
-    ensures { λ r. ⌜ (r ≡ number 12 (now (inn .entry))) × (r < 10 ^ 12) ⌝ }
-{
-    let mut n: u64 = 0;
-    let mut i = 0;
-    while i < inn.len() {
-        n = n * 10 + wide(digit_value(inn[i]));
-        i += 1;
-    }
-    n
-}
-
 // A place of a number among the first count; count where it is not among them.
-fn find(numbers: &[u64; 500], count: usize, number: u64) -> usize
-    requires { ⌜ count ≤ 500 ⌝ }
+fn find(numbers: &[usize; 500], count: usize, number: usize) -> usize
+    requires { ⌜ count ≤ mostLines ⌝ }
     ensures { λ r. ⌜ Finds (now (numbers .entry)) count number r ⌝ }
 {
     let mut found = count;
@@ -88,25 +68,10 @@ fn find(numbers: &[u64; 500], count: usize, number: u64) -> usize
     found
 }
 
-fn bytes_of_8(n: u64) -> [u8; 8]
-    ensures { λ r. ⌜ r ≡ bytesOf 8 n ⌝ }
-{
-    [
-        (n / 256 / 256 / 256 / 256 / 256 / 256 / 256 % 256) as u8,
-        (n / 256 / 256 / 256 / 256 / 256 / 256 % 256) as u8,
-        (n / 256 / 256 / 256 / 256 / 256 % 256) as u8,
-        (n / 256 / 256 / 256 / 256 % 256) as u8,
-        (n / 256 / 256 / 256 % 256) as u8,
-        (n / 256 / 256 % 256) as u8,
-        (n / 256 % 256) as u8,
-        (n % 256) as u8,
-    ]
-}
-
 // Adds to the sum of a pooled line.
 fn add(output: &mut [u8], place: usize, kopecks: Kopecks)
-    requires { ⌜ (place * 20 + 20 ≤ length (now output)) × (bigAt (now output) (place * 20 + 12) + kopecks .0 < 2 ^ 64) ⌝ }
-    ensures { λ _. ⌜ now (output .exit) ≡ put (now (output .entry)) (place * 20 + 12) (bytesOf 8 (bigAt (now (output .entry)) (place * 20 + 12) + kopecks .0)) ⌝ }
+    requires { ⌜ (place * lineSize + lineSize ≤ length (now output)) × (bigAt (now output) (place * lineSize + innSize) + kopecks .0 < 2 ^ 64) ⌝ }
+    ensures { λ _. ⌜ now (output .exit) ≡ put (now (output .entry)) (place * lineSize + innSize) (bytesOf kopecksSize (bigAt (now (output .entry)) (place * lineSize + innSize) + kopecks .0)) ⌝ }
 {
     let at = place * LINE_SIZE + INN_SIZE;
     let sum = number_at(output, at) + kopecks.0;
@@ -115,15 +80,15 @@ fn add(output: &mut [u8], place: usize, kopecks: Kopecks)
 
 // "Pool lines of one INN into one, in the order of first appearance": a line of a new INN is copied behind those in the output.
 fn pool_lines(register: &[u8], output: &mut [u8]) -> usize
-    requires { ⌜ (registerRight (now register) ≡ true) × (10000 ≤ length (now output)) ⌝ }
+    requires { ⌜ (registerRight (now register) ≡ true) × (outputSize ≤ length (now output)) ⌝ }
     ensures { λ r. ⌜ (r ≡ length (pooled (linesOf (now (register .entry))))) × (now (output .exit) ≡ put (now (output .entry)) 0 (linesBytes (pooled (linesOf (now (register .entry)))))) ⌝ }
 {
     let lines = register.len() / LINE_SIZE;
-    let mut numbers = [0u64; 500];
+    let mut numbers = [0usize; 500];
     let mut count = 0;
     let mut i = 0;
     while i < lines {
-        let number = inn_number(inn_at(register, i));
+        let number = number_12(inn_at(register, i));
         let place = find(&numbers, count, number);
         if place < count {
             add(output, place, kopecks_at(register, i));

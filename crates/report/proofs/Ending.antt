@@ -13,7 +13,7 @@ use Rattle.texts.specs.Buffers.{put}
 use Rattle.texts.specs.Answers.{Answer, success, refusal}
 use Rattle.texts.proofs.Puts.{put-none, put-put, mid-put}
 use Rattle.sheets.specs.Sheet.{slots}
-use Rattle.rules.specs.declared.rules.Rule.{Rule}
+use Rattle.rules.specs.declared.rules.RuleNumber.{RuleNumber}
 use Rattle.sheets.specs.declared.sheet.Field.{Field}
 use Rattle.drafts.specs.Draft.{freshDraft, postingOf, postedTo}
 use Rattle.drafts.specs.History.{postedAll}
@@ -59,7 +59,7 @@ module _ (d s b x : List ℕ) (at k : ℕ) (r : Completed) (C : Completes d noSh
       ended (Impossible n) (E ++ T ++ N) h (append-assoc E T N) (omega arith)
       (λ m. wrote-then b y e at j q (E ++ T) N (wrote-then b x y at k j E T w v (omega arith)) u (omega arith))
 
-  pub end-broken : (f : Field) (p : Rule) (g m : ℕ) (y z : List ℕ) (j i : ℕ) → r ≡ Broken f p → g ≡ f .0 → m ≡ p .0 → Wrote x k (item (decimal 8) space) j y × (j ≤ k + 21) → Wrote y j (item (decimal g) space) i z × (i ≤ j + 21) → Wrote z i (item (decimal m) newline) q e × (q ≤ i + 21) → Wrote b at (ending d) q e × (q ≤ at + 733)
+  pub end-broken : (f : Field) (p : RuleNumber) (g m : ℕ) (y z : List ℕ) (j i : ℕ) → r ≡ Broken f p → g ≡ f .0 → m ≡ p .0 → Wrote x k (item (decimal 8) space) j y × (j ≤ k + 21) → Wrote y j (item (decimal g) space) i z × (i ≤ j + 21) → Wrote z i (item (decimal m) newline) q e × (q ≤ i + 21) → Wrote b at (ending d) q e × (q ≤ at + 733)
   unfolding endLines completeAnswer
   end-broken f p g m y z j i h hg hm (v, lv) (u, lu) (o, lo) =
       let E = item (bytes "end") space in

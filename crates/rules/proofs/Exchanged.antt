@@ -9,15 +9,15 @@ use lib.Dec.{eqb}
 use lib.ListN.{length, getD}
 use Rattle.texts.specs.Quoted.{Text}
 use Rattle.texts.specs.Texts.{every, any, same, are, among, blank, _is_, _isOneOf_, _begins_}
-use Rattle.texts.specs.Answers.{Answer, success, refusal, _refuses_, _refuses_with_, answerBy}
+use Rattle.texts.specs.Answers.{Answer, success, refusal, _refuses_, answerBy}
 use Rattle.texts.proofs.Bools.{both, alike}
 use Rattle.texts.proofs.Codes.{same-true}
 use Rattle.texts.proofs.Every.{every-member}
 use Rattle.sheets.specs.Sheet.{Sheet, wellFormed, _⟨_⟩}
 use Rattle.sheets.specs.Forms.{_⇒_, uin}
 use Rattle.sheets.specs.Lists.{account03212, courtsGroup}
-use Rattle.rules.specs.Rules.{budget, rules, order, status, testOf, fieldOf, keeps, firstNot, classOf}
-use Rattle.rules.specs.Verdicts.{className, checkTests, checked}
+use Rattle.rules.specs.Rules.{budget, rules, order, status, testOf, fieldOf, keeps, keepsAll, firstNot, classOf}
+use Rattle.rules.specs.Verdicts.{className, brokenRule, checkTests, checked}
 use Rattle.rules.specs.Before.{testsBy, checkedBy}
 use Rattle.rules.specs.Examples.{broken}
 use Rattle.rules.specs.R5.{upTo20, from23, orderBefore, caught, before, Moved, MovedOnly}
@@ -44,6 +44,16 @@ module _ (p : ℕ → Bool) (x : ℕ) where
   unfolding every firstNot
   first-broken zs [] e f = rw (not-true (p x) f)
   first-broken zs (a ∷ ks) e f = let q = both (p a) (every p ks) e in rw (q .0) (first-broken zs ks (q .1) f)
+
+exchange-and : (a b c : Bool) → (a && (b && c)) ≡ (b && (a && c))
+exchange-and true b c = refl
+exchange-and false true c = refl
+exchange-and false false c = refl
+
+every-exchanged : (p : ℕ → Bool) (x y : ℕ) (zs ks : List ℕ) → every p (ks ++ (x ∷ y ∷ zs)) ≡ every p (ks ++ (y ∷ x ∷ zs))
+unfolding every
+every-exchanged p x y zs [] = exchange-and (p x) (p y) (every p zs)
+every-exchanged p x y zs (a ∷ ks) = ap (λ (b : Bool). p a && b) (every-exchanged p x y zs ks)
 
 -- ---- when rules 21 and 22 are both broken
 
@@ -96,10 +106,10 @@ abbrev second : Answer → ℕ
 second (success vs) = 0
 second (refusal n vs) = getD vs 1 0
 
-module _ (s : Sheet) (w : wellFormed s ≡ true) where
+module _ (s : Sheet) where
   -- by the first broken rule
   abbrev answerOf : ℕ → Answer
-  answerOf n = answerBy ((not (wellFormed s) refuses 1) ∷ (not (eqb n 0) refuses 8 with (fieldOf rules n s ∷ n ∷ [])) ∷ []) (className (classOf s))
+  answerOf n = answerBy ((not (wellFormed s) refuses 1) ∷ brokenRule rules n s ∷ []) (className (classOf s))
 
   before-is : before s ≡ answerOf (firstNot (keeps s) orderBefore)
   unfolding checkedBy testsBy keeps
@@ -109,13 +119,16 @@ module _ (s : Sheet) (w : wellFormed s ≡ true) where
   unfolding checked checkTests
   now-is = refl
 
-  moved-case : (b : Bool) → caught s ≡ b → Moved s
+  malformed-still : wellFormed s ≡ false → before s ≡ checked s
+  malformed-still w = let e : answerOf (firstNot (keeps s) orderBefore) ≡ answerOf (firstNot (keeps s) order) = rw w in before-is ∙ e ∙ sym now-is
+
+  moved-case : (b : Bool) → wellFormed s ≡ true → caught s ≡ b → Moved s
   unfolding fieldOf rules broken
-  moved-case false c =
+  moved-case false w c =
       let q = before-is ∙ ap answerOf (first-exchanged (keeps s) 21 22 from23 upTo20 (sym (caught-is s) ∙ c)) ∙ sym now-is in
       let no : caught s ≡ true → ⊥ = λ d. false≢true (sym c ∙ d) in
       record { exactly = (λ n. absurd (n q), λ d. absurd (no d)); was = λ d. absurd (no d); becomes = λ d. absurd (no d); stays = λ z. q }
-  moved-case true c =
+  moved-case true w c =
       let q = both (every (keeps s) upTo20) (not (keeps s 21) && not (keeps s 22)) (sym (caught-is s) ∙ c) in
       let r = both (not (keeps s 21)) (not (keeps s 22)) (q .1) in
       let u : before s ≡ broken 22 21 = before-is ∙ ap answerOf (first-broken (keeps s) 21 (22 ∷ from23) upTo20 (q .0) (r .0)) ∙ rw w in
@@ -128,4 +141,10 @@ module _ (s : Sheet) (w : wellFormed s ≡ true) where
       }
 
 pub moved-only : MovedOnly
-moved-only s w = moved-case s w (caught s) refl
+unfolding keepsAll
+moved-only =
+    record {
+      moved = λ s w. moved-case s (caught s) w refl;
+      malformed = malformed-still;
+      kept = λ s. every-exchanged (keeps s) 21 22 from23 upTo20;
+    }

@@ -13,14 +13,14 @@ use Rattle.texts.specs.Texts.{every, any, are, among, blank}
 use Rattle.texts.proofs.Bools.{both}
 use Rattle.texts.proofs.Every.{every-append, every-same}
 use Rattle.sheets.specs.Sheet.{slots, slotOk, wellFormed, fieldIn, slotOf, Sheet, given, _⟨_⟩}
-use Rattle.rules.specs.Rules.{Rule, classA, classB, budget, testOf, keepsAll, firstBlank, rules, order, ahead, fieldOf, keeps, firstNot, firstBroken, classOf}
+use Rattle.rules.specs.Rules.{Rule, classA, classB, budget, testOf, keepsAll, firstBlank, rules, order, basic, ahead, fieldOf, keeps, firstNot, firstBroken, classOf}
 use Rattle.sheets.specs.Working.Facts.{accountOf, factsBy, factsOf, generalOf, standingOf, Read}
 use Rattle.rules.specs.Working.Tests.{ordinary, classOn, kept, holds, allTrue, generalOn, outcomesOn, judgedOn}
 use Rattle.rules.specs.Working.Groups.{fixedRules, statusRules, basisRules, documentRules, dayRules, grouped}
 use Rattle.rules.specs.Verdicts.{verdictAnswer, checkTests, checked, Checked}
 use Rattle.rules.specs.declared.class.Class.{Class}
 use Rattle.rules.specs.declared.class.Class.the-variants.{A, B, O}
-use Rattle.rules.specs.declared.rules.Rule.{Rule as RuleNumber}
+use Rattle.rules.specs.declared.rules.RuleNumber.{RuleNumber}
 use Rattle.sheets.specs.declared.sheet.Field.{Field}
 use Rattle.rules.specs.declared.check.Verdict.the-variants.{Malformed, Broken, Accepted}
 use Rattle.sheets.specs.declared.facts.Facts.{Facts}
@@ -63,21 +63,21 @@ unfolding every keeps rules testOf
 fourth u b = ap (λ (c : Bool). (not (not c) || blank (u ⟨ 101 ⟩)) && every (keeps u) grouped) b
 
 -- a budget payment that keeps rules 1 to 3 keeps all rules if it keeps those of each group
-pub all-grouped : (u : Sheet) → budget u ≡ true → every (keeps u) (1 ∷ 2 ∷ 3 ∷ []) ≡ true → keepsAll u ≡ (every (keeps u) fixedRules && (every (keeps u) statusRules && (every (keeps u) basisRules && (every (keeps u) documentRules && every (keeps u) dayRules))))
+pub all-grouped : (u : Sheet) → budget u ≡ true → every (keeps u) basic ≡ true → keepsAll u ≡ (every (keeps u) fixedRules && (every (keeps u) statusRules && (every (keeps u) basisRules && (every (keeps u) documentRules && every (keeps u) dayRules))))
 unfolding keepsAll
 all-grouped u b h =
     let p = every-append (keeps u) documentRules dayRules in
     let q = every-append (keeps u) basisRules (documentRules ++ dayRules) in
     let r = every-append (keeps u) statusRules (basisRules ++ (documentRules ++ dayRules)) in
     let w = every-append (keeps u) fixedRules (statusRules ++ (basisRules ++ (documentRules ++ dayRules))) in
-    order-grouped (keeps u) ∙ sym (every-append (keeps u) (1 ∷ 2 ∷ 3 ∷ []) (4 ∷ grouped)) ∙ ap (λ (x : Bool). x && every (keeps u) (4 ∷ grouped)) h
+    order-grouped (keeps u) ∙ sym (every-append (keeps u) basic (4 ∷ grouped)) ∙ ap (λ (x : Bool). x && every (keeps u) (4 ∷ grouped)) h
     ∙ fourth u b ∙ cc
 
 -- ---- broken_basic, is_budget
 
-pub basic-first : (f : Facts) (os : List Bool) (r : RuleNumber) → os ≡ generalOn f → r .0 ≡ firstNot (kept os) (1 ∷ 2 ∷ 3 ∷ []) → (s : Sheet) → Read f s → r .0 ≡ firstBroken s (1 ∷ 2 ∷ 3 ∷ [])
+pub basic-first : (f : Facts) (os : List Bool) (r : RuleNumber) → os ≡ generalOn f → r .0 ≡ firstNot (kept os) basic → (s : Sheet) → Read f s → r .0 ≡ firstBroken s basic
 unfolding kept keeps firstNot testOf rules factsBy generalOf accountOf standingOf slotOf _⟨_⟩
-basic-first f os r e h s o = h ∙ ap (λ (bs : List Bool). firstNot (kept bs) (1 ∷ 2 ∷ 3 ∷ [])) (e ∙ ap (λ (g : Facts). generalOn g) (o .facts))
+basic-first f os r e h s o = h ∙ ap (λ (bs : List Bool). firstNot (kept bs) basic) (e ∙ ap (λ (g : Facts). generalOn g) (o .facts))
 
 -- the outcomes of the test ahead, at their numbers
 abbrev pub placeAhead : List Bool → List Bool → List Bool

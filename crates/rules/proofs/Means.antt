@@ -9,11 +9,11 @@ use borrow.Author.Tests.{eqb-true, ne-eqb, not-false}
 use lib.Dec.{eqb}
 use lib.ListN.{getD}
 use Rattle.texts.specs.Texts.{every}
-use Rattle.texts.specs.Answers.{Answer, success, refusal, numberOf, _refuses_with_}
+use Rattle.texts.specs.Answers.{Answer, success, refusal, numberOf}
 use Rattle.texts.proofs.Refusals.{none-of, succeeded, never}
 use Rattle.sheets.specs.Sheet.{wellFormed, Sheet}
 use Rattle.rules.specs.Rules.{classOf, rules, order, fieldOf, keeps, keepsAll, firstBroken}
-use Rattle.rules.specs.Verdicts.{className, verdictAnswer, checkTests, checked, Checked}
+use Rattle.rules.specs.Verdicts.{className, brokenRule, verdictAnswer, checkTests, checked, Checked}
 use Rattle.rules.proofs.First.{numbered, none-kept, kept-none, split}
 use Rattle.rules.specs.declared.class.Class.the-variants.{A, B, O}
 use Rattle.rules.specs.declared.check.Verdict.{Verdict}
@@ -74,7 +74,7 @@ module _ (s : Sheet) (v : Verdict) (e : verdictAnswer v ≡ checked s) where
       go true w h =
           absurd
           (never 1 (className (classOf s))
-          ((not (eqb (firstBroken s order) 0) refuses 8 with (fieldOf rules (firstBroken s order) s ∷ firstBroken s order ∷ [])) ∷ [])
+          (brokenRule rules (firstBroken s order) s ∷ [])
           (λ z. omega arith) refl (ap numberOf (rw w at h)))
 
   pub checked-by : Checked s v

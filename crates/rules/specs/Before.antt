@@ -4,10 +4,10 @@ use mathlib.Core.Bool.{not, cond, Bool}
 use mathlib.Core.List.{List, [], _∷_, _++_, map}
 use Prim.Native.Nat.{ℕ}
 use lib.Dec.{eqb}
-use Rattle.texts.specs.Answers.{Answer, Test, _refuses_, _refuses_with_, answerBy}
+use Rattle.texts.specs.Answers.{Answer, Test, _refuses_, answerBy}
 use Rattle.sheets.specs.Sheet.{Sheet, wellFormed}
 use Rattle.rules.specs.Rules.{Rule, classOf, rules, order, testOf, fieldOf, keeps, firstNot}
-use Rattle.rules.specs.Verdicts.{className, checkTests, checked}
+use Rattle.rules.specs.Verdicts.{className, brokenRule, checkTests, checked}
 
 -- a rule with another test, if it has this number
 abbrev pub replaced : ℕ → (Sheet → Bool) → Rule → Rule
@@ -21,7 +21,7 @@ firstBy rs ns s = firstNot (λ (n : ℕ). testOf rs n s) ns
 unfoldable pub testsBy : List Rule → List ℕ → Sheet → List Test
 testsBy rs ns s =
     (not (wellFormed s) refuses 1)
-    ∷ (not (eqb (firstBy rs ns s) 0) refuses 8 with (fieldOf rs (firstBy rs ns s) s ∷ firstBy rs ns s ∷ []))
+    ∷ brokenRule rs (firstBy rs ns s) s
     ∷ []
 
 unfoldable pub checkedBy : List Rule → List ℕ → Sheet → Answer

@@ -9,8 +9,8 @@ use Prim.Native.String.{String}
 use Rattle.texts.specs.Texts.{every, _is_, _begins_}
 use Rattle.texts.specs.Answers.{Answer}
 use Rattle.sheets.specs.Sheet.{Sheet, wellFormed, _⟨_⟩}
-use Rattle.sheets.specs.Lists.{account03212}
-use Rattle.rules.specs.Rules.{rules, status, keeps}
+use Rattle.sheets.specs.Lists.{account03212, courtsGroup}
+use Rattle.rules.specs.Rules.{rules, status, keeps, keepsAll}
 use Rattle.rules.specs.Verdicts.{checked}
 use Rattle.rules.specs.Before.{testsBy, checkedBy}
 use Rattle.rules.specs.Examples.{Change, _≔_, accepted, broken, sheetWith, answer}
@@ -27,7 +27,7 @@ orderBefore = upTo20 ++ (21 ∷ 22 ∷ from23)
 
 -- "17 begins 03212, status 31 or 33, 22 "0", rules 1 to 20 kept"
 abbrev pub caught : Sheet → Bool
-caught s = (s ⟨ 17 ⟩ begins account03212 && status s "31 33") && (s ⟨ 22 ⟩ is "0" && every (keeps s) upTo20)
+caught s = (s ⟨ 17 ⟩ begins account03212 && status s courtsGroup) && (s ⟨ 22 ⟩ is "0" && every (keeps s) upTo20)
 
 abbrev pub before : Sheet → Answer
 before s = checkedBy rules orderBefore s
@@ -40,8 +40,11 @@ pub record Moved (s : Sheet) : Type 0 where
   pub becomes : caught s ≡ true → checked s ≡ broken 22 22
   pub stays : caught s ≡ false → before s ≡ checked s
 
-abbrev pub MovedOnly : Type 0
-MovedOnly = (s : Sheet) → wellFormed s ≡ true → Moved s
+pub record MovedOnly : Type 0 where
+  pub moved : (s : Sheet) → wellFormed s ≡ true → Moved s
+  pub malformed : (s : Sheet) → wellFormed s ≡ false → before s ≡ checked s
+  -- so completion, which asks whether a filling keeps all rules
+  pub kept : (s : Sheet) → every (keeps s) orderBefore ≡ keepsAll s
 
 -- ---- the table: differences from S, what was answered before, what is answered now
 

@@ -4,10 +4,10 @@ use mathlib.Core.List.{List, [], _∷_, _++_, map}
 use Prim.Native.Nat.{ℕ}
 use Prim.Native.String.{String}
 use lib.Dec.{eqb}
-use Rattle.texts.specs.Texts.{every, between, blank, _is_, _isOneOf_, _begins_, _beginsOneOf_}
+use Rattle.texts.specs.Texts.{every, blank, _is_, _isOneOf_, _begins_}
 use Rattle.sheets.specs.Sheet.{Sheet, fieldIn, slotOf, given, _⟨_⟩}
-use Rattle.sheets.specs.Forms.{_⇒_, bik, account, uin, code4, foreignCode, inn10, inn12, inn, digits5, digits10, digits12, kpp, kbk, oktmo, office, letterPair, person, document, pension, date}
-use Rattle.sheets.specs.Lists.{bankA, accountsA, banksB, accountB, accountsB, account03100, account03212, statuses, customsGroup, treasuryGroup, courtsGroup, personalGroup, wantInn, wantTen, wantTwelve, wantZero}
+use Rattle.sheets.specs.Forms.{_⇒_, bik, account, ofClassA, ofClassB, home, uin, code4, foreignCode, inn10, inn12, inn, digits5, digits10, digits12, kpp, kbk, oktmo, office, letterPair, person, document, pension, date}
+use Rattle.sheets.specs.Lists.{account03100, account03212, statuses, customsGroup, treasuryGroup, courtsGroup, personalGroup, wantInn, wantTen, wantTwelve, wantZero}
 use Rattle.rules.specs.declared.class.Class.{Class}
 use Rattle.rules.specs.declared.class.Class.the-variants.{A, B, O}
 
@@ -24,12 +24,10 @@ rule3 s = account (s ⟨ 17 ⟩)
 
 -- "With 1 to 3 kept, a sheet has a class"
 abbrev pub classA : Sheet → Bool
-classA s = s ⟨ 15 ⟩ begins bankA && s ⟨ 17 ⟩ beginsOneOf accountsA
+classA s = ofClassA (s ⟨ 15 ⟩) (s ⟨ 17 ⟩)
 
 abbrev pub classB : Sheet → Bool
-classB s =
-    between (s ⟨ 14 ⟩) 6 9 isOneOf banksB
-    && (s ⟨ 17 ⟩ begins accountB || (s ⟨ 17 ⟩ beginsOneOf accountsB && between (s ⟨ 17 ⟩) 13 14 is "4"))
+classB s = ofClassB (s ⟨ 14 ⟩) (s ⟨ 17 ⟩)
 
 unfoldable pub classOf : Sheet → Class
 classOf s = cond (classA s) A (cond (classB s) B O)
@@ -44,7 +42,7 @@ rule4 s = not (budget s) ⇒ blank (s ⟨ 101 ⟩)
 -- ---- "the rest is for A and B"
 
 abbrev pub rule5 : Sheet → Bool
-rule5 s = classA s ⇒ between (s ⟨ 17 ⟩) 5 8 is "643"
+rule5 s = classA s ⇒ home (s ⟨ 17 ⟩)
 
 -- the slots of "22, 60, 61, 101 to 109"
 abbrev pub needed : List ℕ
@@ -216,6 +214,10 @@ abbrev pub order : List ℕ
 order =
     1 ∷ 2 ∷ 3 ∷ 4 ∷ 5 ∷ 6 ∷ 7 ∷ 8 ∷ 9 ∷ 10 ∷ 11 ∷ 12 ∷ 13 ∷ 14 ∷ 15 ∷ 16 ∷ 17 ∷ 18 ∷ 19 ∷ 20 ∷ 22 ∷ 21 ∷ 23 ∷ 24 ∷ 25
     ∷ 26 ∷ 27 ∷ 28 ∷ 29 ∷ 30 ∷ 31 ∷ 32 ∷ 33 ∷ 34 ∷ 35 ∷ []
+
+-- "1 to 3", those for every sheet: with these kept, a sheet has a class
+abbrev pub basic : List ℕ
+basic = 1 ∷ 2 ∷ 3 ∷ []
 
 -- "rules 5 to 9, 11 to 14, 16, 22 and 28", in the order of testing: a test ahead of completion asks for these (R-3)
 abbrev pub ahead : List ℕ

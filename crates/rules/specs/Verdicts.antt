@@ -9,7 +9,7 @@ use Rattle.texts.specs.Quoted.{bytes}
 use Rattle.texts.specs.Texts.{every}
 use Rattle.texts.specs.Answers.{Answer, success, refusal, Test, _refuses_, _refuses_with_, answerBy}
 use Rattle.sheets.specs.Sheet.{wellFormed, Sheet}
-use Rattle.rules.specs.Rules.{classOf, rules, order, fieldOf, keeps, keepsAll, firstBroken}
+use Rattle.rules.specs.Rules.{Rule, classOf, rules, order, fieldOf, keeps, keepsAll, firstBroken}
 use Rattle.rules.specs.declared.class.Class.{Class}
 use Rattle.rules.specs.declared.class.Class.the-variants.{A, B, O}
 use Rattle.rules.specs.declared.check.Verdict.{Verdict}
@@ -27,11 +27,15 @@ verdictAnswer Malformed = refusal 1 []
 verdictAnswer (Broken f r) = refusal 8 (f .0 ∷ r .0 ∷ [])
 verdictAnswer (Accepted c) = success (className c)
 
+-- "a broken rule", n, with its field in the sheet s; 0 is none
+abbrev pub brokenRule : List Rule → ℕ → Sheet → Test
+brokenRule rs n s = not (eqb n 0) refuses 8 with (fieldOf rs n s ∷ n ∷ [])
+
 -- "draft or sheet malformed"; "the first broken one is named with the field in brackets"
 unfoldable pub checkTests : Sheet → List Test
 checkTests s =
     (not (wellFormed s) refuses 1)
-    ∷ (not (eqb (firstBroken s order) 0) refuses 8 with (fieldOf rules (firstBroken s order) s ∷ firstBroken s order ∷ []))
+    ∷ brokenRule rules (firstBroken s order) s
     ∷ []
 
 unfoldable pub checked : Sheet → Answer

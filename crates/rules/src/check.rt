@@ -4,7 +4,7 @@ ghost use mathlib.Core.Bool.{true};
 ghost use mathlib.Core.List.{[], _∷_};
 ghost use Rattle.sheets.specs.Sheet.{Sheet};
 ghost use Rattle.sheets.specs.Working.Facts.{Read};
-ghost use Rattle.rules.specs.Rules.{budget, order, ahead, firstNot, firstBroken};
+ghost use Rattle.rules.specs.Rules.{budget, order, basic, ahead, firstNot, firstBroken};
 ghost use Rattle.rules.specs.Working.Tests.{kept, outcomesOn, judgedOn};
 ghost use Rattle.rules.specs.Verdicts.{Checked};
 use crate::class::Class;
@@ -16,7 +16,7 @@ use crate::groups::document_outcomes;
 use crate::groups::fixed_outcomes;
 use crate::groups::general_outcomes;
 use crate::groups::status_outcomes;
-use crate::rules::Rule;
+use crate::rules::RuleNumber;
 use crate::rules::field_of;
 use sheets::facts::Facts;
 use sheets::facts::facts_of;
@@ -27,7 +27,7 @@ use texts::parts::wide;
 // What checking a sheet answers: 1, 8 with field and rule, or acceptance with the class.
 pub enum Verdict {
     Malformed,
-    Broken(Field, Rule),
+    Broken(Field, RuleNumber),
     Accepted(Class),
 }
 
@@ -89,23 +89,23 @@ fn is_kept(outcomes: &[bool], n: u8) -> bool
 }
 
 // The first broken one of some rules, 0 where none is broken.
-fn first_broken(outcomes: &[bool], order: &[u8]) -> Rule
+fn first_broken(outcomes: &[bool], order: &[u8]) -> RuleNumber
     ensures { λ r. ⌜ r .0 ≡ firstNot (kept (now (outcomes .entry))) (now (order .entry)) ⌝ }
 {
     let mut i = 0;
     while i < order.len() {
         let n = order[i];
         if !is_kept(outcomes, n) {
-            return Rule(n);
+            return RuleNumber(n);
         }
         i += 1;
     }
-    Rule(0)
+    RuleNumber(0)
 }
 
 // What completion asks of a sheet's facts, in words of the sheet: the first broken one of rules 1 to 3.
-pub fn broken_basic(f: Facts) -> Rule
-    ensures { λ r. ⌜ ((s : Sheet) → Read f s → r .0 ≡ firstBroken s (1 ∷ 2 ∷ 3 ∷ [])) ⌝ }
+pub fn broken_basic(f: Facts) -> RuleNumber
+    ensures { λ r. ⌜ ((s : Sheet) → Read f s → r .0 ≡ firstBroken s basic) ⌝ }
 {
     first_broken(&general_outcomes(f), &BASIC)
 }
@@ -162,7 +162,7 @@ fn outcomes(f: Facts) -> [bool; 36]
 
 // What a test ahead of completion asks of a budget payment's facts, in words of the sheet: the first broken one of its rules. It makes no
 // other outcome.
-pub fn broken_ahead(f: Facts) -> Rule
+pub fn broken_ahead(f: Facts) -> RuleNumber
     ensures { λ r. ⌜ ((s : Sheet) → Read f s → budget s ≡ true → r .0 ≡ firstBroken s ahead) ⌝ }
 {
     let always = fixed_outcomes(f);
@@ -201,7 +201,7 @@ pub fn broken_ahead(f: Facts) -> Rule
     first_broken(&kept, &AHEAD)
 }
 
-fn broken(f: Facts) -> Rule
+fn broken(f: Facts) -> RuleNumber
     ensures { λ r. ⌜ r .0 ≡ firstNot (kept (judgedOn f)) order ⌝ }
 {
     if is_ordinary(f) {

@@ -14,7 +14,7 @@ use texts::parts::at;
 use texts::parts::wide;
 
 // The number of a rule.
-pub struct Rule(pub u8);
+pub struct RuleNumber(pub u8);
 
 // "The field in brackets", by the rule's number; rule 6 names the first blank one.
 const RULE_FIELDS: [u8; 36] = [
@@ -305,7 +305,7 @@ fn first_blank(sheet: &[u8], slots: &[u8]) -> Field
 }
 
 // The field that a rule names.
-pub fn field_of(rule: Rule, sheet: &[u8]) -> Field
+pub fn field_of(rule: RuleNumber, sheet: &[u8]) -> Field
     ensures { λ r. ⌜ r .0 ≡ fieldOf rules (rule .0) (now (sheet .entry)) ⌝ }
 {
     let n = rule.0;

@@ -15,7 +15,7 @@ use Rattle.texts.specs.Texts.{between, blank, every}
 use Rattle.texts.specs.Buffers.{put, putAt}
 use Rattle.texts.proofs.Bools.{both}
 use Rattle.texts.proofs.Puts.{put-fits, length-put, part-put, mid-put}
-use Rattle.sheets.specs.Sheet.{Sheet, cell, cellText, cellOf, textOf}
+use Rattle.sheets.specs.Sheet.{Sheet, slotCount, textMax, cellSize, sheetSize, cell, cellText, cellOf, textOf}
 use Rattle.sheets.specs.Working.Facts.{standingOf, basisOf, documentOf, dayOf, factsBy, factsOf, Read}
 use Rattle.sheets.specs.Lists.{statusTexts, basisTexts, zeroTexts}
 use Rattle.sheets.specs.Working.Entries.{filledAt, statusAt, basisAt, documentAt, dayAt, withAll}
@@ -30,37 +30,37 @@ pub text-cell : (t : Text) → cellText (cell t) ≡ t
 unfolding cellText cell between
 text-cell t =
     let e : 1 + length t - 1 ≡ length t = omega arith in
-    rw e (take-at t (replicate (25 - length t) 0) (length t) refl)
+    rw e (take-at t (replicate (textMax - length t) 0) (length t) refl)
 
-pub length-cell : (t : Text) → length t ≤ 25 → length (cell t) ≡ 26
+pub length-cell : (t : Text) → length t ≤ textMax → length (cell t) ≡ cellSize
 unfolding cell
 length-cell t h = simp (length-append, length-replicate) (omega arith)
 
 -- an entry of a list of short texts
 abbrev short : Text → Bool
-short t = leb (length t) 25
+short t = leb (length t) textMax
 
-entry-short : (ts : List Text) (k : ℕ) → every short ts ≡ true → length (getD ts k []) ≤ 25
+entry-short : (ts : List Text) (k : ℕ) → every short ts ≡ true → length (getD ts k []) ≤ textMax
 unfolding every
 entry-short [] k h = omega arith
-entry-short (t ∷ ts) zero h = leb-true (length t) 25 (both (short t) (every short ts) h .0)
+entry-short (t ∷ ts) zero h = leb-true (length t) textMax (both (short t) (every short ts) h .0)
 entry-short (t ∷ ts) (suc k) h = entry-short ts k (both (short t) (every short ts) h .1)
 
-pub status-sized : (k : ℕ) → length (cell (getD statusTexts k [])) ≡ 26
+pub status-sized : (k : ℕ) → length (cell (getD statusTexts k [])) ≡ cellSize
 unfolding every
 status-sized k = length-cell (getD statusTexts k []) (entry-short statusTexts k refl)
 
-pub basis-sized : (k : ℕ) → length (cell (getD basisTexts k [])) ≡ 26
+pub basis-sized : (k : ℕ) → length (cell (getD basisTexts k [])) ≡ cellSize
 unfolding every
 basis-sized k = length-cell (getD basisTexts k []) (entry-short basisTexts k refl)
 
-pub zero-sized : (k : ℕ) → length (cell (getD zeroTexts k [])) ≡ 26
+pub zero-sized : (k : ℕ) → length (cell (getD zeroTexts k [])) ≡ cellSize
 unfolding every
 zero-sized k = length-cell (getD zeroTexts k []) (entry-short zeroTexts k refl)
 
-pub cell-part : (s : List ℕ) (j : ℕ) → cellOf s j ≡ take 26 (drop (j * 26) s)
+pub cell-part : (s : List ℕ) (j : ℕ) → cellOf s j ≡ take cellSize (drop (j * cellSize) s)
 unfolding cellOf between
-cell-part s j = let e : j * 26 + 26 - j * 26 ≡ 26 = omega arith in rw e
+cell-part s j = let e : j * cellSize + cellSize - j * cellSize ≡ cellSize = omega arith in rw e
 
 -- one of two lists
 either : (P : List ℕ → Type 0) (b : Bool) {l m : List ℕ} → P l → P m → P (cond b l m)
@@ -75,25 +75,25 @@ chosen h false t u = refl
 abbrev pub refilled : (ℕ → Text) → ℕ → Text → ℕ → Text
 refilled T k t j = cond (eqb j k) (cond (blank (T k)) t (T k)) (T j)
 
-module _ (s x : List ℕ) (k : ℕ) (size : length s ≡ 390) (lk : k < 15) (lx : length x ≡ 26) where
-  put-is : putAt s (k * 26) x ≡ put s (k * 26) x
-  put-is = put-fits s (k * 26) x (omega arith)
+module _ (s x : List ℕ) (k : ℕ) (size : length s ≡ sheetSize) (lk : k < slotCount) (lx : length x ≡ cellSize) where
+  put-is : putAt s (k * cellSize) x ≡ put s (k * cellSize) x
+  put-is = put-fits s (k * cellSize) x (omega arith)
 
-  put-same : cellOf (putAt s (k * 26) x) k ≡ x
-  put-same = cell-part (putAt s (k * 26) x) k ∙ ap (λ (l : List ℕ). take 26 (drop (k * 26) l)) put-is ∙ mid-put s (k * 26) x 26 lx (omega arith)
+  put-same : cellOf (putAt s (k * cellSize) x) k ≡ x
+  put-same = cell-part (putAt s (k * cellSize) x) k ∙ ap (λ (l : List ℕ). take cellSize (drop (k * cellSize) l)) put-is ∙ mid-put s (k * cellSize) x cellSize lx (omega arith)
 
-  put-length : length (putAt s (k * 26) x) ≡ 390
-  put-length = ap length put-is ∙ length-put s (k * 26) x (omega arith) ∙ size
+  put-length : length (putAt s (k * cellSize) x) ≡ sheetSize
+  put-length = ap length put-is ∙ length-put s (k * cellSize) x (omega arith) ∙ size
 
-  put-other : (j : ℕ) → (j ≡ k → ⊥) → cellOf (putAt s (k * 26) x) j ≡ cellOf s j
+  put-other : (j : ℕ) → (j ≡ k → ⊥) → cellOf (putAt s (k * cellSize) x) j ≡ cellOf s j
   put-other j n =
-      cell-part (putAt s (k * 26) x) j ∙ ap (λ (l : List ℕ). take 26 (drop (j * 26) l)) put-is
-      ∙ part-put s (k * 26) x (j * 26) 26 (elim (decLt j k) [ yes p ↦ inl (omega arith) | no q ↦ inr (omega arith) ]) (omega arith)
+      cell-part (putAt s (k * cellSize) x) j ∙ ap (λ (l : List ℕ). take cellSize (drop (j * cellSize) l)) put-is
+      ∙ part-put s (k * cellSize) x (j * cellSize) cellSize (elim (decLt j k) [ yes p ↦ inl (omega arith) | no q ↦ inr (omega arith) ]) (omega arith)
       ∙ sym (cell-part s j)
 
-  pub filled-length : length (filledAt s k x) ≡ 390
+  pub filled-length : length (filledAt s k x) ≡ sheetSize
   unfolding filledAt
-  filled-length = either (λ l. length l ≡ 390) (blank (textOf s k)) put-length size
+  filled-length = either (λ l. length l ≡ sheetSize) (blank (textOf s k)) put-length size
 
   pub filled-other : (j : ℕ) → (j ≡ k → ⊥) → textOf (filledAt s k x) j ≡ textOf s j
   unfolding filledAt textOf
@@ -110,7 +110,7 @@ module _ (s x : List ℕ) (k : ℕ) (size : length s ≡ 390) (lk : k < 15) (lx 
         | no n ↦ simp (ne-eqb j k n) (filled-other j n)
       ]
 
-facts-filled : (s : Sheet) (k : ℕ) (t : Text) → length s ≡ 390 → k < 15 → length (cell t) ≡ 26 → factsOf (filledAt s k (cell t)) ≡ factsBy (refilled (textOf s) k t)
+facts-filled : (s : Sheet) (k : ℕ) (t : Text) → length s ≡ sheetSize → k < slotCount → length (cell t) ≡ cellSize → factsOf (filledAt s k (cell t)) ≡ factsBy (refilled (textOf s) k t)
 facts-filled s k t size lk lx = ap factsBy (fun-ext (filled-texts s (cell t) k size lk lx)) ∙ ap (λ (u : Text). factsBy (refilled (textOf s) k u)) (text-cell t)
 
 -- which of the fields that can vary are blank
@@ -120,7 +120,7 @@ unfolding factsBy standingOf basisOf documentOf dayOf
 blank-fields f s o = rw (o .facts) (refl, (refl, (refl, refl)))
 
 -- what is read of a sheet with an entry in such a field: `of` reads the field's facts off its text, `set` puts facts in
-module _ {X : Type 0} (of : Text → X) (set : Facts → X → Facts) (j : ℕ) (lj : j < 15) (ts : List Text) (short-ts : every short ts ≡ true)
+module _ {X : Type 0} (of : Text → X) (set : Facts → X → Facts) (j : ℕ) (lj : j < slotCount) (ts : List Text) (short-ts : every short ts ≡ true)
     (puts : (t : Sheet) (x : Text) → set (factsOf t) (of (cond (blank (textOf t j)) x (textOf t j))) ≡ factsBy (refilled (textOf t) j x)) where
   -- of a sheet t that has in the field what s has
   filled-in : (g : Facts) (k : ℕ) (s t : Sheet) → Read g t → textOf t j ≡ textOf s j → (y : X) → y ≡ cond (blank (textOf s j)) (of (getD ts k [])) (of (textOf s j))

@@ -14,7 +14,7 @@ use Rattle.texts.specs.Texts.{every, any, are, among, between, same, startsWith
 use Rattle.texts.proofs.Bools.{both}
 use Rattle.texts.proofs.Codes.{same-true, is-one-of}
 use Rattle.texts.proofs.Arms.{AnyOf, arm, outside}
-use Rattle.sheets.specs.Sheet.{textOf}
+use Rattle.sheets.specs.Sheet.{sheetSize, textOf}
 use Rattle.sheets.specs.Forms.{weights10, checkDigit, inn10, digits10, digitOrCapital, kpp, document, snilsBound, snilsCheck, snils, pension, monthDays, gregorian, date}
 use Rattle.sheets.specs.Lists.{statuses, customsGroup, treasuryGroup, courtsGroup, personalGroup, banksB, numbersOf, zeroTexts}
 use Rattle.sheets.specs.Working.Facts.{isB, groupsBy, groupsOf, standingBy, standingOf, wantedBy, basisOf, documentOf, dayOf, factsBy, factsOf, Read}
@@ -133,13 +133,13 @@ pub document-zero : (t : Text) (b : Bool) (r : Document) → b ≡ same t (48 �
 document-zero t b r e h er = er ∙ ap documentOf (sym (same-true t (48 ∷ []) (sym e ∙ h)))
 
 -- facts_of
-pub facts-other : (s : List ℕ) (r : Facts) → (length s ≡ 390 → ⊥) → length s ≡ 390 → Read r s
+pub facts-other : (s : List ℕ) (r : Facts) → (length s ≡ sheetSize → ⊥) → length s ≡ sheetSize → Read r s
 facts-other s r l e = absurd (l e)
 
 pub facts-is : (s : List ℕ) (h : Banking) (d : Parties) (r : Classifiers) (a : Standing) (b : Basis) (c : Document) (y : Day) (t u v w : Text)
     → h ≡ factsOf s .banking → d ≡ factsOf s .parties → r ≡ factsOf s .classifiers → t ≡ textOf s 6 → a ≡ standingOf t → u ≡ textOf s 11 → b ≡ basisOf u
     → v ≡ textOf s 13 → c ≡ documentOf v → w ≡ textOf s 14 → y ≡ dayOf w
-    → length s ≡ 390 → Read (record { banking = h; parties = d; classifiers = r; status = a; basis = b; document = c; day = y }) s
+    → length s ≡ sheetSize → Read (record { banking = h; parties = d; classifiers = r; status = a; basis = b; document = c; day = y }) s
 unfolding factsBy
 facts-is s h d r a b c y t u v w eh ed er et ea eu eb ev ec ew ey l =
     let fa : a ≡ standingOf (textOf s 6) = ea ∙ ap standingOf et in

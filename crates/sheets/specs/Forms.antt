@@ -5,8 +5,8 @@ use Prim.Native.Nat.{ℕ, _%_}
 use lib.Dec.{leb, ltb, eqb}
 use lib.ListN.{length, getD}
 use Rattle.texts.specs.Quoted.{Text}
-use Rattle.texts.specs.Texts.{every, among, between, _is_, _isOneOf_, _begins_, digit, digits, digitsNotZero, digitsNot00, valueOf, number, weighted}
-use Rattle.sheets.specs.Lists.{letterPairs, personTypes}
+use Rattle.texts.specs.Texts.{every, among, between, _is_, _isOneOf_, _begins_, _beginsOneOf_, digit, digits, digitsNotZero, digitsNot00, valueOf, number, weighted}
+use Rattle.sheets.specs.Lists.{bankA, accountsA, banksB, accountB, accountsB, letterPairs, personTypes}
 
 infixr 25 _⇒_
 -- if the first, then the second
@@ -19,6 +19,18 @@ bik t = digits 9 t
 
 abbrev pub account : Text → Bool
 account t = digits 20 t
+
+-- "A: 15 begins 40102 and 17 begins 03100, .."
+abbrev pub ofClassA : Text → Text → Bool
+ofClassA t15 t17 = t15 begins bankA && t17 beginsOneOf accountsA
+
+-- "B: digits 7 to 9 of 14 are 000 to 005, and 17 begins 40204, or begins 40503, 40603 or 40703 with its 14th digit .. being 4"
+abbrev pub ofClassB : Text → Text → Bool
+ofClassB t14 t17 = between t14 6 9 isOneOf banksB && (t17 begins accountB || (t17 beginsOneOf accountsB && between t17 13 14 is "4"))
+
+-- 17: "digits 6 to 8 are 643"
+abbrev pub home : Text → Bool
+home t = between t 5 8 is "643"
 
 -- 22: "20 or 25 digits not all zero (a UIN)"; "four digits not all zero"
 abbrev pub uin : Text → Bool

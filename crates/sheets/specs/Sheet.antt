@@ -12,6 +12,9 @@ infixl 80 _⟨_⟩
 abbrev pub fields : List ℕ
 fields = 14 ∷ 15 ∷ 17 ∷ 22 ∷ 60 ∷ 61 ∷ 101 ∷ 102 ∷ 103 ∷ 104 ∷ 105 ∷ 106 ∷ 107 ∷ 108 ∷ 109 ∷ []
 
+abbrev pub slotCount : ℕ
+slotCount = length fields
+
 abbrev pub slots : List ℕ
 slots = 0 ∷ 1 ∷ 2 ∷ 3 ∷ 4 ∷ 5 ∷ 6 ∷ 7 ∷ 8 ∷ 9 ∷ 10 ∷ 11 ∷ 12 ∷ 13 ∷ 14 ∷ []
 
@@ -20,33 +23,37 @@ abbrev pub placeOf : ℕ → List ℕ → ℕ
 placeOf x [] = 0
 placeOf x (y ∷ ys) = cond (eqb x y) 0 (suc (placeOf x ys))
 
--- the slot of a field, 15 where the field is not listed; the field of a slot
+-- the slot of a field, slotCount where the field is not listed; the field of a slot
 unfoldable pub slotOf : ℕ → ℕ
 slotOf f = placeOf f fields
 
 abbrev pub fieldIn : ℕ → ℕ
 fieldIn k = getD fields k 0
 
+-- "A text has 0 to 25 bytes"
+abbrev pub textMax : ℕ
+textMax = 25
+
 -- a cell, as a sheet's slot is one and a draft's ends in one: "text length, text padded to 25"
+abbrev pub cellSize : ℕ
+cellSize = 1 + textMax
+
 unfoldable pub cell : Text → List ℕ
-cell t = length t ∷ (t ++ replicate (25 - length t) 0)
+cell t = length t ∷ (t ++ replicate (textMax - length t) 0)
 
 unfoldable pub cellText : List ℕ → Text
 cellText c = between c 1 (1 + getD c 0 0)
 
 -- "Malformed: .. a length above 25, a nonzero pad byte"
 unfoldable pub cellOk : List ℕ → Bool
-cellOk c = leb (getD c 0 0) 25 && every (are 0) (between c (1 + getD c 0 0) 26)
+cellOk c = leb (getD c 0 0) textMax && every (are 0) (between c (1 + getD c 0 0) cellSize)
 
 -- "A sheet has 390 bytes, slot i at 26 × i"
 abbrev pub Sheet : Type 0
 Sheet = List ℕ
 
-abbrev pub cellSize : ℕ
-cellSize = 26
-
 abbrev pub sheetSize : ℕ
-sheetSize = 390
+sheetSize = slotCount * cellSize
 
 unfoldable pub cellOf : List ℕ → ℕ → List ℕ
 cellOf s k = between s (k * cellSize) (k * cellSize + cellSize)

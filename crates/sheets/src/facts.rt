@@ -4,7 +4,7 @@ ghost use mathlib.Core.Bool.{not};
 ghost use Prim.Native.Nat.{ℕ};
 ghost use lib.ListN.{length};
 ghost use Rattle.texts.specs.Texts.{every, between, blank, number, _is_};
-ghost use Rattle.sheets.specs.Sheet.{given, textOf};
+ghost use Rattle.sheets.specs.Sheet.{sheetSize, given, textOf};
 ghost use Rattle.sheets.specs.Forms.{inn10, digits10};
 ghost use Rattle.sheets.specs.Working.Facts.{generalOf, isA, isB, accountOf, codeOf, payerOf, formOf, groupsBy, standingBy, standingOf, basisOf, documentOf, dayOf, fixed, factsOf, Read};
 use crate::entries::document_entry;
@@ -450,7 +450,7 @@ fn empty_facts() -> Facts {
 // The test of the size tells the compiler where every field stands. Of a sheet that has another size nothing is promised: the
 // facts are those of an empty one.
 pub fn facts_of(sheet: &[u8]) -> Facts
-    ensures { λ r. ⌜ (length (now (sheet .entry)) ≡ 390 → Read r (now (sheet .entry))) ⌝ }
+    ensures { λ r. ⌜ (length (now (sheet .entry)) ≡ sheetSize → Read r (now (sheet .entry))) ⌝ }
 {
     if sheet.len() != SHEET_SIZE {
         return empty_facts();

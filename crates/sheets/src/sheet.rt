@@ -2,23 +2,31 @@
 ghost use mathlib.Core.Path.{_≡_};
 ghost use Prim.Native.Nat.{_+_};
 ghost use Rattle.texts.specs.Texts.{every, are, between};
-ghost use Rattle.sheets.specs.Sheet.{slotOf, fieldIn, cellText, cellOk, cellOf, textOf, slotOk, wellFormed};
+ghost use Rattle.sheets.specs.Sheet.{slotOf, fieldIn, cellSize, cellText, cellOk, cellOf, textOf, slotOk, wellFormed};
 use texts::comparisons::all_are;
 use texts::parts::at;
 use texts::parts::part;
 use texts::parts::wide;
 
-// "A sheet has 390 bytes, slot i at 26 × i".
-pub const CELL_SIZE: usize = 26;
+// "A text has 0 to 25 bytes".
+pub const TEXT_MAX: usize = 25;
 
-pub const SHEET_SIZE: usize = 390;
+pub const CELL_SIZE: usize = 1 + TEXT_MAX;
+
+// "Fifteen fields, in slots 0 to 14".
+const FIELD_COUNT: usize = 15;
+
+pub const SLOT_COUNT: u8 = FIELD_COUNT as u8;
+
+// "A sheet has 390 bytes, slot i at 26 × i".
+pub const SHEET_SIZE: usize = FIELD_COUNT * CELL_SIZE;
 
 // The number of a field of the order.
 pub struct Field(pub u8);
 
-const SLOTS: [u8; 15] = [0, 1, 2, 3, 4, 5, 6, 7, 8, 9, 10, 11, 12, 13, 14];
+const SLOTS: [u8; FIELD_COUNT] = [0, 1, 2, 3, 4, 5, 6, 7, 8, 9, 10, 11, 12, 13, 14];
 
-const FIELDS: [u8; 15] = [
+const FIELDS: [u8; FIELD_COUNT] = [
     14,
     15,
     17,
@@ -36,7 +44,7 @@ const FIELDS: [u8; 15] = [
     109,
 ];
 
-// The slot of a field, 15 where the field is not listed.
+// The slot of a field, SLOT_COUNT where the field is not listed.
 pub fn slot_of(field: Field) -> u8
     ensures { λ r. ⌜ r ≡ slotOf (field .0) ⌝ }
 {
@@ -109,21 +117,21 @@ fn all_zero(t: &[u8], w: usize) -> bool
 
 // The bytes of a cell from n on are zero, by two windows that overlap. The test of the size fixes their widths.
 fn is_padded(c: &[u8], n: usize) -> bool
-    ensures { λ r. ⌜ r ≡ every (are 0) (between (now (c .entry)) n 26) ⌝ }
+    ensures { λ r. ⌜ r ≡ every (are 0) (between (now (c .entry)) n cellSize) ⌝ }
 {
-    if c.len() != 26 {
-        return all_are(part(c, n, 26), 0);
+    if c.len() != CELL_SIZE {
+        return all_are(part(c, n, CELL_SIZE), 0);
     }
     if n <= 10 {
-        return all_zero(part(c, n, n + 16), 16) & all_zero(part(c, 10, 26), 16);
+        return all_zero(part(c, n, n + 16), 16) & all_zero(part(c, 10, CELL_SIZE), 16);
     }
     if n <= 18 {
-        return all_zero(part(c, n, n + 8), 8) & all_zero(part(c, 18, 26), 8);
+        return all_zero(part(c, n, n + 8), 8) & all_zero(part(c, 18, CELL_SIZE), 8);
     }
     if n <= 22 {
-        return all_zero(part(c, n, n + 4), 4) & all_zero(part(c, 22, 26), 4);
+        return all_zero(part(c, n, n + 4), 4) & all_zero(part(c, 22, CELL_SIZE), 4);
     }
-    all_are(part(c, n, 26), 0)
+    all_are(part(c, n, CELL_SIZE), 0)
 }
 
 // A cell has a length of at most 25, and zero bytes after its text.
@@ -131,7 +139,7 @@ pub fn cell_ok(c: &[u8]) -> bool
     ensures { λ r. ⌜ r ≡ cellOk (now (c .entry)) ⌝ }
 {
     let n = wide(at(c, 0));
-    (n <= 25) & is_padded(c, 1 + n)
+    (n <= TEXT_MAX) & is_padded(c, 1 + n)
 }
 
 fn slot_ok(sheet: &[u8], slot: u8) -> bool

@@ -4,8 +4,8 @@ use mathlib.Core.List.{List, [], _∷_, _++_, append-nil}
 use Prim.Native.Nat.{ℕ, zero, suc, _+_, _*_, _/_, _%_, _^_, _<_}
 use native.Mathlib.Nat.{add-zero}
 use native.Mathlib.Omega.{arith}
-use lib.ListN.{length, getD}
-use Rattle.texts.specs.Numbers.{bigFrom, big, bytesBefore, bytesOf, bytesAt}
+use lib.ListN.{length}
+use Rattle.texts.specs.Numbers.{Bytes, bigFrom, big, bytesBefore, bytesOf, bytesAt}
 
 big-from : (bs : List ℕ) → big bs ≡ bigFrom 0 bs
 big-from [] = refl
@@ -25,7 +25,7 @@ abbrev pub EachByte : List ℕ → Type 0
 EachByte [] = Unit
 EachByte (b ∷ bs) = (b < 256) × EachByte bs
 
-pub each-at : (t : List ℕ) (i k : ℕ) → ((j : ℕ) → getD t j 0 < 256) → EachByte (bytesAt t i k)
+pub each-at : (t : List ℕ) (i k : ℕ) → Bytes t → EachByte (bytesAt t i k)
 each-at t i zero h = tt
 each-at t i (suc k) h = (h i, each-at t (suc i) k h)
 

@@ -9,6 +9,11 @@ both false b e = absurd (false≢true e)
 pub and2 : (a b : Bool) → a ≡ true → b ≡ true → (a && b) ≡ true
 and2 a b e f = rw (e, f)
 
+-- a test is passed or not
+pub cases : {C : Type 0} (b : Bool) → (b ≡ true → C) → (b ≡ false → C) → C
+cases true f g = f refl
+cases false f g = g refl
+
 -- two tests that pass together are the same
 pub alike : (a b : Bool) → (a ≡ true → b ≡ true) → (b ≡ true → a ≡ true) → a ≡ b
 alike true true f g = refl

@@ -2,10 +2,11 @@
 use mathlib.Core.Path.{_≡_, refl, sym, _∙_}
 use mathlib.Core.Bool.{Bool, true, false, not, _&&_, true≢false}
 use mathlib.Core.List.{List, [], _∷_, map}
-use Prim.Native.Nat.{ℕ, _+_, _-_, _*_, _^_, _≤_}
+use Prim.Native.Nat.{ℕ, suc, _+_, _-_, _*_, _^_, _≤_, _<_}
+use native.Mathlib.Nat.{add-zero, zero-add}
 use Prim.Native.String.{String}
 use native.Mathlib.Omega.{arith}
-use borrow.Author.Tests.{eqb-true, eq-eqb, leb-true, not-true}
+use borrow.Author.Tests.{eqb-true, eq-eqb, ne-eqb, leb-true, not-true}
 use lib.Dec.{eqb, leb}
 use lib.ListN.{length}
 use Rattle.texts.proofs.Bools.{both, alike}
@@ -55,6 +56,23 @@ value-same a b (x ∷ xs) (y ∷ ys) l dt du e =
 -- u is n digits, and its number is not the one that stands for none
 abbrev pub coded : ℕ → Text → Bool
 coded n u = digits n u && not (eqb (number n u) (10 ^ n))
+
+-- digits after a number below 10 ^ k
+value-below : (k a : ℕ) (t : Text) → every digit t ≡ true → a < 10 ^ k → value a t < 10 ^ (length t + k)
+unfolding every value
+value-below k a [] d h = rw (zero-add k) h
+value-below k a (x ∷ xs) d h =
+    let p = both (digit x) (every digit xs) d in
+    let l : length xs + suc k ≡ suc (length xs) + k = omega arith in
+    rw (← l) (value-below (suc k) (a * 10 + valueOf x) xs (p .1) (omega (arith, digit-value x (p .0) .1)))
+
+-- every n digits are such a text
+pub digits-coded : (n : ℕ) (u : Text) → digits n u ≡ true → coded n u ≡ true
+unfolding number
+digits-coded n u d =
+    let p = both (eqb (length u) n) (every digit u) d in
+    let b : value 0 u < 10 ^ n = rw (← (eqb-true (length u) n (p .0)), ← (add-zero (length u))) (value-below 0 0 u (p .1) (omega arith)) in
+    rw (d, ne-eqb (value 0 u) (10 ^ n) (λ e. omega arith))
 
 module _ (n : ℕ) (t u : Text) (c : coded n u ≡ true) where
   -- the number of n digits is that of no other text; d tells whether t is n digits

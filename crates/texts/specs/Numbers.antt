@@ -1,7 +1,11 @@
 -- Big-endian numbers of any width. Assumes nothing.
 use mathlib.Core.List.{List, [], _∷_}
-use Prim.Native.Nat.{ℕ, zero, suc, _+_, _*_, _/_, _%_}
+use Prim.Native.Nat.{ℕ, zero, suc, _+_, _*_, _/_, _%_, _<_}
 use lib.ListN.{getD}
+
+-- a byte string: every element is below 256
+abbrev pub Bytes : List ℕ → Type 0
+Bytes t = (j : ℕ) → getD t j 0 < 256
 
 -- the number that bytes make, the highest first; and after bytes that make n
 abbrev pub bigFrom : ℕ → List ℕ → ℕ

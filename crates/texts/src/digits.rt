@@ -125,6 +125,15 @@ pub fn number_9(t: &[u8]) -> usize
     value_of(t)
 }
 
+pub fn number_12(t: &[u8]) -> usize
+    ensures { λ r. ⌜ r ≡ number 12 (now (t .entry)) ⌝ }
+{
+    if !has_digits(t, 12) {
+        return 1000000000000;
+    }
+    value_of(t)
+}
+
 // A digit times its weight.
 fn weigh(weight: u8, b: u8) -> usize
     ensures { λ r. ⌜ (r ≡ weight * valueOf b) × (r ≤ 2295) ⌝ }

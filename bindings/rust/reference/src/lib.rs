@@ -3,9 +3,9 @@
 //! program, the bank's charge, the part of a year, the register of an order and the
 //! payments that leave first.
 //!
-//! This is a second implementation, written from the paper "Budget payment
-//! orders under 107n: draft, check and completion" and its change requests
-//! alone. Doc comments quote the sentence of the paper or the request they
+//! This is a second implementation of the paper "Budget payment orders under
+//! 107n: draft, check and completion" and its change requests, which shares no
+//! code with the library. Doc comments quote the sentence of the paper or the request they
 //! follow. Of the requests it has R-1 (pension numbers), R-2 (letters in a KPP),
 //! R-3 (a test ahead of the search), R-4 (check digits of the INN), R-5 (rule
 //! 22 ahead of rule 21), R-10 (the bank's charge), R-11 (part of a year), R-12

@@ -1,6 +1,6 @@
 -- How the code makes a filling: an entry is put into a slot if that is blank. A reader of the promise needs none of this.
 -- Assumes nothing.
-use mathlib.Core.List.{List, [], _∷_}
+use mathlib.Core.List.{List, [], _∷_, map}
 use Prim.Native.Nat.{ℕ}
 use lib.ListN.{getD, replicate}
 use Rattle.texts.specs.Quoted.{bytes}
@@ -41,3 +41,10 @@ pickEntries p =
 
 unfoldable pub pickedOf : List ℕ → List ℕ → List ℕ
 pickedOf s p = filledWith s (pickEntries p)
+
+-- the slots of some entries; those of 101, 106, 108 and 109, whatever is picked
+abbrev pub slotsOf : List Entry → List ℕ
+slotsOf es = map (λ (e : Entry). e .0) es
+
+abbrev pub varying : List ℕ
+varying = slotsOf (pickEntries [])

@@ -9,10 +9,9 @@ use Rattle.sheets.specs.Sheet.{Sheet, textOf}
 use Rattle.sheets.specs.Lists.{statusCount, basisCount, zeroCount}
 use Rattle.sheets.specs.Working.Facts.{Read}
 use Rattle.sheets.specs.declared.facts.Facts.{Facts}
-use Rattle.rules.specs.Rules.{budget, keeps, keepsAll}
+use Rattle.rules.specs.Rules.{budget, basic, keeps, keepsAll}
 use Rattle.orders.specs.Fillings.{product, look, Look}
 use Rattle.orders.specs.Working.Entering.{pickedOf}
-use Rattle.orders.specs.Complete.{basic}
 
 -- the places in a list of n: as many as are listed where the field is blank, one where it is not
 abbrev pub width : Bool → ℕ → ℕ

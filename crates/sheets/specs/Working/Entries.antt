@@ -7,7 +7,7 @@ use lib.ListN.{length, getD}
 use Rattle.texts.specs.Quoted.{Text}
 use Rattle.texts.specs.Texts.{blank}
 use Rattle.texts.specs.Buffers.{putAt}
-use Rattle.sheets.specs.Sheet.{Sheet, textOf}
+use Rattle.sheets.specs.Sheet.{Sheet, cellSize, textOf}
 use Rattle.sheets.specs.Lists.{statusTexts, zeroTexts, basisTexts}
 use Rattle.sheets.specs.Working.Facts.{standingOf, basisOf, documentOf, dayOf}
 use Rattle.sheets.specs.declared.facts.Standing.{Standing}
@@ -22,7 +22,7 @@ rowOf t = length t ∷ getD t 0 0 ∷ getD t 1 0 ∷ []
 
 -- a sheet with the cell x in slot k, if that is blank
 unfoldable pub filledAt : Sheet → ℕ → List ℕ → Sheet
-filledAt s k x = cond (blank (textOf s k)) (putAt s (k * 26) x) s
+filledAt s k x = cond (blank (textOf s k)) (putAt s (k * cellSize) x) s
 
 -- the facts of a field with entry k of its list, where the field is blank
 abbrev pub statusAt : Facts → ℕ → Standing

@@ -7,10 +7,10 @@ use Prim.Native.Nat.{ℕ}
 use lib.Dec.{eqb}
 use lib.ListN.{length}
 use Rattle.texts.specs.Quoted.{Text, bytes}
-use Rattle.texts.specs.Texts.{every, among, between, blank, _is_, _isOneOf_, _begins_, _beginsOneOf_, number}
+use Rattle.texts.specs.Texts.{every, among, blank, _is_, _isOneOf_, _begins_, number}
 use Rattle.sheets.specs.Sheet.{sheetSize, textOf, Sheet, given}
-use Rattle.sheets.specs.Forms.{bik, account, uin, code4, foreignCode, inn10, inn12, digits5, digits10, digits12, kpp, kbk, oktmo, office, letterPair, person, document, pension, date}
-use Rattle.sheets.specs.Lists.{bankA, accountsA, banksB, accountB, accountsB, account03100, account03212, statuses, customsGroup, treasuryGroup, courtsGroup, personalGroup, wantInn, wantTen, wantTwelve, wantZero, numbersOf}
+use Rattle.sheets.specs.Forms.{bik, account, ofClassA, ofClassB, home, uin, code4, foreignCode, inn10, inn12, digits5, digits10, digits12, kpp, kbk, oktmo, office, letterPair, person, document, pension, date}
+use Rattle.sheets.specs.Lists.{accountsA, banksB, accountB, accountsB, account03100, account03212, statuses, customsGroup, treasuryGroup, courtsGroup, personalGroup, wantInn, wantTen, wantTwelve, wantZero, numbersOf}
 use Rattle.sheets.specs.declared.forms.Wanted.{Wanted}
 use Rattle.sheets.specs.declared.forms.Wanted.the-variants.{Any, Inn, Ten, Twelve, Zero}
 use Rattle.sheets.specs.declared.facts.General.{General}
@@ -46,11 +46,9 @@ isB bank account four =
 unfoldable pub accountOf : Text → Text → Text → Account
 accountOf bik bank account =
     record {
-      a = bank begins bankA && account beginsOneOf accountsA;
-      b =
-          between bik 6 9 isOneOf banksB
-          && (account begins accountB || (account beginsOneOf accountsB && between account 13 14 is "4"));
-      home = between account 5 8 is "643";
+      a = ofClassA bank account;
+      b = ofClassB bik account;
+      home = home account;
       to03100 = account begins account03100;
       to03212 = account begins account03212;
     }

@@ -1,3 +1,4 @@
+use Rattle.sheets.specs.Sheet.{slotCount}
 use Rattle.drafts.proofs.Slots.{forms, Counted, counted-one, counted-not}
 use native.Mathlib.Omega.{arith}
 use Prim.Native.Nat.{_≤_, _-_}
@@ -9,10 +10,10 @@ use Rattle.drafts.proofs.draft.well_formed.Statement.{statement}
 use Rattle.drafts.proofs.draft.well_formed.Tie as tie
 
 abbrev Inv-loop : tie.InvT-loop
-Inv-loop draft formed₀ slot₀ formed slot = (slot ≤ 15) × Counted draft slot formed × (length draft ≡ draftSize)
+Inv-loop draft formed₀ slot₀ formed slot = (slot ≤ slotCount) × Counted draft slot formed × (length draft ≡ draftSize)
 
 abbrev μ-loop : tie.MeasureT-loop
-μ-loop draft formed₀ slot₀ formed slot = 15 - slot
+μ-loop draft formed₀ slot₀ formed slot = slotCount - slot
 
 loop-again : tie.Need-loop-again Inv-loop μ-loop
 loop-again c =

@@ -15,7 +15,7 @@ use Rattle.orders.specs.Working.Search.{passesAt, width, firstPick, Paym
 use Rattle.orders.specs.Working.Found.{foundOf}
 use Rattle.orders.specs.declared.search.Found.the-variants.{Place, Nothing}
 use Rattle.orders.proofs.Levels.{Picks, Left, left-none, turn, hit, all, one-passed, one-hit}
-use Rattle.orders.proofs.Passing.{passes-is, rest, first-pick}
+use Rattle.orders.proofs.Passing.{passes-is, rest, first-pick, ofBasis, ofStatus}
 use Rattle.orders.proofs.search.walk.Statement.{statement}
 use Rattle.orders.proofs.search.walk.Tie as tie
 
@@ -24,28 +24,28 @@ Lefts f h R N n₀ k n = (u : Sheet) → Payment f u → Left (passesAt u) h R N
 
 abbrev Inv-days : tie.InvT-days
 Inv-days f count₀ pick₀ found₀ kept n101 n106 n108 n109 a f1 kept1 b f2 kept2 c f3 kept3 d₀ count pick found d =
-    (d ≤ n109) × (count ≤ a * 48 + b * 4 + c * 2 + d) × Lefts f (λ (t : List ℕ). a ∷ b ∷ c ∷ t) (rest []) n109 count₀ d count × (found ≡ false) × (n109 ≤ zeroCount)
+    (d ≤ n109) × (count ≤ a * ofStatus + b * ofBasis + c * zeroCount + d) × Lefts f (λ (t : List ℕ). a ∷ b ∷ c ∷ t) (rest []) n109 count₀ d count × (found ≡ false) × (n109 ≤ zeroCount)
 
 abbrev μ-days : tie.MeasureT-days
 μ-days f count₀ pick₀ found₀ kept n101 n106 n108 n109 a f1 kept1 b f2 kept2 c f3 kept3 d₀ count pick found d = n109 - d
 
 abbrev Inv-documents : tie.InvT-documents
 Inv-documents f count₀ pick₀ found₀ kept n101 n106 n108 n109 a f1 kept1 b f2 kept2 c₀ count pick found c =
-    (c ≤ n108) × (count ≤ a * 48 + b * 4 + c * 2) × Lefts f (λ (t : List ℕ). a ∷ b ∷ t) (rest (n109 ∷ [])) n108 count₀ c count × (found ≡ false) × (n108 ≤ zeroCount)
+    (c ≤ n108) × (count ≤ a * ofStatus + b * ofBasis + c * zeroCount) × Lefts f (λ (t : List ℕ). a ∷ b ∷ t) (rest (n109 ∷ [])) n108 count₀ c count × (found ≡ false) × (n108 ≤ zeroCount)
 
 abbrev μ-documents : tie.MeasureT-documents
 μ-documents f count₀ pick₀ found₀ kept n101 n106 n108 n109 a f1 kept1 b f2 kept2 c₀ count pick found c = n108 - c
 
 abbrev Inv-bases : tie.InvT-bases
 Inv-bases f count₀ pick₀ found₀ kept n101 n106 n108 n109 a f1 kept1 b₀ count pick found b =
-    (b ≤ n106) × (count ≤ a * 48 + b * 4) × Lefts f (λ (t : List ℕ). a ∷ t) (rest (n108 ∷ n109 ∷ [])) n106 count₀ b count × (found ≡ false) × (n106 ≤ basisCount)
+    (b ≤ n106) × (count ≤ a * ofStatus + b * ofBasis) × Lefts f (λ (t : List ℕ). a ∷ t) (rest (n108 ∷ n109 ∷ [])) n106 count₀ b count × (found ≡ false) × (n106 ≤ basisCount)
 
 abbrev μ-bases : tie.MeasureT-bases
 μ-bases f count₀ pick₀ found₀ kept n101 n106 n108 n109 a f1 kept1 b₀ count pick found b = n106 - b
 
 abbrev Inv-statuses : tie.InvT-statuses
 Inv-statuses f count₀ pick₀ found₀ kept n101 n106 n108 n109 a₀ count pick found a =
-    (a ≤ n101) × (count ≤ a * 48) × Lefts f (λ (t : List ℕ). t) (rest (n106 ∷ n108 ∷ n109 ∷ [])) n101 count₀ a count × (found ≡ false) × (n101 ≤ statusCount)
+    (a ≤ n101) × (count ≤ a * ofStatus) × Lefts f (λ (t : List ℕ). t) (rest (n106 ∷ n108 ∷ n109 ∷ [])) n101 count₀ a count × (found ≡ false) × (n101 ≤ statusCount)
 
 abbrev μ-statuses : tie.MeasureT-statuses
 μ-statuses f count₀ pick₀ found₀ kept n101 n106 n108 n109 a₀ count pick found a = n101 - a

@@ -5,7 +5,7 @@ use native.Mathlib.Omega.{arith}
 use borrow.Author.Needs.{needs}
 use Rattle.texts.specs.Texts.{number}
 use Rattle.texts.specs.Buffers.{putAt}
-use Rattle.registers.proofs.Outputs.{SoFar, none-yet, all-pooled, most-lines, inn-digits, kept-long, Turn, table-room, add-asked, sum-grown, line-copied}
+use Rattle.registers.proofs.Outputs.{SoFar, none-yet, all-pooled, most-lines, kept-long, Turn, table-room, add-asked, sum-grown, line-copied}
 use Rattle.registers.proofs.pool.pool_lines.Statement.{statement}
 use Rattle.registers.proofs.pool.pool_lines.Tie as tie
 
@@ -15,19 +15,15 @@ Inv-loop register output₀ lines numbers₀ count₀ i₀ output numbers count 
 abbrev μ-loop : tie.MeasureT-loop
 μ-loop register output₀ lines numbers₀ count₀ i₀ output numbers count i = lines - i
 
-inn-number-requires : tie.Need-inn-number-requires Inv-loop μ-loop
-inn-number-requires c κs = inn-digits (c .before .before .loop .inv) (c .before .loop-test .taken) _ (c .inn-at .ensures)
-
 find-requires : tie.Need-find-requires Inv-loop μ-loop
 find-requires c κs = omega (arith, most-lines (c .before .before .before .before .loop .inv))
 
 -- what is known where the INN was looked for
-turn : (c : tie.After-find Inv-loop μ-loop) → Turn (c .before .before .before .before .before .before .before .before .args .register .now) (c .before .before .before .before .before .before .before .before .args .output .now) (c .before .before .before .before .before .loop .i) (c .before .before .before .before .before .loop .count) (c .before .before .before .before .before .loop .numbers) (c .before .before .before .before .before .loop .output) (c .before .before .inn-number .result) (c .find .result)
+turn : (c : tie.After-find Inv-loop μ-loop) → Turn (c .before .before .before .before .before .before .before .before .args .register .now) (c .before .before .before .before .before .before .before .before .args .output .now) (c .before .before .before .before .before .loop .i) (c .before .before .before .before .before .loop .count) (c .before .before .before .before .before .loop .numbers) (c .before .before .before .before .before .loop .output) (c .before .before .number-12 .result) (c .find .result)
 turn c = record {
   before = c .before .before .before .before .before .loop .inv;
   more = c .before .before .before .before .loop-test .taken;
-  inn = c .before .before .inn-number .ensures .0 ∙ ap (number 12) (c .before .before .before .inn-at .ensures);
-  small = c .before .before .inn-number .ensures .1;
+  inn = c .before .before .number-12 .ensures ∙ ap (number 12) (c .before .before .before .inn-at .ensures);
   finds = c .find .ensures;
 }
 
@@ -48,4 +44,4 @@ returns c = all-pooled (c .before .loop .inv) (c .loop-test .left)
 pub pool-lines-spec : {M : Type 1} → statement M
 pool-lines-spec =
     tie.close
-    (tie.spec Inv-loop μ-loop (λ c. none-yet _ _ (c .before .before .pre)) (λ c κs. search needs) inn-number-requires find-requires (λ c κs. search needs) add-requires (λ c. search needs) (λ c. record { fits = omega (arith, table-room (turn (c .before .before))) }) (λ c. search needs) (λ c κs. search needs) (λ c κs. search needs) (λ c. record { fits = omega (arith, table-room (turn (c .before .before .before .before .before .before))) }) (λ c. table-room (turn (c .before .before .before .before .before .before))) (λ c. record { fits = omega (arith, table-room (turn (c .before .before .before .before .before .before))) }) (λ c. search needs) (λ c. search needs) loop-again (λ c. kept-long (c .before .loop .inv)) returns)
+    (tie.spec Inv-loop μ-loop (λ c. none-yet _ _ (c .before .before .pre)) (λ c κs. search needs) (λ c κs. search needs) find-requires (λ c κs. search needs) add-requires (λ c. search needs) (λ c. record { fits = omega (arith, table-room (turn (c .before .before))) }) (λ c. search needs) (λ c κs. search needs) (λ c κs. search needs) (λ c. record { fits = omega (arith, table-room (turn (c .before .before .before .before .before .before))) }) (λ c. table-room (turn (c .before .before .before .before .before .before))) (λ c. record { fits = omega (arith, table-room (turn (c .before .before .before .before .before .before))) }) (λ c. search needs) (λ c. search needs) loop-again (λ c. kept-long (c .before .loop .inv)) returns)

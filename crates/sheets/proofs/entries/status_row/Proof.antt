@@ -1,5 +1,4 @@
 use borrow.Author.Needs.{needs}
-use mathlib.Core.Path.{refl}
 use Rattle.texts.specs.Texts.{every, valueOf, value, number}
 use Rattle.sheets.specs.Lists.{statusTexts}
 use Rattle.sheets.proofs.Listed.{past-row, status-made}
@@ -8,4 +7,4 @@ use Rattle.sheets.proofs.entries.status_row.Tie as tie
 
 pub status-row-spec : {M : Type 1} → statement M
 unfolding every number value valueOf
-status-row-spec = tie.close (tie.spec (λ c. past-row statusTexts 22 _ refl (c .if1 .taken)) (λ c. search needs) (λ c. search needs) (λ c. search needs) (λ c. status-made (c .before .args .k) (c .if1 .left)))
+status-row-spec = tie.close (tie.spec (λ c. past-row statusTexts _ (c .if1 .taken)) (λ c. search needs) (λ c. search needs) (λ c. search needs) (λ c. status-made (c .before .args .k) (c .if1 .left)))

@@ -9,6 +9,7 @@ use borrow.Fn.Kinds.{In}
 use borrow.Fn.PlainCycle.{Measures, is, falls, and}
 use lib.Dec.{eqb}
 use lib.ListN.{length}
+use Rattle.sheets.specs.Sheet.{sheetSize}
 use Rattle.sheets.proofs.Ways.{facts-is, facts-other}
 use Rattle.sheets.proofs.facts.empty_facts.Reads as empty-facts
 use Rattle.sheets.proofs.facts.empty_facts.Kinds as empty-facts-kinds
@@ -31,7 +32,7 @@ abbrev μ-empty-facts : Measures 0 empty-facts-kinds.ps ℕ
 μ-empty-facts κs a = 1
 
 abbrev μ-facts-of : Measures 1 facts-of-kinds.ps ℕ
-μ-facts-of κs a = cond (eqb (length (a .0 .now)) 390) 0 2
+μ-facts-of κs a = cond (eqb (length (a .0 .now)) sheetSize) 0 2
 
 abbrev empty-facts-at : ℕ → In 0 empty-facts-kinds.ps
 empty-facts-at t = and 0 empty-facts-kinds.ps (is 0 empty-facts-kinds.ps μ-empty-facts t) empty-facts.Pre
@@ -45,9 +46,9 @@ facts-of-at t = and 1 facts-of-kinds.ps (is 1 facts-of-kinds.ps μ-facts-of t) f
 abbrev facts-of-below : ℕ → In 1 facts-of-kinds.ps
 facts-of-below t = and 1 facts-of-kinds.ps (falls 1 facts-of-kinds.ps _<_ μ-facts-of t) facts-of.Pre
 
-falls-once : (n t : ℕ) → (n ≡ 390 → ⊥) → cond (eqb n 390) 0 2 ≡ t → 1 < t
+falls-once : (n t : ℕ) → (n ≡ sheetSize → ⊥) → cond (eqb n sheetSize) 0 2 ≡ t → 1 < t
 falls-once n t f e =
-    let g : 2 ≡ t = cc (ne-eqb n 390 f) in
+    let g : 2 ≡ t = cc (ne-eqb n sheetSize f) in
     omega arith
 
 falls-to : (t : ℕ) → 1 ≡ t → 0 < t
