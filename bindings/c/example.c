@@ -1,8 +1,8 @@
 /* A small order: its messages are written, posted in the order of their arrival,
- * tested and completed, and the sheet is printed; then the bank's charge for a few
- * amounts, parts of a year, a year's amount shared among its months, the pooled lines
- * of a register, and which payments leave first. The program checks its own results and
- * returns 1 if one is not as expected. */
+ * tested and completed, and the sheet is printed; then a correction dated back; the
+ * bank's charge for a few amounts, parts of a year, a year's amount shared among its
+ * months, the pooled lines of a register, and which payments leave first. The program
+ * checks its own results and returns 1 if one is not as expected. */
 
 #include <inttypes.h>
 #include <stdio.h>
@@ -10,6 +10,7 @@
 
 #include "kieselbrot.h"
 
+_Static_assert(sizeof(kieselbrot_record) == 12, "the record's layout");
 _Static_assert(sizeof(kieselbrot_check_answer) == 4, "the answers' layout");
 _Static_assert(sizeof(kieselbrot_read_answer) == 24, "the answers' layout");
 _Static_assert(sizeof(kieselbrot_write_answer) == 16, "the answers' layout");
@@ -29,6 +30,11 @@ _Static_assert(KIESELBROT_MESSAGE_MAX == KIESELBROT_MESSAGE_HEAD_SIZE + KIESELBR
 
 static const uint8_t fields[KIESELBROT_FIELDS] = {14,  15,  17,  22,  60,  61,  101, 102,
                                                   103, 104, 105, 106, 107, 108, 109};
+
+static const kieselbrot_record given = {KIESELBROT_FIRST32, KIESELBROT_FIRST33, KIESELBROT_LAST02};
+
+/* The order's date. */
+static const uint32_t date = 20240115;
 
 struct arrival {
     uint8_t field;
@@ -143,6 +149,12 @@ static void print_sheet(const uint8_t *sheet)
     }
 }
 
+/* The text of field 101, which has slot 6. */
+static const uint8_t *status(const uint8_t *sheet)
+{
+    return sheet + 6 * KIESELBROT_SHEET_SLOT_SIZE + 1;
+}
+
 /* Tests a draft that no filling can save, and completes it all the same. */
 static void expect_hopeless(const uint8_t *draft, uint8_t field, uint8_t rule)
 {
@@ -153,7 +165,7 @@ static void expect_hopeless(const uint8_t *draft, uint8_t field, uint8_t rule)
            "the rule that all fillings break");
 
     const kieselbrot_complete_answer none =
-        kieselbrot_complete(draft, KIESELBROT_DRAFT_SIZE, sheet, sizeof sheet);
+        kieselbrot_complete(draft, KIESELBROT_DRAFT_SIZE, sheet, sizeof sheet, date, given);
     expect(none.number == KIESELBROT_NO_FILLING && none.count == 1056, "its completion");
 }
 
@@ -172,11 +184,12 @@ static void refuse(uint8_t *draft)
     expect(unread.number == KIESELBROT_LENGTH && unread.text == 0 && unread.length == 0,
            "a message of one byte");
 
-    const kieselbrot_check_answer broken = kieselbrot_check(sheet, sizeof sheet);
+    const kieselbrot_check_answer broken = kieselbrot_check(sheet, sizeof sheet, date, given);
     expect(broken.number == KIESELBROT_BROKEN && broken.field == 14 && broken.rule == 1 &&
                broken.class_ == 0,
            "a blank sheet");
-    expect(kieselbrot_check(sheet, sizeof sheet - 1).number == KIESELBROT_MALFORMED, "a short sheet");
+    expect(kieselbrot_check(sheet, sizeof sheet - 1, date, given).number == KIESELBROT_MALFORMED,
+           "a short sheet");
     expect(kieselbrot_copy(draft, KIESELBROT_DRAFT_SIZE, sheet, sizeof sheet - 1) ==
                KIESELBROT_OUTPUT,
            "a short output");
@@ -199,6 +212,60 @@ static void give_up(const uint8_t *draft)
     const struct arrival one_off = {60, 2, "7701569744", 0};
     expect(send_message(hopeless, &one_off).number == KIESELBROT_OK, "an INN one digit off");
     expect_hopeless(hopeless, 60, 8);
+}
+
+/* Completes a draft into a sheet that holds nothing, and tells the status. */
+static kieselbrot_complete_answer propose(const uint8_t *draft, uint8_t *sheet, uint32_t dated)
+{
+    memset(sheet, 0, KIESELBROT_SHEET_SIZE);
+    const kieselbrot_complete_answer proposed = kieselbrot_complete(
+        draft, KIESELBROT_DRAFT_SIZE, sheet, KIESELBROT_SHEET_SIZE, dated, given);
+    printf("dated %" PRIu32 ": number %d, status %.2s, count %lu\n", dated, proposed.number,
+           (const char *)status(sheet), (unsigned long)proposed.count);
+    return proposed;
+}
+
+/* The same order without the payer's INN and KPP, of this date and dated back to the year
+ * before, when status 02 was allowed; and dates that are refused. */
+static void date_back(const uint8_t *draft)
+{
+    const uint32_t back = 20231015;
+    const kieselbrot_record no_date = {20230229, KIESELBROT_FIRST33, KIESELBROT_LAST02};
+    const kieselbrot_record later = {KIESELBROT_FIRST32, KIESELBROT_FIRST33, date};
+    const struct arrival no_inn = {60, 2, "0", 0}, no_kpp = {102, 2, "0", 0};
+    uint8_t correction[KIESELBROT_DRAFT_SIZE];
+    uint8_t sheet[KIESELBROT_SHEET_SIZE], before[KIESELBROT_SHEET_SIZE];
+    kieselbrot_complete_answer proposed;
+    kieselbrot_check_answer checked;
+
+    memcpy(correction, draft, sizeof correction);
+    expect(send_message(correction, &no_inn).number == KIESELBROT_OK &&
+               send_message(correction, &no_kpp).number == KIESELBROT_OK,
+           "a payer without INN and KPP");
+    proposed = propose(correction, sheet, date);
+    expect(proposed.number == KIESELBROT_OK && proposed.count == 97, "the order of this date");
+    expect(memcmp(status(sheet), "04", 2) == 0, "its status");
+    proposed = propose(correction, sheet, back);
+    expect(proposed.number == KIESELBROT_OK && proposed.count == 49, "the order dated back");
+    expect(memcmp(status(sheet), "02", 2) == 0, "its status of the year before");
+
+    expect(kieselbrot_check(sheet, sizeof sheet, back, given).class_ == 'A', "02 at its date");
+    checked = kieselbrot_check(sheet, sizeof sheet, date, given);
+    expect(checked.number == KIESELBROT_BROKEN && checked.field == 101 && checked.rule == 10,
+           "02 past its last date");
+    expect(kieselbrot_check(sheet, sizeof sheet, date, later).class_ == 'A',
+           "02 with a later last date");
+
+    /* no day of the calendar, in the date and in the record; then a day too early */
+    memcpy(before, sheet, sizeof before);
+    expect(kieselbrot_check(sheet, sizeof sheet, 20231131, given).number == KIESELBROT_UNDATED &&
+               kieselbrot_check(sheet, sizeof sheet, back, no_date).number == KIESELBROT_UNDATED,
+           "dates that are refused");
+    proposed = kieselbrot_complete(correction, sizeof correction, sheet, sizeof sheet,
+                                   KIESELBROT_ORDER_DATE_MIN - 1, given);
+    printf("dated %" PRIu32 ": number %d\n", KIESELBROT_ORDER_DATE_MIN - 1, proposed.number);
+    expect(proposed.number == KIESELBROT_UNDATED && proposed.count == 0, "an order too early");
+    expect(memcmp(sheet, before, sizeof sheet) == 0, "the sheet after a refusal");
 }
 
 /* What the bank asks. */
@@ -374,16 +441,17 @@ int main(void)
            "nothing hopeless");
 
     const kieselbrot_complete_answer completed =
-        kieselbrot_complete(draft, sizeof draft, sheet, sizeof sheet);
+        kieselbrot_complete(draft, sizeof draft, sheet, sizeof sheet, date, given);
     printf("number %d, count %lu, filled %d\n", completed.number, (unsigned long)completed.count,
            completed.ones);
     expect(completed.number == KIESELBROT_OK && completed.count == 1, "completing");
     expect(completed.ones == 7 && completed.set == 0x7C48, "the filled slots");
     print_sheet(sheet);
 
-    const kieselbrot_check_answer checked = kieselbrot_check(sheet, sizeof sheet);
+    const kieselbrot_check_answer checked = kieselbrot_check(sheet, sizeof sheet, date, given);
     printf("class %c\n", checked.class_);
     expect(checked.number == KIESELBROT_OK && checked.class_ == 'A', "the completed sheet");
+    date_back(draft);
     ask_charges();
     ask_parts();
     ask_shares();

@@ -13,7 +13,7 @@
  *
  * Field, status and rule numbers are those of the form and of document 01. Texts
  * are bytes of Windows-1251, 0 to 25 of them; the empty text is a blank. Amounts
- * are in kopecks.
+ * are in kopecks. Dates are numbers YYYYMMDD: 20240101 is 1 January 2024.
  *
  * Layouts, numbers big-endian (the highest byte first):
  *
@@ -68,6 +68,14 @@ extern "C" {
 #define KIESELBROT_MESSAGE_HEAD_SIZE 8
 #define KIESELBROT_MESSAGE_MAX 33
 
+/* The earliest date of an order. */
+#define KIESELBROT_ORDER_DATE_MIN UINT32_C(20230925)
+
+/* The entries of the record that R-7 gives. */
+#define KIESELBROT_FIRST32 UINT32_C(20231001)
+#define KIESELBROT_FIRST33 UINT32_C(20240101)
+#define KIESELBROT_LAST02 UINT32_C(20231231)
+
 /* The greatest amount, and the greatest limit of a charge, in kopecks. */
 #define KIESELBROT_KOPECKS_MAX UINT64_C(1000000000000)
 
@@ -94,7 +102,8 @@ extern "C" {
 /* The greatest balance, in kopecks. */
 #define KIESELBROT_BALANCE_MAX UINT64_C(1000000000000000)
 
-/* The numbers of the answers, in the order in which they are tested. */
+/* The numbers of the answers, in the order in which they are tested; 12 comes just
+ * before 8. */
 enum {
     KIESELBROT_OK = 0,
     KIESELBROT_MALFORMED = 1,     /* draft or sheet malformed; for fresh, size not 450 */
@@ -109,6 +118,9 @@ enum {
     KIESELBROT_BROKEN = 8,        /* a broken rule; in completion and its pretest only 1 to 3 */
     KIESELBROT_ORDINARY = 9,      /* completion or pretest of class O */
     KIESELBROT_NO_FILLING = 10,   /* no filling keeps the rules */
+    KIESELBROT_UNDATED = 12,      /* for check and completion, an order date or an entry of the
+                                     record that is no Gregorian date of the years 1900 to 2099,
+                                     or an order date before 20230925 */
     KIESELBROT_TARIFF = 14,       /* for charge, an argument out of range or a least above the
                                      greatest */
     KIESELBROT_YEAR_PART = 15,    /* for part and shares, an amount out of range or a year not of
@@ -124,9 +136,17 @@ enum {
     KIESELBROT_EQUAL_ARRIVALS = 19 /* for leave, two equal arrival numbers */
 };
 
+/* A record of three dates, in any relation to each other. They say which statuses the
+ * order's date allows; a date that equals an entry is allowed. */
+typedef struct {
+    uint32_t first32; /* the first date for status 32 */
+    uint32_t first33; /* the first date for status 33 */
+    uint32_t last02;  /* the last date for status 02 */
+} kieselbrot_record;
+
 /* The answer of a check. */
 typedef struct {
-    uint8_t number; /* 0, 1 or 8 */
+    uint8_t number; /* 0, 1, 12 or 8 */
     uint8_t field;  /* with 8: the field that the broken rule names */
     uint8_t rule;   /* with 8: the first broken rule, 1 to 35 */
     uint8_t class_; /* accepted: 'A', 'B' (budget payments) or 'O' (ordinary) */
@@ -166,13 +186,13 @@ typedef struct {
 
 /* The answer of completing a draft. */
 typedef struct {
-    uint8_t number; /* 0, 1, 7, 8, 9 or 10 */
+    uint8_t number; /* 0, 1, 7, 12, 8, 9 or 10 */
     uint8_t field;  /* with 8: the field that the broken rule names */
     uint8_t rule;   /* with 8: the first broken rule, 1 to 3 */
     uint16_t set;   /* the filled slots, bit i for slot i */
     uint32_t ones;  /* how many bits of the set are set */
     size_t count;   /* the count of fillings up to and including the sheet; with
-                     * 10: the count of all fillings */
+                     * 10: the count of all fillings, at most 960 to 1,104 by the date */
 } kieselbrot_complete_answer;
 
 /* The answer of a charge. */
@@ -205,8 +225,13 @@ typedef struct {
     uint64_t left;  /* what is left of the balance */
 } kieselbrot_leave_answer;
 
-/* Checks a sheet against the rules, in their order, and tells its class. */
-kieselbrot_check_answer kieselbrot_check(const uint8_t *sheet, size_t sheet_len);
+/* Checks a sheet against the rules, in their order, and tells its class. Rule 10 lists
+ * the statuses that the order's date allows by the record: 01 03 04 05 06 07 08 13 15 16
+ * 17 19 20 23 24 27 28 29 30 31 at every date, 02 up to its last date, 32 and 33 from
+ * their first. The date is tested of ordinary payments, too. Refused in this order: 1,
+ * 12, 8. */
+kieselbrot_check_answer kieselbrot_check(const uint8_t *sheet, size_t sheet_len, uint32_t date,
+                                         kieselbrot_record record);
 
 /* Reads a message. */
 kieselbrot_read_answer kieselbrot_read(const uint8_t *message, size_t message_len);
@@ -230,13 +255,17 @@ uint8_t kieselbrot_copy(const uint8_t *draft, size_t draft_len, uint8_t *sheet, 
 
 /* Tests a draft ahead of completion. Where it names a rule, completing the draft
  * into any sheet buffer of the right size is refused with 10 and the count of all
- * fillings; it names none exactly when every filling keeps all twelve rules. */
+ * fillings, at every date and record that 12 does not refuse; it names none exactly
+ * when every filling keeps all twelve rules. */
 kieselbrot_pretest_answer kieselbrot_pretest(const uint8_t *draft, size_t draft_len);
 
 /* Completes a draft: writes the first filling that keeps all rules to the sheet,
- * whatever that held. */
+ * whatever that held. A blank 101 is filled with the statuses that the date allows, as
+ * in a check, in ascending order. They are 20 to 23, so that there are at most 960 to
+ * 1,104 fillings. Refused in this order: 1, 7, 12, 8, 9, 10. */
 kieselbrot_complete_answer kieselbrot_complete(const uint8_t *draft, size_t draft_len,
-                                               uint8_t *sheet, size_t sheet_len);
+                                               uint8_t *sheet, size_t sheet_len, uint32_t date,
+                                               kieselbrot_record record);
 
 /* The bank's charge for an amount: amount times rate over 10,000, halves upward to
  * the whole kopeck, raised to the least, then lowered to the greatest. The amount is

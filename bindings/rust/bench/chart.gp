@@ -4,7 +4,7 @@ growth = "< grep -E '^[|] [0-9]+ [|]([^|]+[|]){6}$' '".ARG1."'"
 item(column) = word(strcol(column), 1)
 # A goal that is no part of the second implementation's time, or not set, has further words, and is not drawn.
 goal(column) = words(strcol(column)) > 1 ? NaN : item(column) + 0
-set terminal svg size 940,860 font "sans-serif,12" background "white"
+set terminal svg size 940,1060 font "sans-serif,12" background "white"
 set output ARG2
 set datafile separator "|"
 set multiplot layout 2,1

@@ -12,6 +12,7 @@ use lib.Seq.{take-all}
 use Rattle.texts.specs.Texts.{between, same}
 use Rattle.texts.specs.Answers.{Answer, success, refusal, numberOf, Test, test, answerBy}
 use Rattle.rules.specs.Rules.{classOf}
+use Rattle.sheets.specs.declared.dates.Dates.{Dates}
 use Rattle.rules.specs.Verdicts.{className, verdictAnswer, checkTests, checked, Checked}
 use Rattle.rules.specs.declared.class.Class.{Class}
 use Rattle.rules.specs.declared.class.Class.the-variants.{A, B, O}
@@ -110,17 +111,17 @@ class-back A = refl
 class-back B = refl
 class-back O = refl
 
-check-back : (s : List ℕ) → Back checkNumbers checkOf (checked s)
+check-back : (D : Dates) (s : List ℕ) → Back checkNumbers checkOf (checked D s)
 unfolding checked checkTests checkNumbers checkOf numbered
-check-back s = tested (Back checkNumbers checkOf) (checkTests s) _ (class-back (classOf s)) (search depth 12)
+check-back D s = tested (Back checkNumbers checkOf) (checkTests D s) _ (class-back (classOf s)) (search depth 12)
 
-complete-back : (d b : List ℕ) → Back completeNumbers completeOf (completing d b)
+complete-back : (D : Dates) (d b : List ℕ) → Back completeNumbers completeOf (completing D d b)
 unfolding completing completeTests sheetTests completeNumbers completeOf numbered
-complete-back d b = tested (Back completeNumbers completeOf) (completeTests d b) _ refl (search depth 12)
+complete-back D d b = tested (Back completeNumbers completeOf) (completeTests D d b) _ refl (search depth 12)
 
-pretest-back : (d : List ℕ) → Back pretestNumbers pretestOf (pretesting d)
+pretest-back : (D : Dates) (d : List ℕ) → Back pretestNumbers pretestOf (pretesting D d)
 unfolding pretesting pretestTests pretestNumbers pretestOf numbered
-pretest-back d = tested (Back pretestNumbers pretestOf) (pretestTests d) _ refl (search depth 12)
+pretest-back D d = tested (Back pretestNumbers pretestOf) (pretestTests D d) _ refl (search depth 12)
 
 charge-back : (a p l g : ℕ) → Back chargeNumbers chargeOf (charging a p l g)
 unfolding charging chargeTests chargeNumbers chargeOf numbered
@@ -158,13 +159,13 @@ leave-back b ps ns ks = tested (Back leaveNumbers leaveOf) (leaveTests b ps ns k
 
 -- ---- what each function returned: v is what it called, and k the case of v in an arm
 
-module _ (s : List ℕ) (v : Verdict) (p : Checked s v) (k : Verdict) (e : v ≡ k) (r : Check) (q : r ≡ checkNumbers (verdictAnswer k)) where
-  pub checked-is : CheckReturns s r
-  checked-is = record { numbers = cc; answer = cc (check-back s) }
+module _ (D E : Dates) (z : E ≡ D) (s : List ℕ) (v : Verdict) (p : Checked E s v) (k : Verdict) (e : v ≡ k) (r : Check) (q : r ≡ checkNumbers (verdictAnswer k)) where
+  pub checked-is : CheckReturns D s r
+  checked-is = record { numbers = cc; answer = cc (check-back D s) }
 
 -- the same, where the class is matched in its turn
-pub accepted-is : (s : List ℕ) (v : Verdict) → Checked s v → (c k : Class) → v ≡ Accepted c → c ≡ k → (r : Check) → r ≡ checkNumbers (verdictAnswer (Accepted k)) → CheckReturns s r
-accepted-is s v p c k e f r q = checked-is s v p (Accepted k) (e ∙ ap Accepted f) r q
+pub accepted-is : (D E : Dates) → E ≡ D → (s : List ℕ) (v : Verdict) → Checked E s v → (c k : Class) → v ≡ Accepted c → c ≡ k → (r : Check) → r ≡ checkNumbers (verdictAnswer (Accepted k)) → CheckReturns D s r
+accepted-is D E z s v p c k e f r q = checked-is D E z s v p (Accepted k) (e ∙ ap Accepted f) r q
 
 module _ (m : List ℕ) (v : Reading) (p : Reads m v) (k : Reading) (e : v ≡ k) (t : List ℕ) (g : t ≡ messageText m) (r : Read) (q : r ≡ readNumbers t (readAnswer k)) where
   numbers-are : r ≡ readNumbers (messageText m) (readingOf m)
@@ -204,13 +205,13 @@ module _ (d s : List ℕ) (v : Copied) (x : List ℕ) (p : Copies d s v x) (k : 
   pub copied-is : CopyReturns d s r x
   copied-is = record { numbers = cc; answer = cc (copy-back d s); sheet = p .sheet }
 
-module _ (d b : List ℕ) (v : Completed) (x : List ℕ) (p : Completes d b v x) (k : Completed) (e : v ≡ k) (r : Complete) (q : r ≡ completeNumbers (completeAnswer k)) where
-  pub completed-is : CompleteReturns d b r x
-  completed-is = record { numbers = cc; answer = cc (complete-back d b); sheet = p .sheet }
+module _ (D E : Dates) (z : E ≡ D) (d b : List ℕ) (v : Completed) (x : List ℕ) (p : Completes E d b v x) (k : Completed) (e : v ≡ k) (r : Complete) (q : r ≡ completeNumbers (completeAnswer k)) where
+  pub completed-is : CompleteReturns D d b r x
+  completed-is = record { numbers = cc; answer = cc (complete-back D d b); sheet = cc (p .sheet) }
 
-module _ (d : List ℕ) (v : Pretested) (p : Pretests d v) (k : Pretested) (e : v ≡ k) (r : Pretest) (q : r ≡ pretestNumbers (pretestAnswer k)) where
-  pub pretested-is : PretestReturns d r
-  pretested-is = record { numbers = cc; answer = cc (pretest-back d) }
+module _ (d : List ℕ) (v : Pretested) (p : (D : Dates) → Pretests D d v) (k : Pretested) (e : v ≡ k) (r : Pretest) (q : r ≡ pretestNumbers (pretestAnswer k)) where
+  pub pretested-is : (D : Dates) → PretestReturns D d r
+  pretested-is D = record { numbers = cc (p D .answer); answer = cc (p D .answer, pretest-back D d) }
 
 module _ (a p l g : ℕ) (v : Charged) (w : Charges a p l g v) (k : Charged) (e : v ≡ k) (r : Charge) (q : r ≡ chargeNumbers (chargeAnswer k)) where
   pub charged-is : ChargeReturns a p l g r

@@ -11,6 +11,8 @@ use Rattle.texts.specs.Texts.{_is_}
 use Rattle.texts.specs.Answers.{Answer, success, refusal}
 use Rattle.drafts.specs.Message.{headSize}
 use Rattle.registers.specs.Pool.{more, less}
+use Rattle.sheets.specs.declared.dates.Dates.{Dates}
+use Rattle.capi.specs.declared.Record.{Record}
 use Rattle.capi.specs.declared.Check.{Check}
 use Rattle.capi.specs.declared.Read.{Read}
 use Rattle.capi.specs.declared.Write.{Write}
@@ -29,6 +31,16 @@ numbered n vs ws = cond (eqb n 0) (success vs) (refusal n ws)
 -- a number that is returned alone
 unfoldable pub numberAnswer : ℕ → Answer
 numberAnswer n = numbered n [] []
+
+-- the order's date and the record of three dates
+abbrev pub datesOf : ℕ → Record → Dates
+datesOf n r =
+    record {
+      order = record { 0 = n };
+      first32 = record { 0 = r .first32 };
+      first33 = record { 0 = r .first33 };
+      last02 = record { 0 = r .last02 };
+    }
 
 -- the class, as its letter
 unfoldable pub checkNumbers : Answer → Check

@@ -7,6 +7,7 @@ use Prim.Native.Nat.{ℕ, _+_}
 use lib.ListN.{length}
 use Rattle.texts.specs.Texts.{between}
 use Rattle.texts.specs.Answers.{numberOf}
+use Rattle.sheets.specs.declared.dates.Dates.{Dates}
 use Rattle.rules.specs.Verdicts.{checked}
 use Rattle.drafts.specs.Message.{messageText, readable, readingOf, writingOf, writtenOf}
 use Rattle.drafts.specs.Draft.{beginningOf, begunFrom, postingOf, postedTo, copyingOf, copiedTo}
@@ -29,10 +30,10 @@ use Rattle.capi.specs.declared.Part.{Part}
 use Rattle.capi.specs.declared.Pool.{Pool}
 use Rattle.capi.specs.declared.Leave.{Leave}
 
--- checking the sheet s returned r
-pub record CheckReturns (s : List ℕ) (r : Check) : Type 0 where
-  pub numbers : r ≡ checkNumbers (checked s)
-  pub answer : checkOf r ≡ checked s
+-- checking the sheet s at the dates D returned r
+pub record CheckReturns (D : Dates) (s : List ℕ) (r : Check) : Type 0 where
+  pub numbers : r ≡ checkNumbers (checked D s)
+  pub answer : checkOf r ≡ checked D s
 
 -- reading the message m returned r
 pub record ReadReturns (m : List ℕ) (r : Read) : Type 0 where
@@ -67,15 +68,15 @@ pub record CopyReturns (d s : List ℕ) (r : ℕ) (e : List ℕ) : Type 0 where
   pub sheet : e ≡ copiedTo d s
 
 -- completing d into the buffer b returned r and left e
-pub record CompleteReturns (d b : List ℕ) (r : Complete) (e : List ℕ) : Type 0 where
-  pub numbers : r ≡ completeNumbers (completing d b)
-  pub answer : completeOf r ≡ completing d b
-  pub sheet : e ≡ completed d b
+pub record CompleteReturns (D : Dates) (d b : List ℕ) (r : Complete) (e : List ℕ) : Type 0 where
+  pub numbers : r ≡ completeNumbers (completing D d b)
+  pub answer : completeOf r ≡ completing D d b
+  pub sheet : e ≡ completed D d b
 
 -- testing the draft d ahead of completion returned r
-pub record PretestReturns (d : List ℕ) (r : Pretest) : Type 0 where
-  pub numbers : r ≡ pretestNumbers (pretesting d)
-  pub answer : pretestOf r ≡ pretesting d
+pub record PretestReturns (D : Dates) (d : List ℕ) (r : Pretest) : Type 0 where
+  pub numbers : r ≡ pretestNumbers (pretesting D d)
+  pub answer : pretestOf r ≡ pretesting D d
 
 -- the charge for an amount a by the rate p, at least l and at most g, returned r
 pub record ChargeReturns (a p l g : ℕ) (r : Charge) : Type 0 where

@@ -1,5 +1,8 @@
 // The library for C and for what links like C. Each function forwards to a proved one, and gives document 01's numbers.
 ghost use Rattle.capi.specs.Promises.{CheckReturns, ReadReturns, WriteReturns, FreshReturns, PostReturns, CopyReturns, CompleteReturns, PretestReturns, ChargeReturns, PartReturns, SharesReturns, PoolReturns, LeaveReturns};
+ghost use mathlib.Core.Path.{_≡_};
+ghost use Rattle.sheets.specs.declared.dates.Dates.{Dates};
+ghost use Rattle.capi.specs.Numbers.{datesOf};
 use amounts::amount::Kopecks;
 use amounts::charge::Charged;
 use amounts::charge::Rate;
@@ -19,6 +22,8 @@ use payments::leave::Leaving;
 use registers::pool::Pooled;
 use rules::check::Verdict;
 use rules::class::Class;
+use sheets::dates::Date;
+use sheets::dates::Dates;
 use sheets::sheet::Field;
 
 #[repr(C)]
@@ -95,12 +100,37 @@ pub struct Leave {
     pub left: u64,
 }
 
-#[no_mangle]
-pub extern "C" fn kieselbrot_check(sheet: &[u8]) -> Check
-    ensures { λ r. ⌜ CheckReturns (now (sheet .entry)) r ⌝ }
+// The record of three dates (R-7).
+#[repr(C)]
+pub struct Record {
+    pub first32: u32,
+    pub first33: u32,
+    pub last02: u32,
+}
+
+fn dates_of(date: u32, entries: Record) -> Dates
+    ensures { λ r. ⌜ r ≡ datesOf date entries ⌝ }
 {
-    let v = rules::check::check(sheet);
+    Dates {
+        order: Date(date),
+        first32: Date(entries.first32),
+        first33: Date(entries.first33),
+        last02: Date(entries.last02),
+    }
+}
+
+#[no_mangle]
+pub extern "C" fn kieselbrot_check(sheet: &[u8], date: u32, entries: Record) -> Check
+    ensures { λ r. ⌜ CheckReturns (datesOf date entries) (now (sheet .entry)) r ⌝ }
+{
+    let v = rules::check::check(sheet, dates_of(date, entries));
     match v {
+        Verdict::Undated => Check {
+            number: 12,
+            field: 0,
+            rule: 0,
+            class: 0,
+        },
         Verdict::Malformed => Check {
             number: 1,
             field: 0,
@@ -231,10 +261,15 @@ pub extern "C" fn kieselbrot_copy(draft: &[u8], sheet: &mut [u8]) -> u8
 }
 
 #[no_mangle]
-pub extern "C" fn kieselbrot_complete(draft: &[u8], sheet: &mut [u8]) -> Complete
-    ensures { λ r. ⌜ CompleteReturns (now (draft .entry)) (now (sheet .entry)) r (now (sheet .exit)) ⌝ }
+pub extern "C" fn kieselbrot_complete(
+    draft: &[u8],
+    sheet: &mut [u8],
+    date: u32,
+    entries: Record,
+) -> Complete
+    ensures { λ r. ⌜ CompleteReturns (datesOf date entries) (now (draft .entry)) (now (sheet .entry)) r (now (sheet .exit)) ⌝ }
 {
-    let v = orders::complete::complete(draft, sheet);
+    let v = orders::complete::complete(draft, sheet, dates_of(date, entries));
     match v {
         Completed::Filled { count, set, ones } => Complete {
             number: 0,
@@ -274,7 +309,7 @@ pub extern "C" fn kieselbrot_complete(draft: &[u8], sheet: &mut [u8]) -> Complet
 // A rule of 0 says that there is none.
 #[no_mangle]
 pub extern "C" fn kieselbrot_pretest(draft: &[u8]) -> Pretest
-    ensures { λ r. ⌜ PretestReturns (now (draft .entry)) r ⌝ }
+    ensures { λ r. ⌜ ((D : Dates) → PretestReturns D (now (draft .entry)) r) ⌝ }
 {
     let v = orders::pretest::pretest(draft);
     match v {

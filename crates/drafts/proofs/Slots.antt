@@ -1,6 +1,6 @@
 -- Slots: what one of a revision and a text reads as, and the slots after one was put in. Assumes nothing.
 use mathlib.Core.Path.{_≡_, refl, sym, ap, _∙_}
-use mathlib.Core.Bool.{Bool, true, false, and-true, and-false}
+use mathlib.Core.Bool.{Bool, true, false, not, cond, _&&_, and-true, and-false}
 use mathlib.Core.List.{List}
 use mathlib.Core.Logic.{inl, inr}
 use Prim.Native.Nat.{ℕ, zero, suc, _+_, _-_, _*_, _^_, _<_, _≤_, zero-le}
@@ -11,16 +11,19 @@ use borrow.Author.Tests.{ltb-true, le-leb, eq-eqb, ne-eqb, eqb-true}
 use borrow.Author.Needs.{needs}
 use lib.Dec.{eqb, ltb}
 use lib.ListN.{length, getD, take, drop, replicate, length-append, length-drop, length-replicate}
-use lib.Seq.{getD-take, getD-drop, take-all, drop-append-seam, length-take-le}
-use Rattle.texts.specs.Texts.{between, every, are}
+use lib.Seq.{getD-take, getD-drop, take-all, take-add, take-take, drop-at, drop-drop, drop-append-seam, length-take-le}
+use Rattle.texts.specs.Texts.{between, blank, every, are}
 use Rattle.texts.specs.Buffers.{put}
 use Rattle.texts.proofs.Big.{big-bytes}
-use Rattle.texts.proofs.Bools.{both, alike}
+use Rattle.texts.proofs.Bools.{both, and2, alike}
 use Rattle.texts.proofs.Puts.{length-put, part-put, mid-put}
 use Rattle.sheets.proofs.Frames.{length-cell}
-use Rattle.sheets.specs.Sheet.{slotCount, textMax, cellSize, cell, cellOk}
+use Rattle.sheets.proofs.Cells.{cells-each, cells-by}
+use Rattle.sheets.specs.Sheet.{slotCount, textMax, cellSize, cell, cellText, cellOk}
+use Rattle.sheets.specs.Working.Cells.{cellAt, cellsAt}
 use Rattle.drafts.specs.Message.{revisionSize}
-use Rattle.drafts.specs.Draft.{slotSize, draftSize, slotIn, slotRevision, slotCell, slotBytes, slotFormed, slotsFormed, draftFormed}
+use Rattle.drafts.specs.Draft.{cellPlace, slotSize, draftSize, slotIn, slotRevision, slotCell, slotText, slotBytes, slotFormed, slotsFormed, draftFormed}
+use Rattle.drafts.specs.Working.Steps.{headFits, headsFit}
 
 -- ---- a slot of a revision and a text
 
@@ -80,32 +83,24 @@ pub formed-other : (d : List ℕ) → (length d ≡ draftSize → ⊥) → false
 unfolding draftFormed
 formed-other d e = simp (ne-eqb (length d) draftSize e)
 
--- of the first n slots m are formed: all, exactly when m is n
+-- of the first n slots m fit: all, exactly when m is n
 abbrev pub Counted : List ℕ → ℕ → ℕ → Type 0
-Counted d n m = (m ≤ n) × (slotsFormed d n ≡ eqb m n)
+Counted d n m = (m ≤ n) × (headsFit d n ≡ eqb m n)
 
 pub counted-none : (d : List ℕ) → Counted d 0 0
-unfolding slotsFormed
+unfolding headsFit
 counted-none d = (zero-le, refl)
 
-module _ (d s : List ℕ) (n m : ℕ) (b : Bool) (c : Counted d n m) (es : s ≡ slotIn d n) (eb : b ≡ slotFormed s) where
+module _ (d s : List ℕ) (n m : ℕ) (b : Bool) (c : Counted d n m) (es : s ≡ slotIn d n) (eb : b ≡ headFits s) where
   pub counted-one : b ≡ true → Counted d (n + 1) (m + 1)
-  unfolding slotsFormed
+  unfolding headsFit
   counted-one t =
       let next = alike (eqb m n) (eqb (m + 1) (suc n)) (λ e. eq-eqb (m + 1) (suc n) (omega (arith, eqb-true m n e))) (λ e. eq-eqb m n (omega (arith, eqb-true (m + 1) (suc n) e))) in
       (omega arith, rw (add-one n, c .1, ← es, ← eb, t) (and-true (eqb m n) ∙ next))
 
   pub counted-not : b ≡ false → Counted d (n + 1) m
-  unfolding slotsFormed
+  unfolding headsFit
   counted-not f = (omega arith, rw (ne-eqb m (n + 1) (λ e. omega arith), add-one n, c .1, ← es, ← eb, f) (and-false (eqb m n)))
-
-pub counted-all : (d : List ℕ) (n m : ℕ) → Counted d n m → n ≤ slotCount → slotCount ≤ n → length d ≡ draftSize → eqb m slotCount ≡ draftFormed d
-unfolding draftFormed
-counted-all d n m c l h z =
-    let e : n ≡ slotCount = omega arith in
-    rw (z, ← e) (sym (c .1))
-
-pub ruleset forms = (needs, formed-other, counted-none, counted-one, counted-not, counted-all)
 
 pub record Formed (d : List ℕ) : Type 0 where
   pub sized : length d ≡ draftSize
@@ -132,3 +127,91 @@ unfolding draftFormed slotsFormed
 formed-by d f =
     let each : (i : ℕ) → ltb i slotCount ≡ true → slotFormed (slotIn d i) ≡ true = λ i t. f .slot i (ltb-true i slotCount t) in
     simp (eq-eqb _ _ (f .sized), each)
+
+-- ---- a draft is tested by its cells and by what stands before them
+
+-- the cell of slot i stands in the draft at its place
+slot-cell-at : (d : List ℕ) → length d ≡ draftSize → (i : ℕ) → i < slotCount → slotCell (slotIn d i) ≡ between d (cellPlace + i * slotSize) (cellPlace + i * slotSize + cellSize)
+unfolding slotCell between
+slot-cell-at d z i h =
+    let y = drop (i * slotSize) d in
+    let l : cellPlace ≤ length y = omega (arith, length-drop (i * slotSize) d) in
+    let e : cellPlace + i * slotSize + cellSize - (cellPlace + i * slotSize) ≡ cellSize = omega arith in
+    let k : cellPlace + i * slotSize ≡ i * slotSize + cellPlace = omega arith in
+    rw (slot-part d i, take-add cellPlace cellSize y, drop-at (take cellPlace y) (take cellSize (drop cellPlace y)) cellPlace (length-take-le cellPlace y l), take-take cellSize cellSize (drop cellPlace y) (omega arith), e, drop-drop cellPlace (i * slotSize) d, k)
+
+slot-inside : (d : List ℕ) → length d ≡ draftSize → (i : ℕ) → i < slotCount → cellAt d (cellPlace + i * slotSize) ≡ cellOk (slotCell (slotIn d i))
+unfolding cellAt
+slot-inside d z i h = rw (le-leb (cellPlace + i * slotSize + cellSize) (length d) (omega arith), slot-cell-at d z i h)
+
+heads-each : (d : List ℕ) (n : ℕ) → headsFit d n ≡ true → (i : ℕ) → i < n → headFits (slotIn d i) ≡ true
+unfolding headsFit
+heads-each d zero e i h = absurd (omega arith)
+heads-each d (suc n) e i h =
+    let p = both (headsFit d n) (headFits (slotIn d n)) e in
+    elim (decLt i n) [
+      | yes l ↦ heads-each d n (p .0) i l
+      | no q ↦ let k : i ≡ n = omega arith in rw k (p .1)
+    ]
+
+heads-by : (d : List ℕ) (n : ℕ) → ((i : ℕ) → i < n → headFits (slotIn d i) ≡ true) → headsFit d n ≡ true
+unfolding headsFit
+heads-by d zero f = refl
+heads-by d (suc n) f = and2 (headsFit d n) (headFits (slotIn d n)) (heads-by d n (λ i h. f i (omega arith))) (f n (omega arith))
+
+-- head_fits
+module _ (s : List ℕ) where
+  pub head-other : (length s ≡ slotSize → ⊥) → false ≡ headFits s
+  unfolding headFits
+  head-other h = simp (ne-eqb (length s) slotSize h)
+
+  module _ (n : ℕ) (l : length s ≡ slotSize) (e : n ≡ slotRevision s) where
+    pub head-none : (c t : List ℕ) → n ≡ 0 → c ≡ slotCell s → t ≡ cellText c → eqb (length t) 0 ≡ headFits s
+    unfolding headFits slotText
+    head-none c t z f g = rw (l, ← e, z, g, f)
+
+    pub head-given : (n ≡ 0 → ⊥) → true ≡ headFits s
+    unfolding headFits
+    head-given z = rw (l, ← e, ne-eqb n 0 z)
+
+pub ruleset heads = (needs, head-other, head-none, head-given)
+
+-- "revision 0 with a text", as the definition and as the code ask it
+no-text : (z b : Bool) → not (z && not b) ≡ cond z b true
+no-text true true = refl
+no-text true false = refl
+no-text false b = refl
+
+slot-is : (s : List ℕ) → length s ≡ slotSize → slotFormed s ≡ (cellOk (slotCell s) && headFits s)
+unfolding slotFormed headFits
+slot-is s l = rw (l, no-text (eqb (slotRevision s) 0) (blank (slotText s)))
+
+pub tested : (d : List ℕ) (n m : ℕ) (q : Bool) → Counted d n m → n ≤ slotCount → slotCount ≤ n → length d ≡ draftSize → q ≡ cellsAt slotSize slotCount d cellPlace → (eqb m slotCount && q) ≡ draftFormed d
+tested d n m q c l h z e = alike (eqb m slotCount && q) (draftFormed d) forth back
+  where
+    k : n ≡ slotCount
+    k = omega arith
+
+    all : headsFit d slotCount ≡ eqb m slotCount
+    all = rw (← k) (c .1)
+
+    slot-at : (i : ℕ) → i < slotCount → slotFormed (slotIn d i) ≡ (cellAt d (cellPlace + i * slotSize) && headFits (slotIn d i))
+    slot-at i h = slot-is (slotIn d i) (length-slot-in d z i h) ∙ rw (slot-inside d z i h)
+
+    forth : (eqb m slotCount && q) ≡ true → draftFormed d ≡ true
+    forth t =
+        let p = both (eqb m slotCount) q t in
+        formed-by d (
+        record {
+          sized = z;
+          slot = λ i j. slot-at i j ∙ and2 _ (headFits (slotIn d i)) (cells-each slotSize d slotCount cellPlace (sym e ∙ p .1) i j) (heads-each d slotCount (all ∙ p .0) i j);
+        }
+        )
+
+    back : draftFormed d ≡ true → (eqb m slotCount && q) ≡ true
+    back t =
+        let f = formed-means d t in
+        let each : (i : ℕ) → i < slotCount → (cellAt d (cellPlace + i * slotSize) ≡ true) × (headFits (slotIn d i) ≡ true) = λ i j. both _ (headFits (slotIn d i)) (sym (slot-at i j) ∙ f .slot i j) in
+        and2 (eqb m slotCount) q (sym all ∙ heads-by d slotCount (λ i j. each i j .1)) (e ∙ cells-by slotSize d slotCount cellPlace (λ i j. each i j .0))
+
+pub ruleset forms = (needs, formed-other, counted-none, counted-one, counted-not, tested)

@@ -4,8 +4,8 @@ ghost use Prim.Native.Nat.{_*_, _≤_};
 ghost use lib.ListN.{length};
 ghost use Rattle.texts.specs.Buffers.{putAt};
 ghost use Rattle.sheets.specs.Sheet.{textMax};
-ghost use Rattle.drafts.specs.Draft.{slotSize, slotIn, slotRevision, slotCell, slotFormed, draftFormed, slotComparison, slotBytes};
-ghost use Rattle.drafts.specs.Working.Steps.{sheetInto};
+ghost use Rattle.drafts.specs.Draft.{slotSize, slotIn, slotRevision, slotCell, draftFormed, slotComparison, slotBytes};
+ghost use Rattle.drafts.specs.Working.Steps.{headFits, sheetInto};
 ghost use Rattle.drafts.specs.Promises.{Freshens, Posts, Copies};
 use crate::message::REVISION_SIZE;
 use crate::message::Reading;
@@ -16,8 +16,8 @@ use crate::revision::Revision;
 use sheets::sheet::CELL_SIZE;
 use sheets::sheet::SHEET_SIZE;
 use sheets::sheet::SLOT_COUNT;
-use sheets::sheet::cell_ok;
 use sheets::sheet::cell_text;
+use sheets::sheet::cells_ok;
 use sheets::sheet::slot_of;
 use texts::answers::Refusal;
 use texts::buffers::clear;
@@ -38,6 +38,11 @@ const TEXT_PLACE: usize = CELL_PLACE + 1;
 const SLOT_SIZE: usize = CELL_PLACE + CELL_SIZE;
 
 pub const DRAFT_SIZE: usize = SLOT_COUNT as usize * SLOT_SIZE;
+
+// Where the first slot's cell stands, and how far the next slot's is from it.
+const FIRST_CELL: u8 = CELL_PLACE as u8;
+
+const SLOT_STEP: u8 = SLOT_SIZE as u8;
 
 pub enum Begun {
     Made,
@@ -80,31 +85,37 @@ fn slot_cell(slot: &[u8]) -> &[u8]
     part(slot, CELL_PLACE, SLOT_SIZE)
 }
 
-fn slot_formed(slot: &[u8]) -> bool
-    ensures { λ r. ⌜ r ≡ slotFormed (now (slot .entry)) ⌝ }
+// "revision 0 with a text" is none of the slot's. The test of the size tells the compiler where its parts stand.
+fn head_fits(slot: &[u8]) -> bool
+    ensures { λ r. ⌜ r ≡ headFits (now (slot .entry)) ⌝ }
 {
-    let cell = slot_cell(slot);
-    let number = slot_revision(slot).number;
-    cell_ok(cell) & !((number == 0) & (cell_text(cell).len() != 0))
+    if slot.len() != SLOT_SIZE {
+        return false;
+    }
+    if slot_revision(slot).number == 0 {
+        cell_text(slot_cell(slot)).len() == 0
+    } else {
+        true
+    }
 }
 
-// "Malformed: another size, a length above 25, a nonzero pad byte; in a draft also revision 0 with a text". The slots that are
-// formed are counted, since a chain of tests that all must pass is compiled to a branch for each.
+// "Malformed: another size, a length above 25, a nonzero pad byte; in a draft also revision 0 with a text". The slots
+// whose revision fits are counted, since a chain of tests that all must pass is compiled to a branch for each.
 pub fn well_formed(draft: &[u8]) -> bool
     ensures { λ r. ⌜ r ≡ draftFormed (now (draft .entry)) ⌝ }
 {
     if draft.len() != DRAFT_SIZE {
         return false;
     }
-    let mut formed: u8 = 0;
+    let mut fits: u8 = 0;
     let mut slot: u8 = 0;
     while slot < SLOT_COUNT {
-        if slot_formed(slot_in(draft, slot)) {
-            formed += 1;
+        if head_fits(slot_in(draft, slot)) {
+            fits += 1;
         }
         slot += 1;
     }
-    formed == SLOT_COUNT
+    (fits == SLOT_COUNT) & cells_ok(draft, FIRST_CELL, SLOT_STEP)
 }
 
 // "Fresh: all zero".

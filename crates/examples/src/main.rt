@@ -5,11 +5,19 @@ use drafts::message::message_text;
 use drafts::message::read;
 use libc::STDIN_FILENO;
 use libc::STDOUT_FILENO;
+use orders::complete::Completed;
+use orders::stream::complete_stream;
 use report::REPORT_SIZE;
 use report::report;
 use rules::check::Verdict;
 use rules::class::Class;
+use sheets::dates::Date;
+use sheets::dates::Dates;
+use sheets::dates::program_dates;
+use sheets::sheet::SHEET_SIZE;
+use sheets::sheet::text;
 use texts::numbers::number_of_2;
+use texts::numbers::number_of_4;
 use texts::parts::at;
 use texts::parts::part;
 
@@ -26,11 +34,12 @@ fn write_class(c: Class) {
     ;
 }
 
-// Kind 'c': a sheet is checked.
-fn run_check(sheet: &[u8]) {
-    let v = rules::check::check(sheet);
+// Kind 'c': a sheet is checked, at the program's dates. Kind 'd': at the dates before it.
+fn run_check(sheet: &[u8], dates: Dates) {
+    let v = rules::check::check(sheet, dates);
     match v {
         Verdict::Malformed => write_number(1),
+        Verdict::Undated => write_number(12),
         Verdict::Broken(f, r) => {
             io::write_all(STDOUT_FILENO, b"8 ");
             write_number(f.0);
@@ -64,11 +73,52 @@ fn run_message(message: &[u8]) {
     }
 }
 
+fn write_item(n: u64) {
+    io::write_all(STDOUT_FILENO, b" ");
+    io::print_decimal(STDOUT_FILENO, n);
+}
+
+// Kind 'o': messages are posted to a fresh draft, and that is completed at the dates before them.
+fn run_order(input: &[u8], dates: Dates) {
+    let mut sheet = [0u8; SHEET_SIZE];
+    let answer = complete_stream(input, &mut sheet, dates);
+    match answer {
+        Completed::Filled { count, set, ones } => {
+            io::write_all(STDOUT_FILENO, b"ok");
+            write_item(count as u64);
+            write_item(set as u64);
+            write_item(ones as u64);
+            io::write_all(STDOUT_FILENO, b" ");
+            write_text(text(&sheet, 6));
+        }
+        Completed::Impossible(n) => {
+            write_number(10);
+            write_item(n as u64);
+        }
+        Completed::Broken(f, r) => {
+            write_number(8);
+            write_item(f.0 as u64);
+            write_item(r.0 as u64);
+        }
+        Completed::Refused(n) => write_number(n.0),
+    }
+}
+
 // Kind 'r': the report of an input of the program budgetorder, with all its lines.
 fn run_report(input: &[u8]) {
     let mut out = [0u8; REPORT_SIZE];
     let k = report(input, &mut out);
     io::write_all(STDOUT_FILENO, part(&out, 0, k));
+}
+
+// The dates at the head of a case: the order's, and the three of the record, each in four bytes, big-endian.
+fn dates_of(bytes: &[u8]) -> Dates {
+    Dates {
+        order: Date(number_of_4(at(bytes, 0), at(bytes, 1), at(bytes, 2), at(bytes, 3))),
+        first32: Date(number_of_4(at(bytes, 4), at(bytes, 5), at(bytes, 6), at(bytes, 7))),
+        first33: Date(number_of_4(at(bytes, 8), at(bytes, 9), at(bytes, 10), at(bytes, 11))),
+        last02: Date(number_of_4(at(bytes, 12), at(bytes, 13), at(bytes, 14), at(bytes, 15))),
+    }
 }
 
 fn run_case(kind: u8, bytes: &[u8]) {
@@ -77,7 +127,13 @@ fn run_case(kind: u8, bytes: &[u8]) {
         return;
     }
     if kind == b'c' {
-        run_check(bytes);
+        run_check(bytes, program_dates());
+    }
+    if kind == b'd' {
+        run_check(part(bytes, 16, bytes.len()), dates_of(bytes));
+    }
+    if kind == b'o' {
+        run_order(part(bytes, 16, bytes.len()), dates_of(bytes));
     }
     if kind == b'm' {
         run_message(bytes);

@@ -9,10 +9,13 @@ use lib.Dec.{ltb}
 use lib.ListN.{length, getD}
 use Rattle.texts.specs.Texts.{every, any, are, among, between, blank}
 use Rattle.sheets.specs.Sheet.{Sheet, slotOf, cell, cellText, cellOf, textOf, fieldIn, given}
-use Rattle.sheets.specs.Lists.{statusCount, basisCount, zeroCount}
+use Rattle.sheets.specs.Lists.{basisCount, zeroCount}
+use Rattle.sheets.specs.Dates.{forceOf, statusCount}
+use Rattle.sheets.proofs.InForce.{count-is, count-bounds}
 use Rattle.rules.specs.Rules.{budget, needed, firstBlank, rules, ahead, testOf, fieldOf, keeps, firstNot}
 use Rattle.rules.specs.Working.Groups.{AlikeBut, spare}
 use Rattle.rules.proofs.Reading.{spared, spared-class}
+use Rattle.sheets.specs.declared.dates.Dates.{Dates}
 use Rattle.orders.specs.Fillings.{listOf, toFill, choices, product, fillings, Filling}
 use Rattle.orders.specs.Working.Entering.{baseOf, pickedOf, varying}
 use Rattle.orders.specs.Working.Search.{width, places, picks}
@@ -39,17 +42,17 @@ at-member f h e (List·Memᴰ·tail {xs = l} m) = let c : map f l ≡ map h l = 
 
 -- ---- what is blank in a filling
 
-module _ (s : Sheet) where
-  choice-given : (k : ℕ) (x : List ℕ) → List·Memᴰ x (choices s k) → not (blank (cellText x)) ≡ cond (toFill s k) true (given s k)
+module _ (D : Dates) (s : Sheet) where
+  choice-given : (k : ℕ) (x : List ℕ) → List·Memᴰ x (choices D s k) → not (blank (cellText x)) ≡ cond (toFill s k) true (given s k)
   unfolding choices given textOf every cellText cell between
   choice-given k x = go (toFill s k)
     where
-      go : (b : Bool) → List·Memᴰ x (cond b (map cell (listOf k)) (cellOf s k ∷ [])) → not (blank (cellText x)) ≡ cond b true (given s k)
-      go true m = every-listed (λ (c : List ℕ). not (blank (cellText c))) refl k m
+      go : (b : Bool) → List·Memᴰ x (cond b (map cell (listOf D k)) (cellOf s k ∷ [])) → not (blank (cellText x)) ≡ cond b true (given s k)
+      go true m = every-listed D (λ (c : List ℕ). not (blank (cellText c))) refl k m
       go false m = ap (λ (y : List ℕ). not (blank (cellText y))) (List·Memᴰ·eq-of-singleton m)
 
   -- two fillings
-  module _ (size : length s ≡ 390) (g h : Sheet) (wg : Filling s g) (wh : Filling s h) where
+  module _ (size : length s ≡ 390) (g h : Sheet) (wg : Filling D s g) (wh : Filling D s h) where
     given-alike : (k : ℕ) → k < 15 → given g k ≡ given h k
     unfolding given textOf
     given-alike k l = choice-given k (cellOf g k) (wg .slot k l) ∙ sym (choice-given k (cellOf h k) (wh .slot k l))
@@ -64,25 +67,25 @@ module _ (s : Sheet) where
     needed-below k m = ltb-true k 15 (every-mem (λ (j : ℕ). ltb j 15) {l = needed} refl m)
 
     -- no other field than 101, 106, 108 and 109 differs
-    of-base : (f : Sheet) → Filling s f → AlikeBut varying (baseOf s) f
+    of-base : (f : Sheet) → Filling D s f → AlikeBut varying (baseOf s) f
     of-base f w =
-        let m = subst (List·Memᴰ f) (fillings-are s size) (of-filling s size f w) in
-        let q = Memᴰ·of-map (pickedOf (baseOf s)) (picks (baseOf s)) m in
-        subst (AlikeBut varying (baseOf s)) (q .2) (picked-alike (baseOf s) (q .0) (base-length s size) .1)
+        let m = subst (List·Memᴰ f) (fillings-are D s size) (of-filling D s size f w) in
+        let q = Memᴰ·of-map (pickedOf D (baseOf s)) (picks D (baseOf s)) m in
+        subst (AlikeBut varying (baseOf s)) (q .2) (picked-alike D (baseOf s) (q .0) (base-length D s size) .1)
 
     alike : AlikeBut varying g h
     alike k e = sym (of-base g wg k e) ∙ of-base h wh k e
 
     -- rule 6 asks of the four only whether they are blank
-    six : keeps g 6 ≡ keeps h 6
+    six : keeps D g 6 ≡ keeps D h 6
     unfolding every any are among keeps rules testOf
-    six = λ i. not (spared-class varying g h alike refl i) || every-alike (given g) (given h) needed (λ k m. given-alike k (needed-below k m)) i
+    six = λ i. not (spared-class D varying g h alike refl i) || every-alike (given g) (given h) needed (λ k m. given-alike k (needed-below k m)) i
 
-    one : (n : ℕ) → spare varying (n ∷ []) ≡ true → keeps g n ≡ keeps h n
+    one : (n : ℕ) → spare varying (n ∷ []) ≡ true → keeps D g n ≡ keeps D h n
     unfolding every
-    one n e = sym (and-true (keeps g n)) ∙ spared varying g h alike (n ∷ []) e ∙ and-true (keeps h n)
+    one n e = sym (and-true (keeps D g n)) ∙ spared D varying g h alike (n ∷ []) e ∙ and-true (keeps D h n)
 
-    verdicts-alike : map (keeps g) ahead ≡ map (keeps h) ahead
+    verdicts-alike : map (keeps D g) ahead ≡ map (keeps D h) ahead
     unfolding every any are among
     verdicts-alike =
         λ i. one 5 refl i ∷ six i ∷ one 7 refl i ∷ one 8 refl i ∷ one 9 refl i ∷ one 11 refl i ∷ one 12 refl i ∷ one 13 refl i ∷ one 14 refl i ∷ one 16 refl i ∷ one 22 refl i ∷ one 28 refl i ∷ []
@@ -102,61 +105,61 @@ first-place false (suc n) h = ([], refl)
 abbrev zeros : List ℕ
 zeros = 0 ∷ 0 ∷ 0 ∷ 0 ∷ []
 
-picks-first : (u : Sheet) → (ps : List (List ℕ)) × (picks u ≡ zeros ∷ ps)
+picks-first : (D : Dates) (u : Sheet) → (ps : List (List ℕ)) × (picks D u ≡ zeros ∷ ps)
 unfolding picks
-picks-first u =
-    let a = first-place (blank (textOf u 6)) statusCount (omega arith) in
+picks-first D u =
+    let a = first-place (blank (textOf u 6)) (statusCount D) (omega (arith, count-is (forceOf D), count-bounds (forceOf D) .0)) in
     let b = first-place (blank (textOf u 11)) basisCount (omega arith) in
     let c = first-place (blank (textOf u 13)) zeroCount (omega arith) in
     let d = first-place (blank (textOf u 14)) zeroCount (omega arith) in
     (_, λ i. product (a .1 i ∷ b .1 i ∷ c .1 i ∷ d .1 i ∷ []))
 
 -- no sheet of a list keeps a rule that all have the same verdict on
-none-all : (fs : List Sheet) (n : ℕ) → ((g : Sheet) → List·Memᴰ g fs → keeps g n ≡ false) → noneKeeps fs n ≡ true
+none-all : (D : Dates) (fs : List Sheet) (n : ℕ) → ((g : Sheet) → List·Memᴰ g fs → keeps D g n ≡ false) → noneKeeps D fs n ≡ true
 unfolding noneKeeps
-none-all [] n h = refl
-none-all (f ∷ fs) n h = rw (h f (List·Memᴰ·head refl)) (none-all fs n (λ g m. h g (List·Memᴰ·tail m)))
+none-all D [] n h = refl
+none-all D (f ∷ fs) n h = rw (h f (List·Memᴰ·head refl)) (none-all D fs n (λ g m. h g (List·Memᴰ·tail m)))
 
-none-alike : (f : Sheet) (fs : List Sheet) (n : ℕ) (b : Bool) → keeps f n ≡ b → ((g : Sheet) → List·Memᴰ g fs → keeps g n ≡ b) → not (noneKeeps (f ∷ fs) n) ≡ b
+none-alike : (D : Dates) (f : Sheet) (fs : List Sheet) (n : ℕ) (b : Bool) → keeps D f n ≡ b → ((g : Sheet) → List·Memᴰ g fs → keeps D g n ≡ b) → not (noneKeeps D (f ∷ fs) n) ≡ b
 unfolding noneKeeps
-none-alike f fs n true e h = rw e
-none-alike f fs n false e h = rw (e, none-all fs n h)
+none-alike D f fs n true e h = rw e
+none-alike D f fs n false e h = rw (e, none-all D fs n h)
 
-module _ (s : Sheet) (size : length s ≡ 390) where
+module _ (D : Dates) (s : Sheet) (size : length s ≡ 390) where
   unfoldable pub earliest : Sheet
-  earliest = pickedOf (baseOf s) zeros
+  earliest = pickedOf D (baseOf s) zeros
 
   rest : List Sheet
-  rest = map (pickedOf (baseOf s)) (picks-first (baseOf s) .0)
+  rest = map (pickedOf D (baseOf s)) (picks-first D (baseOf s) .0)
 
-  fillings-first : fillings s ≡ earliest ∷ rest
+  fillings-first : fillings D s ≡ earliest ∷ rest
   unfolding earliest rest
-  fillings-first = fillings-are s size ∙ ap (map (pickedOf (baseOf s))) (picks-first (baseOf s) .1)
+  fillings-first = fillings-are D s size ∙ ap (map (pickedOf D (baseOf s))) (picks-first D (baseOf s) .1)
 
-  pub first-filling : Filling s earliest
-  first-filling = filling-of s size earliest (subst (List·Memᴰ earliest) (sym fillings-first) (List·Memᴰ·head refl))
+  pub first-filling : Filling D s earliest
+  first-filling = filling-of D s size earliest (subst (List·Memᴰ earliest) (sym fillings-first) (List·Memᴰ·head refl))
 
   -- it has the class of the sheet
   pub first-budget : budget earliest ≡ budget s
   unfolding every any are among earliest
-  first-budget = sym (spared-class varying (baseOf s) earliest (picked-alike (baseOf s) zeros (base-length s size) .1) refl) ∙ base-budget s size
+  first-budget = sym (spared-class D varying (baseOf s) earliest (picked-alike D (baseOf s) zeros (base-length D s size) .1) refl) ∙ base-budget D s size
 
-  module _ (g : Sheet) (w : Filling s g) (n : ℕ) (m : List·Memᴰ n ahead) where
-    pub like-first : keeps g n ≡ keeps earliest n
-    like-first = at-member (keeps g) (keeps earliest) (verdicts-alike s size g earliest w first-filling) m
+  module _ (g : Sheet) (w : Filling D s g) (n : ℕ) (m : List·Memᴰ n ahead) where
+    pub like-first : keeps D g n ≡ keeps D earliest n
+    like-first = at-member (keeps D g) (keeps D earliest) (verdicts-alike D s size g earliest w first-filling) m
 
     pub fields-first : fieldOf rules n g ≡ fieldOf rules n earliest
-    fields-first = at-member (λ (k : ℕ). fieldOf rules k g) (λ (k : ℕ). fieldOf rules k earliest) (fields-alike s size g earliest w first-filling) m
+    fields-first = at-member (λ (k : ℕ). fieldOf rules k g) (λ (k : ℕ). fieldOf rules k earliest) (fields-alike D s size g earliest w first-filling) m
 
   -- what all fillings break is what the first breaks
-  pub first-broken : brokenByAll s ≡ firstNot (keeps earliest) ahead
+  pub first-broken : brokenByAll D s ≡ firstNot (keeps D earliest) ahead
   unfolding brokenByAll
   first-broken =
-      first-alike (λ (n : ℕ). not (noneKeeps (fillings s) n)) (keeps earliest) ahead
+      first-alike (λ (n : ℕ). not (noneKeeps D (fillings D s) n)) (keeps D earliest) ahead
       (λ n m.
-      ap (λ (l : List Sheet). not (noneKeeps l n)) fillings-first
-      ∙ none-alike earliest rest n (keeps earliest n) refl (λ g k. like-first g (filling-of s size g (subst (List·Memᴰ g) (sym fillings-first) (List·Memᴰ·tail k))) n m))
+      ap (λ (l : List Sheet). not (noneKeeps D l n)) fillings-first
+      ∙ none-alike D earliest rest n (keeps D earliest n) refl (λ g k. like-first g (filling-of D s size g (subst (List·Memᴰ g) (sym fillings-first) (List·Memᴰ·tail k))) n m))
 
-  pub named-field : namedField s ≡ fieldOf rules (brokenByAll s) earliest
+  pub named-field : namedField D s ≡ fieldOf rules (brokenByAll D s) earliest
   unfolding namedField
-  named-field = ap (λ (l : List Sheet). fieldOf rules (brokenByAll s) (getD l 0 [])) fillings-first
+  named-field = ap (λ (l : List Sheet). fieldOf rules (brokenByAll D s) (getD l 0 [])) fillings-first

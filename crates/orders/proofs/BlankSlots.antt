@@ -5,14 +5,19 @@ use mathlib.Core.List.{List, [], _∷_, map}
 use Prim.Native.Nat.{ℕ, _+_, _*_, _≤_}
 use native.Mathlib.Omega.{arith}
 use borrow.Author.Tests.{eq-eqb, ne-eqb, not-true}
-use lib.ListN.{length, getD, List·getD-map}
+use lib.ListN.{length, getD}
 use Rattle.texts.specs.Quoted.{Text}
-use Rattle.texts.specs.Texts.{blank, every}
+use Rattle.texts.specs.Texts.{blank, every, same}
 use Rattle.texts.specs.Buffers.{putAt}
 use Rattle.texts.proofs.Bools.{both}
+use Rattle.texts.proofs.Codes.{same-true}
 use Rattle.sheets.specs.Sheet.{cell, textOf, given}
-use Rattle.sheets.specs.Lists.{statusTexts, basisTexts, zeroTexts}
+use Rattle.sheets.specs.Lists.{basisTexts, zeroTexts}
+use Rattle.sheets.specs.Dates.{forceOf, statusTexts}
+use Rattle.sheets.proofs.InForce.{every-in}
+use Rattle.orders.proofs.EveryFilling.{every-at}
 use Rattle.sheets.specs.Working.Entries.{rowOf, filledAt}
+use Rattle.sheets.specs.declared.dates.Dates.{Dates}
 use Rattle.orders.specs.Fillings.{listOf, toFill}
 use Rattle.orders.specs.Working.Entering.{rowCell, Entry, filledWith, baseOf, pickEntries, pickedOf, slotsOf, varying}
 use Rattle.orders.specs.Complete.{setOf}
@@ -27,14 +32,17 @@ unfolding filledAt
 fill-given s t x k p z = cc (ne-eqb (length t) 0 z)
 
 -- a row is the list's cell
-row-cell : (texts : List Text) → map (λ (t : Text). rowCell (rowOf t)) texts ≡ map cell texts → (k : ℕ) → rowCell (rowOf (getD texts k [])) ≡ cell (getD texts k [])
-unfolding cell rowOf
-row-cell texts e k = sym (List·getD-map (λ (t : Text). rowCell (rowOf t)) texts k []) ∙ ap (λ (l : List (List ℕ)). getD l k (cell [])) e ∙ List·getD-map cell texts k []
+abbrev rowed : Text → Bool
+rowed t = same (rowCell (rowOf t)) (cell t)
+
+row-cell : (texts : List Text) → every rowed texts ≡ true → (k : ℕ) → rowCell (rowOf (getD texts k [])) ≡ cell (getD texts k [])
+unfolding cell rowOf same
+row-cell texts e k = same-true _ _ (every-at rowed [] refl texts e k)
 
 -- fill_zeros
 pub zeros-filled : (s a b c d e f r : List ℕ) → r ≡ rowOf (getD zeroTexts 0 []) → a ≡ filledAt s 3 (rowCell r) → b ≡ filledAt a 4 (rowCell r)
     → c ≡ filledAt b 7 (rowCell r) → d ≡ filledAt c 9 (rowCell r) → e ≡ filledAt d 10 (rowCell r) → f ≡ filledAt e 12 (rowCell r) → f ≡ baseOf s
-unfolding baseOf cell rowOf
+unfolding baseOf cell rowOf every same
 zeros-filled s a b c d e f r h ha hb hc hd he hf =
     let z : rowCell r ≡ cell (getD zeroTexts 0 []) = ap rowCell h ∙ row-cell zeroTexts refl 0 in
     cc
@@ -47,16 +55,16 @@ none-filled s (x ∷ es) e =
     let p = both (given s (x .0)) (every (given s) (slotsOf es)) e in
     rw (not-true (blank (textOf s (x .0))) (p .0)) (none-filled s es (p .1))
 
-pub picked-none : (s q : List ℕ) (b : Bool) → b ≡ every (given s) varying → b ≡ true → s ≡ pickedOf s q
+pub picked-none : (D : Dates) (s q : List ℕ) (b : Bool) → b ≡ every (given s) varying → b ≡ true → s ≡ pickedOf D s q
 unfolding pickedOf
-picked-none s q b e t = none-filled s (pickEntries q) (sym e ∙ t)
+picked-none D s q b e t = none-filled s (pickEntries D q) (sym e ∙ t)
 
-pub picked-filled : (s a b c d q r t u : List ℕ) (i j k l : ℕ) → q ≡ rowOf (getD statusTexts i []) → a ≡ filledAt s 6 (rowCell q)
+pub picked-filled : (D : Dates) (s a b c d q r t u : List ℕ) (i j k l : ℕ) → q ≡ rowOf (getD (statusTexts D) i []) → a ≡ filledAt s 6 (rowCell q)
     → r ≡ rowOf (getD basisTexts j []) → b ≡ filledAt a 11 (rowCell r) → t ≡ rowOf (getD zeroTexts k []) → c ≡ filledAt b 13 (rowCell t)
-    → u ≡ rowOf (getD zeroTexts l []) → d ≡ filledAt c 14 (rowCell u) → d ≡ pickedOf s (i ∷ j ∷ k ∷ l ∷ [])
-unfolding pickedOf cell rowOf
-picked-filled s a b c d q r t u i j k l hq ha hr hb ht hc hu hd =
-    cc (row-cell statusTexts refl i, row-cell basisTexts refl j, row-cell zeroTexts refl k, row-cell zeroTexts refl l)
+    → u ≡ rowOf (getD zeroTexts l []) → d ≡ filledAt c 14 (rowCell u) → d ≡ pickedOf D s (i ∷ j ∷ k ∷ l ∷ [])
+unfolding pickedOf cell rowOf every same
+picked-filled D s a b c d q r t u i j k l hq ha hr hb ht hc hu hd =
+    cc (row-cell (statusTexts D) (every-in rowed (forceOf D) refl) i, row-cell basisTexts refl j, row-cell zeroTexts refl k, row-cell zeroTexts refl l)
 
 -- bit_of, filled_set
 pub bit-blank : (s t : List ℕ) (k v : ℕ) → t ≡ textOf s k → length t ≡ 0 → v ≡ cond (blank (textOf s k)) v 0

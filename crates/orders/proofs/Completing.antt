@@ -22,6 +22,8 @@ use Rattle.drafts.specs.Draft.{draftFormed, draftSheet}
 use Rattle.drafts.specs.Working.Steps.{sheetInto}
 use Rattle.drafts.proofs.Slots.{formed-means}
 use Rattle.drafts.proofs.DraftSheets.{sheet-into}
+use Rattle.sheets.specs.Dates.{datesFit}
+use Rattle.sheets.specs.declared.dates.Dates.{Dates}
 use Rattle.orders.specs.Fillings.{Look, found, none, firstFilling}
 use Rattle.orders.specs.Working.Search.{Payment, firstPick}
 use Rattle.orders.specs.Working.Found.{pickOf, foundOf}
@@ -46,9 +48,9 @@ none-cases (found m q) n e = let z : _≡_ {A = ℕ} 0 1 = cc in absurd (omega a
 none-cases (none m) n e = cc
 
 -- the fields of rules 1 to 3 are the same of every sheet
-basic-field : (s t : List ℕ) (n : ℕ) → firstBroken s basic ≡ n → fieldOf rules n s ≡ fieldOf rules n t
+basic-field : (D : Dates) (s t : List ℕ) (n : ℕ) → firstBroken D s basic ≡ n → fieldOf rules n s ≡ fieldOf rules n t
 unfolding firstNot fieldOf rules
-basic-field s t n e = rw (← e) (go (keeps s 1) (keeps s 2) (keeps s 3))
+basic-field D s t n e = rw (← e) (go (keeps D s 1) (keeps D s 2) (keeps D s 3))
   where
     go : (a b c : Bool) → fieldOf rules (cond a (cond b (cond c 0 3) 2) 1) s ≡ fieldOf rules (cond a (cond b (cond c 0 3) 2) 1) t
     go true true true = refl
@@ -59,99 +61,109 @@ basic-field s t n e = rw (← e) (go (keeps s 1) (keeps s 2) (keeps s 3))
 -- ---- what `complete` and `pretest` begin with
 
 -- the well-formed draft d has the sheet s, of which the base is u; the facts x are read of that, and g is the first of rules 1 to 3 broken
-pub record Prepared (d s u : List ℕ) (x : Facts) (g : RuleNumber) : Type 0 where
+pub record Prepared (D : Dates) (d s u : List ℕ) (x : Facts) (g : RuleNumber) : Type 0 where
   pub formed : draftFormed d ≡ true
   pub size : length (draftSheet d) ≡ 390
   pub sheet : s ≡ draftSheet d
   pub base : u ≡ baseOf (draftSheet d)
-  pub read : Read x (baseOf (draftSheet d))
-  pub first : firstBroken (draftSheet d) basic ≡ g .0
+  pub read : Read D x (baseOf (draftSheet d))
+  pub first : firstBroken D (draftSheet d) basic ≡ g .0
 
-pub prepared : (d : List ℕ) (w : Bool) → w ≡ draftFormed d → not w ≡ false → (o s : List ℕ) → length o ≡ 390 → s ≡ sheetInto d o → (u : List ℕ) (x : Facts) (g : RuleNumber)
-    → u ≡ baseOf s → (length u ≡ 390 → Read x u) → ((t : List ℕ) → Read x t → g .0 ≡ firstBroken t basic) → Prepared d s u x g
-prepared d w hw h o s lo hs u x g hu hx hg =
+pub prepared : (D : Dates) (d : List ℕ) (w : Bool) → w ≡ draftFormed d → not w ≡ false → (o s : List ℕ) → length o ≡ 390 → s ≡ sheetInto d o → (u : List ℕ) (x : Facts) (g : RuleNumber)
+    → u ≡ baseOf s → (length u ≡ 390 → Read D x u) → ((D : Dates) (t : List ℕ) → Read D x t → g .0 ≡ firstBroken D t basic) → Prepared D d s u x g
+prepared D d w hw h o s lo hs u x g hu hx hg =
     let formed : draftFormed d ≡ true = sym hw ∙ not-false w h in
     let size = length-draftSheet d formed in
     let sheet : s ≡ draftSheet d = hs ∙ sheet-into d o (formed-means d formed .sized) lo in
     let base : u ≡ baseOf (draftSheet d) = hu ∙ ap baseOf sheet in
-    let read : Read x (baseOf (draftSheet d)) = subst (Read x) base (hx (ap length base ∙ base-length (draftSheet d) size)) in
-    let first : firstBroken (draftSheet d) basic ≡ g .0 = sym (hg (baseOf (draftSheet d)) read ∙ base-broken (draftSheet d) size) in
+    let read : Read D x (baseOf (draftSheet d)) = subst (Read D x) base (hx (ap length base ∙ base-length D (draftSheet d) size)) in
+    let first : firstBroken D (draftSheet d) basic ≡ g .0 = sym (hg D (baseOf (draftSheet d)) read ∙ base-broken D (draftSheet d) size) in
     record { formed = formed; size = size; sheet = sheet; base = base; read = read; first = first }
 
-module _ {d s u : List ℕ} {x : Facts} {g : RuleNumber} (B : Prepared d s u x g) where
+module _ {D : Dates} {d s u : List ℕ} {x : Facts} {g : RuleNumber} (B : Prepared D d s u x g) where
   pub field-is : (f : Field) → f .0 ≡ fieldOf rules (g .0) u → fieldOf rules (g .0) (draftSheet d) ≡ f .0
-  field-is f j = basic-field (draftSheet d) u (g .0) (B .first) ∙ sym j
+  field-is f j = basic-field D (draftSheet d) u (g .0) (B .first) ∙ sym j
 
-  pub class-is : (r : Bool) → ((t : List ℕ) → Read x t → r ≡ budget t) → r ≡ budget (draftSheet d)
-  class-is r hr = hr (baseOf (draftSheet d)) (B .read) ∙ base-budget (draftSheet d) (B .size)
+  pub class-is : (r : Bool) → ((D : Dates) (t : List ℕ) → Read D x t → r ≡ budget t) → r ≡ budget (draftSheet d)
+  class-is r hr = hr D (baseOf (draftSheet d)) (B .read) ∙ base-budget D (draftSheet d) (B .size)
 
-  pub kept-by : g .0 ≡ 0 → every (keeps (draftSheet d)) basic ≡ true
-  kept-by y = none-kept (keeps (draftSheet d)) basic basic-numbered (B .first ∙ y)
+  pub kept-by : g .0 ≡ 0 → every (keeps D (draftSheet d)) basic ≡ true
+  kept-by y = none-kept (keeps D (draftSheet d)) basic basic-numbered (B .first ∙ y)
 
-  pub pays-by : g .0 ≡ 0 → budget (draftSheet d) ≡ true → budgetPayment (draftSheet d) ≡ true
+  pub pays-by : g .0 ≡ 0 → budget (draftSheet d) ≡ true → budgetPayment D (draftSheet d) ≡ true
   unfolding budgetPayment
   pays-by y p = rw (kept-by y, p)
 
 -- ---- the ways through `complete`
 
 -- a refusal leaves the buffer
-refuses : (d b : List ℕ) (r : Completed) (n : ℕ) (vs : List ℕ) → completeAnswer r ≡ refusal n vs → refusal n vs ≡ completing d b → Completes d b r b
+refuses : (D : Dates) (d b : List ℕ) (r : Completed) (n : ℕ) (vs : List ℕ) → completeAnswer r ≡ refusal n vs → refusal n vs ≡ completing D d b → Completes D d b r b
 unfolding completing completed
-refuses d b r n vs a p = completes-by d b r b (a ∙ p) (sym (unchanged _ _ _ (completeTests d b) (λ e. no-success n vs _ (p ∙ e))))
+refuses D d b r n vs a p = completes-by D d b r b (a ∙ p) (sym (unchanged _ _ _ (completeTests D d b) (λ e. no-success n vs _ (p ∙ e))))
 
-module _ (d b : List ℕ) (w : Bool) (hw : w ≡ draftFormed d) where
-  pub refused-1 : not w ≡ true → Completes d b (Refused (record { 0 = 1 })) b
+module _ (D : Dates) (d b : List ℕ) (w : Bool) (hw : w ≡ draftFormed d) where
+  pub refused-1 : not w ≡ true → Completes D d b (Refused (record { 0 = 1 })) b
   unfolding completing completeTests completeAnswer
-  refused-1 h = let f : draftFormed d ≡ false = sym hw ∙ not-true w h in refuses d b (Refused (record { 0 = 1 })) 1 [] refl (sym (simp f))
+  refused-1 h = let f : draftFormed d ≡ false = sym hw ∙ not-true w h in refuses D d b (Refused (record { 0 = 1 })) 1 [] refl (sym (simp f))
 
-  pub refused-7 : not w ≡ false → (length b ≡ 390 → ⊥) → Completes d b (Refused (record { 0 = 7 })) b
+  pub refused-7 : not w ≡ false → (length b ≡ 390 → ⊥) → Completes D d b (Refused (record { 0 = 7 })) b
   unfolding completing completeTests completeAnswer
   refused-7 h z =
       let f : draftFormed d ≡ true = sym hw ∙ not-false w h in
-      refuses d b (Refused (record { 0 = 7 })) 7 [] refl (sym (simp (f, ne-eqb (length b) 390 z)))
+      refuses D d b (Refused (record { 0 = 7 })) 7 [] refl (sym (simp (f, ne-eqb (length b) 390 z)))
 
-module _ {d s u : List ℕ} {x : Facts} {g : RuleNumber} (b : List ℕ) (z : length b ≡ 390) (B : Prepared d s u x g) where
-  pub broken-8 : (f : Field) → (g .0 ≡ 0 → ⊥) → f .0 ≡ fieldOf rules (g .0) u → Completes d b (Broken f g) b
+  pub refused-12 : not w ≡ false → length b ≡ 390 → (v : Bool) → v ≡ datesFit D → not v ≡ true → Completes D d b (Refused (record { 0 = 12 })) b
+  unfolding completing completeTests completeAnswer
+  refused-12 h z v hv m =
+      let f : draftFormed d ≡ true = sym hw ∙ not-false w h in
+      let t : datesFit D ≡ false = sym hv ∙ not-true v m in
+      refuses D d b (Refused (record { 0 = 12 })) 12 [] refl (sym (simp (f, eq-eqb (length b) 390 z, t)))
+
+module _ {D : Dates} {d s u : List ℕ} {x : Facts} {g : RuleNumber} (b : List ℕ) (z : length b ≡ 390) (v : Bool) (hv : v ≡ datesFit D) (mv : not v ≡ false) (B : Prepared D d s u x g) where
+  fit : datesFit D ≡ true
+  fit = sym hv ∙ not-false v mv
+
+  pub broken-8 : (f : Field) → (g .0 ≡ 0 → ⊥) → f .0 ≡ fieldOf rules (g .0) u → Completes D d b (Broken f g) b
   unfolding completing completeTests sheetTests completeAnswer
   broken-8 f y j =
-      refuses d b (Broken f g) 8 (f .0 ∷ g .0 ∷ []) refl
-      (sym (simp (B .formed, eq-eqb (length b) 390 z, B .first, ne-eqb (g .0) 0 y) (ap (λ (n : ℕ). refusal 8 (n ∷ g .0 ∷ [])) (field-is B f j))))
+      refuses D d b (Broken f g) 8 (f .0 ∷ g .0 ∷ []) refl
+      (sym (simp (B .formed, eq-eqb (length b) 390 z, fit, B .first, ne-eqb (g .0) 0 y) (ap (λ (n : ℕ). refusal 8 (n ∷ g .0 ∷ [])) (field-is B f j))))
 
-  module _ (y : g .0 ≡ 0) (r : Bool) (hr : (t : List ℕ) → Read x t → r ≡ budget t) where
-    pub refused-9 : not r ≡ true → Completes d b (Refused (record { 0 = 9 })) b
+  module _ (y : g .0 ≡ 0) (r : Bool) (hr : (D : Dates) (t : List ℕ) → Read D x t → r ≡ budget t) where
+    pub refused-9 : not r ≡ true → Completes D d b (Refused (record { 0 = 9 })) b
     unfolding completing completeTests sheetTests completeAnswer
     refused-9 t =
         let p : budget (draftSheet d) ≡ false = sym (class-is B r hr) ∙ not-true r t in
-        refuses d b (Refused (record { 0 = 9 })) 9 [] refl (sym (simp (B .formed, eq-eqb (length b) 390 z, B .first ∙ y, p)))
+        refuses D d b (Refused (record { 0 = 9 })) 9 [] refl (sym (simp (B .formed, eq-eqb (length b) 390 z, fit, B .first ∙ y, p)))
 
-    module _ (t : not r ≡ false) (m : Found) (hm : (v : List ℕ) → Payment x v → m ≡ foundOf (firstPick v)) where
+    module _ (t : not r ≡ false) (m : Found) (hm : (D : Dates) (v : List ℕ) → Payment D x v → m ≡ foundOf (firstPick D v)) where
       pays : budget (draftSheet d) ≡ true
       pays = sym (class-is B r hr) ∙ not-false r t
 
-      picks : m ≡ foundOf (firstPick (baseOf (draftSheet d)))
-      picks = hm (baseOf (draftSheet d)) (record { read = B .read; class = base-budget (draftSheet d) (B .size) ∙ pays; basics = base-basic (draftSheet d) (B .size) ∙ kept-by B y })
+      picks : m ≡ foundOf (firstPick D (baseOf (draftSheet d)))
+      picks = hm D (baseOf (draftSheet d)) (record { read = B .read; class = base-budget D (draftSheet d) (B .size) ∙ pays; basics = base-basic D (draftSheet d) (B .size) ∙ kept-by B y })
 
       -- what the search found, as a look through the fillings
-      looks : (l : Look (List ℕ)) → firstPick (baseOf (draftSheet d)) ≡ l → (o : Look (List ℕ)) → o ≡ mapLook (pickedOf (baseOf (draftSheet d))) l
-          → (lookAnswer (draftSheet d) o ≡ completing d b) × (lookSheet b o ≡ completed d b)
+      looks : (l : Look (List ℕ)) → firstPick D (baseOf (draftSheet d)) ≡ l → (o : Look (List ℕ)) → o ≡ mapLook (pickedOf D (baseOf (draftSheet d))) l
+          → (lookAnswer (draftSheet d) o ≡ completing D d b) × (lookSheet b o ≡ completed D d b)
       looks l e o q =
-          let f : firstFilling (draftSheet d) ≡ o = first-is (draftSheet d) (B .size) ∙ ap (mapLook (pickedOf (baseOf (draftSheet d)))) e ∙ sym q in
+          let f : firstFilling D (draftSheet d) ≡ o = first-is D (draftSheet d) (B .size) ∙ ap (mapLook (pickedOf D (baseOf (draftSheet d)))) e ∙ sym q in
           let paid = pays-by B y pays in
-          (ap (lookAnswer (draftSheet d)) (sym f) ∙ sym (answer-is d b (B .formed) z paid), ap (lookSheet b) (sym f) ∙ sym (sheet-is d b (B .formed) z paid))
+          (ap (lookAnswer (draftSheet d)) (sym f) ∙ sym (answer-is D d b (B .formed) z fit paid), ap (lookSheet b) (sym f) ∙ sym (sheet-is D d b (B .formed) z fit paid))
 
-      pub refused-10 : (n : ℕ) → m ≡ Nothing n → Completes d b (Impossible n) b
+      pub refused-10 : (n : ℕ) → m ≡ Nothing n → Completes D d b (Impossible n) b
       unfolding completeAnswer
       refused-10 n e =
-          let l = looks (none n) (none-cases (firstPick (baseOf (draftSheet d))) n (sym e ∙ picks)) (none n) refl in
-          completes-by d b (Impossible n) b (l .0) (l .1)
+          let l = looks (none n) (none-cases (firstPick D (baseOf (draftSheet d))) n (sym e ∙ picks)) (none n) refl in
+          completes-by D d b (Impossible n) b (l .0) (l .1)
 
-      pub filled-first : (n set : ℕ) (p : Pick) (v f : List ℕ) → set ≡ setOf s → m ≡ Place n p → v ≡ pickedOf u (p .status ∷ p .basis ∷ p .document ∷ p .day ∷ []) → f ≡ putAt b 0 v → Completes d b (Filled n set (ones set)) f
+      pub filled-first : (n set : ℕ) (p : Pick) (v f : List ℕ) → set ≡ setOf s → m ≡ Place n p → v ≡ pickedOf D u (p .status ∷ p .basis ∷ p .document ∷ p .day ∷ []) → f ≡ putAt b 0 v → Completes D d b (Filled n set (ones set)) f
       unfolding completeAnswer pickedOf
       filled-first n set p v f hset e hv hf =
-          let (q, lq, pq) = place-cases (firstPick (baseOf (draftSheet d))) n p (sym e ∙ picks) in
-          let c1 : v ≡ pickedOf (baseOf (draftSheet d)) q = hv ∙ (λ i. pickedOf (B .base i) (pq i .status ∷ pq i .basis ∷ pq i .document ∷ pq i .day ∷ [])) in
-          let c2 : length v ≡ 390 = ap length c1 ∙ picked-length (draftSheet d) (B .size) q in
+          let (q, lq, pq) = place-cases (firstPick D (baseOf (draftSheet d))) n p (sym e ∙ picks) in
+          let c1 : v ≡ pickedOf D (baseOf (draftSheet d)) q = hv ∙ (λ i. pickedOf D (B .base i) (pq i .status ∷ pq i .basis ∷ pq i .document ∷ pq i .day ∷ [])) in
+          let c2 : length v ≡ 390 = ap length c1 ∙ picked-length D (draftSheet d) (B .size) q in
           let c3 : f ≡ v = hf ∙ put-fits b 0 v (omega arith) ∙ put-whole b v (omega arith) in
           let hs : set ≡ setOf (draftSheet d) = hset ∙ ap setOf (B .sheet) in
           let l = looks (found n q) lq (found n v) (ap (found n) c1) in
-          completes-by d b (Filled n set (ones set)) f ((λ i. completeAnswer (Filled n (hs i) (ones (hs i)))) ∙ l .0) (c3 ∙ l .1)
+          completes-by D d b (Filled n set (ones set)) f ((λ i. completeAnswer (Filled n (hs i) (ones (hs i)))) ∙ l .0) (c3 ∙ l .1)

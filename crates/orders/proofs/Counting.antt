@@ -7,8 +7,11 @@ use native.Mathlib.Nat.{mul-one, mul-comm, div-one, div-div-eq-div-mul, suc-mul,
 use native.Mathlib.Omega.{arith}
 use lib.Count.{ones, onesIn, ones-step}
 use lib.ListN.{length, getD, length-append, length-map}
-use Rattle.sheets.specs.Lists.{statusCount, basisCount, zeroCount}
+use Rattle.sheets.specs.Lists.{basisCount, zeroCount}
+use Rattle.sheets.specs.Dates.{forceOf, statusCount}
+use Rattle.sheets.proofs.InForce.{count-is, count-bounds}
 use Rattle.sheets.specs.Sheet.{slots}
+use Rattle.sheets.specs.declared.dates.Dates.{Dates}
 use Rattle.orders.specs.Fillings.{toFill, each, product, mostFillings, fillings}
 use Rattle.orders.specs.Working.Search.{width, places}
 use Rattle.orders.specs.Complete.{setOf}
@@ -30,16 +33,16 @@ width-most : (b : Bool) (n : ℕ) → 1 ≤ n → width b n ≤ n
 width-most true n h = omega arith
 width-most false n h = h
 
-module _ (s : List ℕ) where
-  length-fillings : length (fillings s) ≡ width (toFill s 6) statusCount * (width (toFill s 11) basisCount * (width (toFill s 13) zeroCount * width (toFill s 14) zeroCount))
-  length-fillings = rw (fillings-picked s _ _ _ _ refl refl refl refl, length-map) (length-picks _ _ _ _)
+module _ (D : Dates) (s : List ℕ) where
+  length-fillings : length (fillings D s) ≡ width (toFill s 6) (statusCount D) * (width (toFill s 11) basisCount * (width (toFill s 13) zeroCount * width (toFill s 14) zeroCount))
+  length-fillings = rw (fillings-picked D s _ _ _ _ refl refl refl refl, length-map) (length-picks _ _ _ _)
 
-  pub fillings-most : length (fillings s) ≤ mostFillings
+  pub fillings-most : length (fillings D s) ≤ mostFillings D
   fillings-most =
-      rw length-fillings
-      (mul-le-mul (width-most (toFill s 6) statusCount (omega arith)) (mul-le-mul (width-most (toFill s 11) basisCount (omega arith)) (mul-le-mul (width-most (toFill s 13) zeroCount (omega arith)) (width-most (toFill s 14) zeroCount (omega arith)))))
+      let h = mul-le-mul (width-most (toFill s 6) (statusCount D) (omega (arith, count-is (forceOf D), count-bounds (forceOf D) .0))) (mul-le-mul (width-most (toFill s 11) basisCount (omega arith)) (mul-le-mul (width-most (toFill s 13) zeroCount (omega arith)) (width-most (toFill s 14) zeroCount (omega arith)))) in
+      rw length-fillings (omega (arith, h))
 
-  pub fillings-one : ((k : ℕ) → toFill s k ≡ false) → length (fillings s) ≡ 1
+  pub fillings-one : ((k : ℕ) → toFill s k ≡ false) → length (fillings D s) ≡ 1
   fillings-one h = rw (length-fillings, h 6, h 11, h 13, h 14)
 
 -- ---- the set

@@ -2,28 +2,34 @@
 use mathlib.Core.Path.{_≡_, refl, ap, _∙_}
 use mathlib.Core.Bool.{true, false}
 use mathlib.Core.List.{List, [], _∷_, map}
-use Prim.Native.Nat.{ℕ}
+use Prim.Native.Nat.{ℕ, _+_, _*_}
+use native.Mathlib.Omega.{arith}
 use borrow.Author.Tests.{eqb-true}
 use lib.Dec.{eqb}
-use lib.ListN.{length}
+use lib.ListN.{length, replicate}
 use Prim.Native.String.{String}
 use Rattle.texts.specs.Quoted.{words}
-use Rattle.texts.specs.Texts.{every}
+use Rattle.texts.specs.Texts.{every, same}
 use Rattle.texts.proofs.Bools.{both}
 use Rattle.sheets.specs.Sheet.{cell}
 use Rattle.rules.specs.Rules.{firstBlank, rules, order, ahead, testOf, fieldOf, keeps, firstNot}
 use Rattle.rules.specs.R4.{rulesBefore}
+use Rattle.rules.specs.R7.{datesOf, given}
 use Rattle.sheets.specs.Working.Entries.{filledAt}
+use Rattle.sheets.specs.Dates.{textsIn, statusCount, programDates}
+use Rattle.sheets.specs.declared.dates.Dates.{Dates}
 use Rattle.orders.specs.Fillings.{joined, mostFillings, listOf, toFill, choices, fillings, Look, found, none, look, firstFilling}
 use Rattle.orders.specs.Working.Search.{passesAt, places, picks, firstPick}
 use Rattle.orders.specs.Working.Entering.{baseOf, pickedOf}
-use Rattle.orders.specs.Complete.{budgetPayment, sheetTests}
+use Rattle.orders.specs.Complete.{budgetPayment, sheetTests, completeTests, completing}
 use Rattle.orders.specs.Pretest.{brokenByAll, namedField}
 use Rattle.texts.specs.Answers.{refusal, answerBy}
 use Rattle.orders.proofs.Keeping.{mapLook, first-is}
 use Rattle.orders.proofs.Passing.{broken-fixed, none-look}
 use Rattle.orders.proofs.Ahead.{earliest, first-broken, named-field}
 use Rattle.rules.specs.Working.Computing.{rulesComputing}
+use Rattle.drafts.specs.Draft.{freshDraft}
+use Rattle.drafts.specs.Working.Computing.{draftsComputing}
 
 -- a sheet by its texts in slot order, parted by spaces
 unfoldable pub sheet : String → List ℕ
@@ -40,12 +46,12 @@ hopeless = sheet "004525987 40102810845370000004 03212643000000014800  0 6730054
 -- what the search finds; to unfold it is to unfold all that it is computed by
 unfoldable picked : List ℕ → Look (List ℕ)
 unfolding foreign hopeless sheet look filledAt passesAt places picks firstPick baseOf pickedOf rulesComputing
-picked s = mapLook (pickedOf (baseOf s)) (firstPick (baseOf s))
+picked s = mapLook (pickedOf programDates (baseOf s)) (firstPick programDates (baseOf s))
 
 -- "status 04, count 97"
-pub later : firstFilling foreign ≡ found 97 (sheet "004525987 40102810845370000004 03100643000000014800 0 0 6730054024 04 0 772801001 18201061201010000510 0 0 0 0 0")
+pub later : firstFilling programDates foreign ≡ found 97 (sheet "004525987 40102810845370000004 03100643000000014800 0 0 6730054024 04 0 772801001 18201061201010000510 0 0 0 0 0")
 unfolding picked
-later = first-is foreign refl
+later = first-is programDates foreign refl
 
 -- R-4: S with 101 blank and a wrong check digit in 60
 abbrev wrongDigit : String
@@ -90,30 +96,30 @@ completions =
 
 -- each by the search through its picks
 first-all : (es : List Example) → every (λ (e : Example). eqb (length (sheet (e .0))) 390) es ≡ true
-    → map (λ (e : Example). firstFilling (sheet (e .0))) es ≡ map (λ (e : Example). mapLook (pickedOf (baseOf (sheet (e .0)))) (firstPick (baseOf (sheet (e .0))))) es
+    → map (λ (e : Example). firstFilling programDates (sheet (e .0))) es ≡ map (λ (e : Example). mapLook (pickedOf programDates (baseOf (sheet (e .0)))) (firstPick programDates (baseOf (sheet (e .0))))) es
 unfolding every
 first-all [] h = refl
 first-all (e ∷ es) h =
     let p = both (eqb (length (sheet (e .0))) 390) (every (λ (x : Example). eqb (length (sheet (x .0))) 390) es) h in
-    λ i. first-is (sheet (e .0)) (eqb-true (length (sheet (e .0))) 390 (p .0)) i ∷ first-all es (p .1) i
+    λ i. first-is programDates (sheet (e .0)) (eqb-true (length (sheet (e .0))) 390 (p .0)) i ∷ first-all es (p .1) i
 
-completes : map (λ (e : Example). firstFilling (sheet (e .0))) completions ≡ map (λ (e : Example). mapLook sheet (e .1)) completions
+completes : map (λ (e : Example). firstFilling programDates (sheet (e .0))) completions ≡ map (λ (e : Example). mapLook sheet (e .1)) completions
 unfolding picked completions every
 completes = first-all completions refl
 
 -- R-4: by the rules before, the first status did
-inn1Before : look (λ (f : List ℕ). every (λ (n : ℕ). testOf rulesBefore n f) order) 0 (fillings (sheet wrongDigit))
+inn1Before : look (λ (f : List ℕ). every (λ (n : ℕ). testOf rulesBefore n programDates f) order) 0 (fillings programDates (sheet wrongDigit))
     ≡ found 1 (sheet "004525987 40102810845370000004 03100643000000014800 0 7722222222 6730054024 01 770301001 772801001 18201061201010000510 0 0 0 0 0")
 unfolding picked rulesBefore fillings choices toFill listOf
 inn1Before = refl
 
 -- which sheets are budget payments, and what stands before the search: rules 1, 2 and 3, and class O
-payments : map budgetPayment (foreign ∷ sheet "044525000  40204810000000000000   6730054024   772801001      " ∷ sheet "044525006  40204810000000000000   6730054024   772801001      " ∷ [])
+payments : map (budgetPayment programDates) (foreign ∷ sheet "044525000  40204810000000000000   6730054024   772801001      " ∷ sheet "044525006  40204810000000000000   6730054024   772801001      " ∷ [])
     ≡ true ∷ true ∷ false ∷ []
 unfolding picked budgetPayment
 payments = refl
 
-before : map (λ (s : List ℕ). answerBy (sheetTests s) []) (
+before : map (λ (s : List ℕ). answerBy (sheetTests programDates s) []) (
     sheet "0  "
     ∷ sheet "004525987 0 "
     ∷ sheet "004525987  0"
@@ -125,27 +131,72 @@ unfolding picked sheetTests fieldOf firstNot
 before = refl
 
 -- "10, count 1,056": 22 is filled with "0", which breaks rule 22 whatever the other entries are
-never : firstFilling hopeless ≡ none 1056
+never : firstFilling programDates hopeless ≡ none 1056
 unfolding picked
-never = first-is hopeless refl ∙ ap (mapLook (pickedOf (baseOf hopeless))) (none-look (passesAt (baseOf hopeless)) (broken-fixed (baseOf hopeless) (22 ∷ []) refl refl refl refl) (picks (baseOf hopeless)) 0)
+never = first-is programDates hopeless refl ∙ ap (mapLook (pickedOf programDates (baseOf hopeless))) (none-look (passesAt programDates (baseOf hopeless)) (broken-fixed programDates (baseOf hopeless) (22 ∷ []) refl refl refl refl) (picks programDates (baseOf hopeless)) 0)
 
--- "at most 22 × 12 × 2 × 2 = 1,056"
-most : mostFillings ≡ 1056
+-- "at most 22 × 12 × 2 × 2 = 1,056"; R-7: as many as the list has statuses, times 48
+most : mostFillings programDates ≡ 1056
+unfolding textsIn same
 most = refl
+
+most-by : (D : Dates) → mostFillings D ≡ statusCount D * 48
+most-by D = omega arith
+
+-- ---- R-7: the list that the date allows
+
+-- 02 is allowed, and stands second
+second : firstFilling (given 20231015) foreign ≡ found 49 (sheet "004525987 40102810845370000004 03100643000000014800 0 0 6730054024 02 0 772801001 18201061201010000510 0 0 0 0 0")
+unfolding picked
+second = first-is (given 20231015) foreign refl
+
+-- S with 22, 101, 105 to 109 blank and 17 03212643000000014800
+hopelessS : List ℕ
+hopelessS = sheet "004525987 40102810845370000004 03212643000000014800  7701569743 6730054024  770301001 772801001 18201061201010000510     "
+
+-- the count of all follows the list: neither 02 nor 32 nor 33, 32 alone, all three
+hopelessAt : (D : Dates) → firstFilling D hopelessS ≡ mapLook (pickedOf D (baseOf hopelessS)) (none (0 + length (picks D (baseOf hopelessS))))
+unfolding picked hopelessS
+hopelessAt D = first-is D hopelessS refl ∙ ap (mapLook (pickedOf D (baseOf hopelessS))) (none-look (passesAt D (baseOf hopelessS)) (broken-fixed D (baseOf hopelessS) (22 ∷ []) refl refl refl refl) (picks D (baseOf hopelessS)) 0)
+
+counts : map (λ (D : Dates). firstFilling D hopelessS) (given 20240101 ∷ given 20231015 ∷ given 20230930 ∷ datesOf 20240101 20240101 20240101 20240101 ∷ datesOf 20240101 20240102 20240102 20231231 ∷ [])
+    ≡ none 1056 ∷ none 1056 ∷ none 1008 ∷ none 1104 ∷ none 960 ∷ []
+unfolding picked hopelessS
+counts = λ i. hopelessAt (given 20240101) i ∷ hopelessAt (given 20231015) i ∷ hopelessAt (given 20230930) i ∷ hopelessAt (datesOf 20240101 20240101 20240101 20240101) i ∷ hopelessAt (datesOf 20240101 20240102 20240102 20231231) i ∷ []
+
+-- what is tested first: 1, 7, 12, then 8, 9 and 10, of a draft that has each text with revision 1
+abbrev noDraft : List ℕ
+noDraft = []
+
+ordinary : List ℕ
+ordinary = joined (map (λ (t : List ℕ). 0 ∷ 0 ∷ 0 ∷ 1 ∷ cell t) (words "044525006  40204810000000000000   6730054024   772801001      "))
+
+tested : map (λ (e : ℕ × List ℕ × List ℕ). completing (given (e .0)) (e .1) (e .2)) (
+    (0, noDraft, [])
+    ∷ (0, freshDraft, [])
+    ∷ (0, freshDraft, replicate {A = ℕ} 390 0)
+    ∷ (20240101, freshDraft, replicate {A = ℕ} 390 0)
+    ∷ (20230924, ordinary, replicate {A = ℕ} 390 0)
+    ∷ (20230925, ordinary, replicate {A = ℕ} 390 0)
+    ∷ []
+    )
+    ≡ refusal 1 [] ∷ refusal 7 [] ∷ refusal 12 [] ∷ refusal 8 (14 ∷ 1 ∷ []) ∷ refusal 12 [] ∷ refusal 9 [] ∷ []
+unfolding picked ordinary completing completeTests sheetTests fieldOf firstNot draftsComputing
+tested = refl
 
 -- ---- R-3: what the test ahead names of a sheet, by its first filling
 
 unfoldable pub ahead1 : List ℕ → ℕ × ℕ
 ahead1 s =
-    let f = pickedOf (baseOf s) (0 ∷ 0 ∷ 0 ∷ 0 ∷ []) in
-    let n = firstNot (keeps f) ahead in
+    let f = pickedOf programDates (baseOf s) (0 ∷ 0 ∷ 0 ∷ 0 ∷ []) in
+    let n = firstNot (keeps programDates f) ahead in
     (fieldOf rules n f, n)
 
-pub ahead-is : (s : List ℕ) → length s ≡ 390 → (namedField s, brokenByAll s) ≡ ahead1 s
+pub ahead-is : (s : List ℕ) → length s ≡ 390 → (namedField programDates s, brokenByAll programDates s) ≡ ahead1 s
 unfolding ahead1 earliest
 ahead-is s size =
-    let b = first-broken s size in
-    let f = named-field s size ∙ ap (λ (n : ℕ). fieldOf rules n (pickedOf (baseOf s) (0 ∷ 0 ∷ 0 ∷ 0 ∷ []))) b in
+    let b = first-broken programDates s size in
+    let f = named-field programDates s size ∙ ap (λ (n : ℕ). fieldOf rules n (pickedOf programDates (baseOf s) (0 ∷ 0 ∷ 0 ∷ 0 ∷ []))) b in
     λ i. (f i, b i)
 
 -- differences from S: the field and the rule, or 0 and 0

@@ -13,6 +13,7 @@ use Rattle.rules.specs.Verdicts.{checked}
 use Rattle.drafts.specs.Message.{messageOf}
 use Rattle.drafts.specs.Draft.{draftFormed, draftSheet}
 use Rattle.drafts.specs.History.{postedAll}
+use Rattle.sheets.specs.Dates.{datesFit, programDates}
 use Rattle.orders.specs.Fillings.{listOf, toFill, firstFilling}
 use Rattle.orders.specs.Complete.{setOf, budgetPayment, completing, completed}
 use Rattle.orders.specs.Whole.{tally}
@@ -110,12 +111,13 @@ computed :
     × (draftFormed draft ≡ true)
     × (draftSheet draft ≡ blanks)
     × (blanks ≡ foreign)
-    × (budgetPayment foreign ≡ true)
+    × (budgetPayment programDates foreign ≡ true)
     × (setOf foreign ≡ 31816)
     × (tally (toFill foreign) slots ≡ 7)
-    × (checked filling ≡ success (bytes "A"))
+    × (checked programDates filling ≡ success (bytes "A"))
+    × (datesFit programDates ≡ true)
 unfolding order zeros draft blanks filling foreign sheet postedAll listOf toFill setOf budgetPayment rulesComputing draftsComputing
-computed = (refl, refl, refl, refl, refl, refl, refl, refl)
+computed = (refl, refl, refl, refl, refl, refl, refl, refl, refl)
 
 -- the draft that the messages leave is a budget payment, and completing it fills 22, 101 and 105 to 109
 left : draftSheet (postedAll order) ≡ foreign
@@ -124,14 +126,14 @@ left = ap draftSheet (computed .0) ∙ computed .2 ∙ computed .3
 set-ones : ones (setOf foreign) ≡ 7
 set-ones = filled-set foreign .ones ∙ computed .6
 
-answered : (completing (postedAll order) buffer ≡ success (97 ∷ 31816 ∷ 7 ∷ [])) × (completed (postedAll order) buffer ≡ filling)
+answered : (completing programDates (postedAll order) buffer ≡ success (97 ∷ 31816 ∷ 7 ∷ [])) × (completed programDates (postedAll order) buffer ≡ filling)
 unfolding buffer filling zeros sheet cell
 answered =
     let f = ap draftFormed (computed .0) ∙ computed .1 in
-    let p = ap budgetPayment left ∙ computed .4 in (
-      answer-is (postedAll order) buffer f refl p
-          ∙ ap (λ (s : List ℕ). lookAnswer s (firstFilling s)) left
+    let p = ap (budgetPayment programDates) left ∙ computed .4 in (
+      answer-is programDates (postedAll order) buffer f refl (computed .8) p
+          ∙ ap (λ (s : List ℕ). lookAnswer s (firstFilling programDates s)) left
           ∙ ap (lookAnswer foreign) later
           ∙ (λ i. success (97 ∷ computed .5 i ∷ set-ones i ∷ [])),
-      sheet-is (postedAll order) buffer f refl p ∙ ap (λ (s : List ℕ). lookSheet buffer (firstFilling s)) left ∙ ap (lookSheet buffer) later,
+      sheet-is programDates (postedAll order) buffer f refl (computed .8) p ∙ ap (λ (s : List ℕ). lookSheet buffer (firstFilling programDates s)) left ∙ ap (lookSheet buffer) later,
     )

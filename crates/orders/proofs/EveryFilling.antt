@@ -8,11 +8,15 @@ use native.Mathlib.Nat.{zero-add}
 use native.Mathlib.Omega.{arith}
 use borrow.Author.Tests.{eqb-true}
 use lib.Dec.{eqb}
-use lib.ListN.{length, getD}
-use Rattle.texts.specs.Quoted.{Text}
+use lib.ListN.{length, getD, set}
+use Rattle.texts.specs.Quoted.{Text, words}
 use Rattle.texts.specs.Texts.{every, blank}
-use Rattle.texts.proofs.Bools.{both}
+use Rattle.texts.proofs.Bools.{both, and2}
 use Rattle.sheets.specs.Sheet.{cell, slots, cellOf, textOf}
+use Rattle.sheets.specs.Dates.{forceOf, statusTexts}
+use Rattle.sheets.specs.Lists.{statuses}
+use Rattle.sheets.proofs.InForce.{every-in}
+use Rattle.sheets.specs.declared.dates.Dates.{Dates}
 use Rattle.orders.specs.Fillings.{lists, listOf, toFill, choices, each, product, joined, fillings, Filling}
 use Rattle.orders.specs.Working.Search.{places}
 use Rattle.orders.proofs.Cells.{Sized, length-cellOf, sized-by, length-joined, cell-joined, joined-cells}
@@ -85,29 +89,44 @@ length-places (suc n) i = ap suc (length-places n (suc i))
 
 -- ---- fillings
 
--- what the cells of all lists pass, each entry of a field's list passes
-pub every-listed : (p : List ℕ → Bool) → every (λ (l : List Text). every p (map cell l)) lists ≡ true → (k : ℕ) {x : List ℕ} → List·Memᴰ x (map cell (listOf k)) → p x ≡ true
-unfolding every listOf
-every-listed p e k m = every-mem p (every-at (λ (l : List Text). every p (map cell l)) [] refl lists e k) m
+-- what the lists with all statuses pass, and the list in force, the lists at a date pass
+every-set : {A : Type 0} (p : A → Bool) (x : A) → p x ≡ true → (l : List A) (k : ℕ) → every p l ≡ true → every p (set l k x) ≡ true
+unfolding every
+every-set p x h [] k e = e
+every-set p x h (y ∷ ys) zero e = and2 (p x) (every p ys) h (both (p y) (every p ys) e .1)
+every-set p x h (y ∷ ys) (suc k) e = let q = both (p y) (every p ys) e in and2 (p y) (every p (set ys k x)) (q .0) (every-set p x h ys k (q .1))
 
-module _ (s : List ℕ) where
+pub lists-at : (D : Dates) (p : List Text → Bool) → p (statusTexts D) ≡ true → every p (lists (words statuses)) ≡ true → every p (lists (statusTexts D)) ≡ true
+lists-at D p h e = every-set p (statusTexts D) h (lists (words statuses)) 6 e
+
+-- what the cells of all lists pass, each entry of a field's list passes
+pub every-listed : (D : Dates) (p : List ℕ → Bool) → every (λ (l : List Text). every (λ (t : Text). p (cell t)) l) (lists (words statuses)) ≡ true → (k : ℕ) {x : List ℕ} → List·Memᴰ x (map cell (listOf D k)) → p x ≡ true
+unfolding every listOf
+every-listed D p e k m =
+    let q : Text → Bool = λ t. p (cell t) in
+    let w = Memᴰ·of-map cell (listOf D k) m in
+    let s = every-in q (forceOf D) (every-at (λ (l : List Text). every q l) [] refl (lists (words statuses)) e 6) in
+    let r = lists-at D (λ (l : List Text). every q l) s e in
+    ap p (sym (w .2)) ∙ every-mem q (every-at (λ (l : List Text). every q l) [] refl (lists (statusTexts D)) r k) (w .1)
+
+module _ (D : Dates) (s : List ℕ) where
   -- a field that is not blank stays
-  pub given-stays : (f : List ℕ) → Filling s f → (k : ℕ) → k < 15 → blank (textOf s k) ≡ false → cellOf f k ≡ cellOf s k
+  pub given-stays : (f : List ℕ) → Filling D s f → (k : ℕ) → k < 15 → blank (textOf s k) ≡ false → cellOf f k ≡ cellOf s k
   unfolding choices toFill
   given-stays f w k l e = List·Memᴰ·eq-of-singleton (rw (e, and-false) at (w .slot k l))
 
   module _ (sized : length s ≡ 390) where
-    choice-length : (k : ℕ) → k < 15 → (x : List ℕ) → List·Memᴰ x (choices s k) → length x ≡ 26
+    choice-length : (k : ℕ) → k < 15 → (x : List ℕ) → List·Memᴰ x (choices D s k) → length x ≡ 26
     unfolding choices every cell
     choice-length k l x = go (toFill s k)
       where
-        go : (b : Bool) → List·Memᴰ x (cond b (map cell (listOf k)) (cellOf s k ∷ [])) → length x ≡ 26
-        go true m = eqb-true (length x) 26 (every-listed (λ (c : List ℕ). eqb (length c) 26) refl k m)
+        go : (b : Bool) → List·Memᴰ x (cond b (map cell (listOf D k)) (cellOf s k ∷ [])) → length x ≡ 26
+        go true m = eqb-true (length x) 26 (every-listed D (λ (c : List ℕ). eqb (length c) 26) refl k m)
         go false m = ap length (List·Memᴰ·eq-of-singleton m) ∙ length-cellOf s k (omega arith)
 
-    module _ (r : List (List ℕ)) (d : Drawn (map (choices s) slots) r) where
-      pub drawn-choice : (k : ℕ) → k < 15 → List·Memᴰ (getD r k []) (choices s k)
-      drawn-choice k l = subst (List·Memᴰ (getD r k [])) (at-slots (choices s) [] k l) (drawn-at [] d k l)
+    module _ (r : List (List ℕ)) (d : Drawn (map (choices D s) slots) r) where
+      pub drawn-choice : (k : ℕ) → k < 15 → List·Memᴰ (getD r k []) (choices D s k)
+      drawn-choice k l = subst (List·Memᴰ (getD r k [])) (at-slots (choices D s) [] k l) (drawn-at [] d k l)
 
       drawn-sized : Sized r
       drawn-sized = sized-by r (λ k l. let h : k < 15 = omega (arith, length-drawn d) in choice-length k h (getD r k []) (drawn-choice k h))
@@ -115,26 +134,26 @@ module _ (s : List ℕ) where
       pub drawn-cell : (k : ℕ) → k < 15 → cellOf (joined r) k ≡ getD r k []
       drawn-cell k l = cell-joined r k drawn-sized (omega (arith, length-drawn d))
 
-      drawn-filling : Filling s (joined r)
+      drawn-filling : Filling D s (joined r)
       drawn-filling = record {
         sized = length-joined r drawn-sized ∙ omega (arith, length-drawn d);
         slot = λ k l. Memᴰ·cast (drawn-cell k l) (drawn-choice k l);
       }
 
     -- what the list holds is a filling
-    pub filling-of : (f : List ℕ) → List·Memᴰ f (fillings s) → Filling s f
+    pub filling-of : (f : List ℕ) → List·Memᴰ f (fillings D s) → Filling D s f
     unfolding fillings
     filling-of f h =
-        let w = Memᴰ·of-map joined (product (map (choices s) slots)) h in
-        subst (Filling s) (w .2) (drawn-filling (w .0) (product-drawn (map (choices s) slots) (w .0) (w .1)))
+        let w = Memᴰ·of-map joined (product (map (choices D s) slots)) h in
+        subst (Filling D s) (w .2) (drawn-filling (w .0) (product-drawn (map (choices D s) slots) (w .0) (w .1)))
 
-    cells-drawn : (f : List ℕ) → Filling s f → (n i : ℕ) → i + n ≤ 15 → Drawn (map (choices s) (places n i)) (map (cellOf f) (places n i))
+    cells-drawn : (f : List ℕ) → Filling D s f → (n i : ℕ) → i + n ≤ 15 → Drawn (map (choices D s) (places n i)) (map (cellOf f) (places n i))
     unfolding places
     cells-drawn f w zero i b = nothing
     cells-drawn f w (suc n) i b = one (w .slot i (omega arith)) (cells-drawn f w n (suc i) (omega arith))
 
     -- and it holds each filling
-    pub of-filling : (f : List ℕ) → Filling s f → List·Memᴰ f (fillings s)
+    pub of-filling : (f : List ℕ) → Filling D s f → List·Memᴰ f (fillings D s)
     unfolding fillings places
     of-filling f w =
         Memᴰ·cast (sym (joined-cells f (w .sized)))

@@ -12,10 +12,12 @@ use Rattle.texts.specs.Texts.{blank, every, any, are, among}
 use Rattle.sheets.specs.Working.Entries.{filledAt}
 use Rattle.rules.specs.Working.Groups.{AlikeBut}
 use Rattle.sheets.specs.Sheet.{Sheet, cell, slots, slotOf, cellOf, textOf, _⟨_⟩}
-use Rattle.sheets.specs.Lists.{statusCount, basisCount, zeroCount}
+use Rattle.sheets.specs.Lists.{basisCount, zeroCount}
+use Rattle.sheets.specs.Dates.{statusCount}
 use Rattle.rules.proofs.Reading.{spared, spared-class}
 use Rattle.rules.specs.Rules.{budget, rules, basic, testOf, keeps, keepsAll, firstNot, firstBroken}
 use Rattle.sheets.proofs.Frames.{status-sized, basis-sized, zero-sized, filled-length, filled-other}
+use Rattle.sheets.specs.declared.dates.Dates.{Dates}
 use Rattle.orders.specs.Fillings.{listOf, toFill, joined, fillings, Look, found, none, look, firstFilling}
 use Rattle.orders.specs.Working.Search.{passesAt, width, picks, firstPick}
 use Rattle.orders.specs.Working.Entering.{Entry, filledWith, zeroEntries, baseOf, pickEntries, pickedOf, slotsOf, varying}
@@ -28,10 +30,10 @@ unfolding cell
 zeros-fit =
     ((omega arith, refl), ((omega arith, refl), ((omega arith, refl), ((omega arith, refl), ((omega arith, refl), ((omega arith, refl), tt))))))
 
-pub picks-fit : (q : List ℕ) → Fit 15 (pickEntries q)
+pub picks-fit : (D : Dates) (q : List ℕ) → Fit 15 (pickEntries D q)
 unfolding every
-picks-fit q = (
-  (omega arith, status-sized (getD q 0 0)),
+picks-fit D q = (
+  (omega arith, status-sized D (getD q 0 0)),
   ((omega arith, basis-sized (getD q 1 0)), ((omega arith, zero-sized (getD q 2 0)), ((omega arith, zero-sized (getD q 3 0)), tt))),
 )
 
@@ -52,9 +54,9 @@ filled-alike (e ∷ es) u z f =
           sym (filled-other u (e .1) (e .0) z lk lx j (λ k. eqb-false (e .0) j (q .0) (sym k))) ∙ r .1 j (q .1),
     )
 
-pub picked-alike : (u : Sheet) (q : List ℕ) → length u ≡ 390 → (length (pickedOf u q) ≡ 390) × AlikeBut varying u (pickedOf u q)
+pub picked-alike : (D : Dates) (u : Sheet) (q : List ℕ) → length u ≡ 390 → (length (pickedOf D u q) ≡ 390) × AlikeBut varying u (pickedOf D u q)
 unfolding pickedOf
-picked-alike u q size = filled-alike (pickEntries q) u size (picks-fit q)
+picked-alike D u q size = filled-alike (pickEntries D q) u size (picks-fit D q)
 
 -- looking through what is made of a list
 abbrev pub mapLook : {X Y : Type 0} → (X → Y) → Look X → Look Y
@@ -73,7 +75,7 @@ look-map {X} {Y} p h (x ∷ xs) n = rw (look-map p h xs (n + 1)) (go (p (h x)) (
 abbrev baseCells : List ℕ → Cells
 baseCells s = fillCells (map (cellOf s) slots) zeroEntries
 
-module _ (s : List ℕ) (size : length s ≡ 390) where
+module _ (D : Dates) (s : List ℕ) (size : length s ≡ 390) where
   base-alike : (length (baseOf s) ≡ 390) × AlikeBut (slotsOf zeroEntries) s (baseOf s)
   unfolding baseOf
   base-alike = filled-alike zeroEntries s size zeros-fit
@@ -87,35 +89,35 @@ module _ (s : List ℕ) (size : length s ≡ 390) where
   -- 14, 15 and 17 stay in the base, and so do the rules of completion and the class
   pub base-budget : budget (baseOf s) ≡ budget s
   unfolding every any are among
-  base-budget = sym (spared-class (slotsOf zeroEntries) s (baseOf s) (base-alike .1) refl)
+  base-budget = sym (spared-class D (slotsOf zeroEntries) s (baseOf s) (base-alike .1) refl)
 
-  pub base-broken : firstBroken (baseOf s) basic ≡ firstBroken s basic
+  pub base-broken : firstBroken D (baseOf s) basic ≡ firstBroken D s basic
   unfolding any are among firstNot keeps rules testOf _⟨_⟩ slotOf
   base-broken = cc (base-text 0 refl, base-text 1 refl, base-text 2 refl)
 
-  pub base-basic : every (keeps (baseOf s)) basic ≡ every (keeps s) basic
+  pub base-basic : every (keeps D (baseOf s)) basic ≡ every (keeps D s) basic
   unfolding every any are among
-  base-basic = sym (spared (slotsOf zeroEntries) s (baseOf s) (base-alike .1) basic refl)
+  base-basic = sym (spared D (slotsOf zeroEntries) s (baseOf s) (base-alike .1) basic refl)
 
   -- a pick's filling by its cells
-  picked-joined : (q : List ℕ) → pickedOf (baseOf s) q ≡ joined (cellsAt s q)
+  picked-joined : (q : List ℕ) → pickedOf D (baseOf s) q ≡ joined (cellsAt D s q)
   unfolding baseOf pickedOf pickCell toFill listOf textOf
   picked-joined q =
       let base = filled-joined zeroEntries (map (cellOf s) slots) (sized-cells s size) zeros-fit in
-      ap (λ (t : List ℕ). filledWith t (pickEntries q)) (ap (λ (t : List ℕ). filledWith t zeroEntries) (sym (joined-cells s size)) ∙ base .0)
-      ∙ filled-joined (pickEntries q) (baseCells s) (base .1) (picks-fit q) .0
+      ap (λ (t : List ℕ). filledWith t (pickEntries D q)) (ap (λ (t : List ℕ). filledWith t zeroEntries) (sym (joined-cells s size)) ∙ base .0)
+      ∙ filled-joined (pickEntries D q) (baseCells s) (base .1) (picks-fit D q) .0
 
-  pub fillings-are : fillings s ≡ map (pickedOf (baseOf s)) (picks (baseOf s))
+  pub fillings-are : fillings D s ≡ map (pickedOf D (baseOf s)) (picks D (baseOf s))
   unfolding any are among picks toFill listOf
   fillings-are =
       let w : (k n : ℕ) → among k (slotsOf zeroEntries) ≡ false → width (blank (textOf (baseOf s) k)) n ≡ width (blank (textOf s k)) n = λ k n h. rw (base-text k h) in
-      fillings-picked s _ _ _ _ (w 6 statusCount refl) (w 11 basisCount refl) (w 13 zeroCount refl) (w 14 zeroCount refl)
-      ∙ map-congr-left {l = picks (baseOf s)} (λ q m. sym (picked-joined q))
+      fillings-picked D s _ _ _ _ (w 6 (statusCount D) refl) (w 11 basisCount refl) (w 13 zeroCount refl) (w 14 zeroCount refl)
+      ∙ map-congr-left {l = picks D (baseOf s)} (λ q m. sym (picked-joined q))
 
   -- the search through the picks is the search through the fillings
-  pub first-is : firstFilling s ≡ mapLook (pickedOf (baseOf s)) (firstPick (baseOf s))
+  pub first-is : firstFilling D s ≡ mapLook (pickedOf D (baseOf s)) (firstPick D (baseOf s))
   unfolding firstFilling firstPick passesAt
-  first-is = ap (look keepsAll 0) fillings-are ∙ look-map keepsAll (pickedOf (baseOf s)) (picks (baseOf s)) 0
+  first-is = ap (look (keepsAll D) 0) fillings-are ∙ look-map (keepsAll D) (pickedOf D (baseOf s)) (picks D (baseOf s)) 0
 
-  pub picked-length : (q : List ℕ) → length (pickedOf (baseOf s) q) ≡ 390
-  picked-length q = picked-alike (baseOf s) q base-length .0
+  pub picked-length : (q : List ℕ) → length (pickedOf D (baseOf s) q) ≡ 390
+  picked-length q = picked-alike D (baseOf s) q base-length .0

@@ -16,3 +16,4 @@ pub mod Streaming
 pub mod Examples
 pub mod Counts
 pub mod EndToEnd
+pub mod Dated

@@ -13,8 +13,11 @@ use Rattle.texts.specs.Quoted.{Text}
 use Rattle.texts.specs.Texts.{every, same}
 use Rattle.texts.proofs.Bools.{both}
 use Rattle.sheets.specs.Sheet.{cell, slots, cellOf}
+use Rattle.sheets.specs.Dates.{forceOf, textsIn, statusTexts}
+use Rattle.sheets.proofs.InForce.{by-force}
+use Rattle.sheets.specs.declared.dates.Dates.{Dates}
 use Rattle.orders.specs.Fillings.{lists, listOf, toFill, choices, entryPlace, each, product, joined, fillings, Filling, Earlier, Place}
-use Rattle.orders.proofs.EveryFilling.{Drawn, each-cases, product-drawn, every-at, every-mem, at-slots, drawn-cell, filling-of, of-filling}
+use Rattle.orders.proofs.EveryFilling.{lists-at, Drawn, each-cases, product-drawn, every-at, every-mem, at-slots, drawn-cell, filling-of, of-filling}
 
 -- ---- lists in order
 
@@ -106,90 +109,94 @@ module _ (c : List (List ℕ)) (cs : List (List (List ℕ))) where
 abbrev listedOnce : List (List ℕ) → Bool
 listedOnce c = rising c c
 
-choice-once : (s : List ℕ) (k : ℕ) → listedOnce (choices s k) ≡ true
+status-once : (D : Dates) → listedOnce (map cell (statusTexts D)) ≡ true
+unfolding textsIn every same cell
+status-once D = by-force (λ (l : List Text). listedOnce (map cell l)) (forceOf D) refl
+
+choice-once : (D : Dates) (s : List ℕ) (k : ℕ) → listedOnce (choices D s k) ≡ true
 unfolding choices every listOf same cell
-choice-once s k = go (toFill s k)
+choice-once D s k = go (toFill s k)
   where
-    go : (b : Bool) → listedOnce (cond b (map cell (listOf k)) (cellOf s k ∷ [])) ≡ true
-    go true = every-at (λ (l : List Text). listedOnce (map cell l)) [] refl lists refl k
+    go : (b : Bool) → listedOnce (cond b (map cell (listOf D k)) (cellOf s k ∷ [])) ≡ true
+    go true = every-at (λ (l : List Text). listedOnce (map cell l)) [] refl (lists (statusTexts D)) (lists-at D (λ (l : List Text). listedOnce (map cell l)) (status-once D) refl) k
     go false = refl
 
 -- ---- fillings
 
-product-ordered : (s ks : List ℕ) → Ordered (Differs (map (choices s) ks)) (product (map (choices s) ks))
-product-ordered s [] = (λ b m. absurd (List·Memᴰ·not-nil m), tt)
-product-ordered s (k ∷ ks) =
-    let c = choices s k in
-    each-ordered c (map (choices s) ks) c (product (map (choices s) ks)) (rising-ordered c c (choice-once s k)) (product-ordered s ks)
+product-ordered : (D : Dates) (s ks : List ℕ) → Ordered (Differs (map (choices D s) ks)) (product (map (choices D s) ks))
+product-ordered D s [] = (λ b m. absurd (List·Memᴰ·not-nil m), tt)
+product-ordered D s (k ∷ ks) =
+    let c = choices D s k in
+    each-ordered c (map (choices D s) ks) c (product (map (choices D s) ks)) (rising-ordered c c (choice-once D s k)) (product-ordered D s ks)
 
 -- the order is strict
-earlier-strict : (s g f : List ℕ) → Earlier s g f → Earlier s f g → ⊥
-earlier-strict s g f v w =
+earlier-strict : (D : Dates) (s g f : List ℕ) → Earlier D s g f → Earlier D s f g → ⊥
+earlier-strict D s g f v w =
     elim (decLt (v .at) (w .at)) [
-      | yes h ↦ omega (arith, v .less, ap (entryPlace (choices s (v .at))) (w .same (v .at) h))
+      | yes h ↦ omega (arith, v .less, ap (entryPlace (choices D s (v .at))) (w .same (v .at) h))
       | no h ↦
           elim (decLt (w .at) (v .at)) [
-            | yes k ↦ omega (arith, w .less, ap (entryPlace (choices s (w .at))) (v .same (w .at) k))
+            | yes k ↦ omega (arith, w .less, ap (entryPlace (choices D s (w .at))) (v .same (w .at) k))
             | no k ↦
                 let e : w .at ≡ v .at = omega arith in
-                omega (arith, v .less, subst (λ (i : ℕ). entryPlace (choices s i) (cellOf f i) < entryPlace (choices s i) (cellOf g i)) e (w .less))
+                omega (arith, v .less, subst (λ (i : ℕ). entryPlace (choices D s i) (cellOf f i) < entryPlace (choices D s i) (cellOf g i)) e (w .less))
           ]
     ]
 
-module _ (s : List ℕ) (sized : length s ≡ 390) where
-  differs-earlier : (r t : List (List ℕ)) → Drawn (map (choices s) slots) r → Drawn (map (choices s) slots) t → Differs (map (choices s) slots) r t → Earlier s (joined r) (joined t)
+module _ (D : Dates) (s : List ℕ) (sized : length s ≡ 390) where
+  differs-earlier : (r t : List (List ℕ)) → Drawn (map (choices D s) slots) r → Drawn (map (choices D s) slots) t → Differs (map (choices D s) slots) r t → Earlier D s (joined r) (joined t)
   differs-earlier r t dr dt w =
       let i : w .at < 15 = w .inside in
-      let cr : (k : ℕ) → k < 15 → cellOf (joined r) k ≡ getD r k [] = drawn-cell s sized r dr in
-      let ct : (k : ℕ) → k < 15 → cellOf (joined t) k ≡ getD t k [] = drawn-cell s sized t dt in
+      let cr : (k : ℕ) → k < 15 → cellOf (joined r) k ≡ getD r k [] = drawn-cell D s sized r dr in
+      let ct : (k : ℕ) → k < 15 → cellOf (joined t) k ≡ getD t k [] = drawn-cell D s sized t dt in
       record {
         at = w .at;
         inside = i;
         same = λ j l. cr j (omega arith) ∙ w .same j l ∙ sym (ct j (omega arith));
-        less = rw (cr (w .at) i, ct (w .at) i, ← at-slots (choices s) [] (w .at) i) (w .less);
+        less = rw (cr (w .at) i, ct (w .at) i, ← at-slots (choices D s) [] (w .at) i) (w .less);
       }
 
-  fillings-ordered : Ordered (Earlier s) (fillings s)
+  fillings-ordered : Ordered (Earlier D s) (fillings D s)
   unfolding fillings
   fillings-ordered =
-      let cs = map (choices s) slots in
-      ordered-map (Differs cs) (Earlier s) joined (product cs)
+      let cs = map (choices D s) slots in
+      ordered-map (Differs cs) (Earlier D s) joined (product cs)
       (λ a b m k h. differs-earlier a b (product-drawn cs a m) (product-drawn cs b k) h)
-      (product-ordered s slots)
+      (product-ordered D s slots)
 
   -- no entry of a part of the list in order stands in it twice
-  once-ordered : (l : List (List ℕ)) → Ordered (Earlier s) l → (a b c : List (List ℕ)) (g : List ℕ) → l ≡ a ++ (g ∷ (b ++ (g ∷ c))) → ⊥
+  once-ordered : (l : List (List ℕ)) → Ordered (Earlier D s) l → (a b c : List (List ℕ)) (g : List ℕ) → l ≡ a ++ (g ∷ (b ++ (g ∷ c))) → ⊥
   once-ordered l o a b c g e =
-      let w = ordered-split (Earlier s) a g (b ++ (g ∷ c)) (subst (Ordered (Earlier s)) e o) in
-      let x : Earlier s g g = w .2 g (Memᴰ·append-right b (List·Memᴰ·head refl)) in
-      earlier-strict s g g x x
+      let w = ordered-split (Earlier D s) a g (b ++ (g ∷ c)) (subst (Ordered (Earlier D s)) e o) in
+      let x : Earlier D s g g = w .2 g (Memᴰ·append-right b (List·Memᴰ·head refl)) in
+      earlier-strict D s g g x x
 
-  pub once-all : (a b c : List (List ℕ)) (g : List ℕ) → fillings s ≡ a ++ (g ∷ (b ++ (g ∷ c))) → ⊥
-  once-all = once-ordered (fillings s) fillings-ordered
+  pub once-all : (a b c : List (List ℕ)) (g : List ℕ) → fillings D s ≡ a ++ (g ∷ (b ++ (g ∷ c))) → ⊥
+  once-all = once-ordered (fillings D s) fillings-ordered
 
-  module _ (before after : List (List ℕ)) (t : List ℕ) (split : fillings s ≡ before ++ (t ∷ after)) where
-    in-order : Ordered (Earlier s) before × ((g : List ℕ) → List·Memᴰ g before → Earlier s g t) × ((g : List ℕ) → List·Memᴰ g after → Earlier s t g)
-    in-order = ordered-split (Earlier s) before t after (subst (Ordered (Earlier s)) split fillings-ordered)
+  module _ (before after : List (List ℕ)) (t : List ℕ) (split : fillings D s ≡ before ++ (t ∷ after)) where
+    in-order : Ordered (Earlier D s) before × ((g : List ℕ) → List·Memᴰ g before → Earlier D s g t) × ((g : List ℕ) → List·Memᴰ g after → Earlier D s t g)
+    in-order = ordered-split (Earlier D s) before t after (subst (Ordered (Earlier D s)) split fillings-ordered)
 
-    pub earlier-before : (g : List ℕ) → Filling s g → Earlier s g t → List·Memᴰ g before
+    pub earlier-before : (g : List ℕ) → Filling D s g → Earlier D s g t → List·Memᴰ g before
     earlier-before g p q =
         ⊎-elim
         (λ (m : List·Memᴰ g before). m)
         (λ (m : List·Memᴰ g (t ∷ after)).
         absurd
         (⊎-elim
-        (λ (e : g ≡ t). earlier-strict s g t q (subst₂ (Earlier s) e (sym e) q))
-        (λ (k : List·Memᴰ g after). earlier-strict s g t q (in-order .2 g k))
+        (λ (e : g ≡ t). earlier-strict D s g t q (subst₂ (Earlier D s) e (sym e) q))
+        (λ (k : List·Memᴰ g after). earlier-strict D s g t q (in-order .2 g k))
         (List·Memᴰ·cases-cons m)))
-        (List·Memᴰ·append-cases before (subst (List·Memᴰ g) split (of-filling s sized g p)))
+        (List·Memᴰ·append-cases before (subst (List·Memᴰ g) split (of-filling D s sized g p)))
 
     -- the place in the list is the place in the order
-    pub place-of : Place s t (suc (length before))
+    pub place-of : Place D s t (suc (length before))
     place-of = record {
       list = before;
       count = refl;
       holds = λ g. (
-        λ m. (filling-of s sized g (subst (List·Memᴰ g) (sym split) (Memᴰ·append-left (t ∷ after) m)), in-order .1 g m),
+        λ m. (filling-of D s sized g (subst (List·Memᴰ g) (sym split) (Memᴰ·append-left (t ∷ after) m)), in-order .1 g m),
         λ p. earlier-before g (p .0) (p .1),
       );
       once = once-ordered before (in-order .0);

@@ -11,7 +11,8 @@ use lib.ListN.{length, getD}
 use Rattle.texts.specs.Texts.{every, any, are, among, blank}
 use Rattle.sheets.specs.Sheet.{Sheet, cell, textOf}
 use Rattle.sheets.specs.Working.Facts.{Read}
-use Rattle.sheets.specs.Lists.{statusTexts, basisTexts, zeroTexts, statusCount, basisCount, zeroCount}
+use Rattle.sheets.specs.Lists.{basisTexts, zeroTexts, basisCount, zeroCount}
+use Rattle.sheets.specs.Dates.{statusTexts, statusCount}
 use Rattle.sheets.specs.Working.Entries.{filledAt}
 use Rattle.sheets.specs.declared.facts.Facts.{Facts}
 use Rattle.texts.proofs.Every.{every-within}
@@ -19,6 +20,7 @@ use Rattle.rules.specs.Rules.{budget, order, basic, keeps, keepsAll}
 use Rattle.rules.specs.Working.Groups.{fixedRules, statusRules, basisRules, documentRules, dayRules, AlikeBut, apart, spare}
 use Rattle.rules.proofs.Judging.{all-grouped}
 use Rattle.rules.proofs.Reading.{spared, spared-class}
+use Rattle.sheets.specs.declared.dates.Dates.{Dates}
 use Rattle.orders.specs.Fillings.{mostFillings, product, none, look}
 use Rattle.orders.specs.Working.Entering.{Entry, filledWith, pickedOf, varying}
 use Rattle.orders.specs.Working.Search.{passesAt, width, places, picks, firstPick, Payment}
@@ -30,26 +32,26 @@ use Rattle.orders.proofs.Levels.{Picks}
 
 -- what a group's test and an entry put in promise
 abbrev Kept : Facts → Bool → List ℕ → Type 0
-Kept f k ns = (s : Sheet) → Read f s → budget s ≡ true → k ≡ every (keeps s) ns
+Kept f k ns = (D : Dates) (s : Sheet) → Read D f s → budget s ≡ true → k ≡ every (keeps D s) ns
 
 abbrev Puts : Facts → Facts → Facts → ℕ → List ℕ → Type 0
-Puts f g r k x = (s t : Sheet) → Read f s → Read g t → textOf t k ≡ textOf s k → Read r (filledAt t k x)
+Puts f g r k x = (D : Dates) (s t : Sheet) → Read D f s → Read D g t → textOf t k ≡ textOf s k → Read D r (filledAt t k x)
 
 -- a group's test holds of a sheet that differs only where the group does not look
-tested : (ds ns : List ℕ) (g : Facts) (j : Bool) (v t : Sheet) → Kept g j ns → Read g v → AlikeBut ds v t → budget t ≡ true
-    → apart ds (0 ∷ 1 ∷ 2 ∷ []) ≡ true → spare ds ns ≡ true → j ≡ every (keeps t) ns
-tested ds ns g j v t h r a b c e = h v r (spared-class ds v t a c ∙ b) ∙ spared ds v t a ns e
+tested : (D : Dates) (ds ns : List ℕ) (g : Facts) (j : Bool) (v t : Sheet) → Kept g j ns → Read D g v → AlikeBut ds v t → budget t ≡ true
+    → apart ds (0 ∷ 1 ∷ 2 ∷ []) ≡ true → spare ds ns ≡ true → j ≡ every (keeps D t) ns
+tested D ds ns g j v t h r a b c e = h D v r (spared-class D ds v t a c ∙ b) ∙ spared D ds v t a ns e
 
 module _ (f f1 f2 f3 f4 : Facts) (a b c d : ℕ) (k k1 k2 k3 k4 : Bool) where
   pub passes-is : Kept f k fixedRules
-      → ((s : Sheet) → Read f s → Read f1 (filledAt s 6 (cell (getD statusTexts a [])))) → Kept f1 k1 statusRules
+      → ((D : Dates) (s : Sheet) → Read D f s → Read D f1 (filledAt s 6 (cell (getD (statusTexts D) a [])))) → Kept f1 k1 statusRules
       → Puts f f1 f2 11 (cell (getD basisTexts b [])) → Kept f2 k2 basisRules
       → Puts f f2 f3 13 (cell (getD zeroTexts c [])) → Kept f3 k3 documentRules
       → Puts f f3 f4 14 (cell (getD zeroTexts d [])) → Kept f4 k4 dayRules
-      → (u : Sheet) → Payment f u → ((((k && k1) && k2) && k3) && k4) ≡ passesAt u (a ∷ b ∷ c ∷ d ∷ [])
+      → (D : Dates) (u : Sheet) → Payment D f u → ((((k && k1) && k2) && k3) && k4) ≡ passesAt D u (a ∷ b ∷ c ∷ d ∷ [])
   unfolding passesAt pickedOf every any are among
-  passes-is h h1 t1 h2 t2 h3 t3 h4 t4 u o =
-      let x1 : Entry = (6, cell (getD statusTexts a [])) in
+  passes-is h h1 t1 h2 t2 h3 t3 h4 t4 D u o =
+      let x1 : Entry = (6, cell (getD (statusTexts D) a [])) in
       let x2 : Entry = (11, cell (getD basisTexts b [])) in
       let x3 : Entry = (13, cell (getD zeroTexts c [])) in
       let x4 : Entry = (14, cell (getD zeroTexts d [])) in
@@ -57,36 +59,36 @@ module _ (f f1 f2 f3 f4 : Facts) (a b c d : ℕ) (k k1 k2 k3 k4 : Bool) where
       let u2 = filledWith u (x1 ∷ x2 ∷ []) in
       let u3 = filledWith u (x1 ∷ x2 ∷ x3 ∷ []) in
       let u4 = filledWith u (x1 ∷ x2 ∷ x3 ∷ x4 ∷ []) in
-      let fit = picks-fit (a ∷ b ∷ c ∷ d ∷ []) in
-      let r1 = h1 u (o .read) in
-      let r2 = h2 u u1 (o .read) r1 (sym (filled-alike (x1 ∷ []) u (o .read .size) (fit .0, tt) .1 11 refl)) in
-      let r3 = h3 u u2 (o .read) r2 (sym (filled-alike (x1 ∷ x2 ∷ []) u (o .read .size) (fit .0, (fit .1 .0, tt)) .1 13 refl)) in
-      let r4 = h4 u u3 (o .read) r3 (sym (filled-alike (x1 ∷ x2 ∷ x3 ∷ []) u (o .read .size) (fit .0, (fit .1 .0, (fit .1 .1 .0, tt))) .1 14 refl)) in
+      let fit = picks-fit D (a ∷ b ∷ c ∷ d ∷ []) in
+      let r1 = h1 D u (o .read) in
+      let r2 = h2 D u u1 (o .read) r1 (sym (filled-alike (x1 ∷ []) u (o .read .size) (fit .0, tt) .1 11 refl)) in
+      let r3 = h3 D u u2 (o .read) r2 (sym (filled-alike (x1 ∷ x2 ∷ []) u (o .read .size) (fit .0, (fit .1 .0, tt)) .1 13 refl)) in
+      let r4 = h4 D u u3 (o .read) r3 (sym (filled-alike (x1 ∷ x2 ∷ x3 ∷ []) u (o .read .size) (fit .0, (fit .1 .0, (fit .1 .1 .0, tt))) .1 14 refl)) in
       let a0 = filled-alike (x1 ∷ x2 ∷ x3 ∷ x4 ∷ []) u (o .read .size) fit .1 in
       let a1 = filled-alike (x2 ∷ x3 ∷ x4 ∷ []) u1 (r1 .size) (fit .1) .1 in
       let a2 = filled-alike (x3 ∷ x4 ∷ []) u2 (r2 .size) (fit .1 .1) .1 in
       let a3 = filled-alike (x4 ∷ []) u3 (r3 .size) (fit .1 .1 .1) .1 in
-      let b4 : budget u4 ≡ true = sym (spared-class varying u u4 a0 refl) ∙ o .class in
-      let e0 = tested varying fixedRules f k u u4 h (o .read) a0 b4 refl refl in
-      let e1 = tested (11 ∷ 13 ∷ 14 ∷ []) statusRules f1 k1 u1 u4 t1 r1 a1 b4 refl refl in
-      let e2 = tested (13 ∷ 14 ∷ []) basisRules f2 k2 u2 u4 t2 r2 a2 b4 refl refl in
-      let e3 = tested (14 ∷ []) documentRules f3 k3 u3 u4 t3 r3 a3 b4 refl refl in
-      let e4 = t4 u4 r4 b4 in
+      let b4 : budget u4 ≡ true = sym (spared-class D varying u u4 a0 refl) ∙ o .class in
+      let e0 = tested D varying fixedRules f k u u4 h (o .read) a0 b4 refl refl in
+      let e1 = tested D (11 ∷ 13 ∷ 14 ∷ []) statusRules f1 k1 u1 u4 t1 r1 a1 b4 refl refl in
+      let e2 = tested D (13 ∷ 14 ∷ []) basisRules f2 k2 u2 u4 t2 r2 a2 b4 refl refl in
+      let e3 = tested D (14 ∷ []) documentRules f3 k3 u3 u4 t3 r3 a3 b4 refl refl in
+      let e4 = t4 D u4 r4 b4 in
       simp and-assoc
-      ((λ i. e0 i && (e1 i && (e2 i && (e3 i && e4 i)))) ∙ sym (all-grouped u4 b4 (sym (spared varying u u4 a0 basic refl) ∙ o .basics)))
+      ((λ i. e0 i && (e1 i && (e2 i && (e3 i && e4 i)))) ∙ sym (all-grouped D u4 b4 (sym (spared D varying u u4 a0 basic refl) ∙ o .basics)))
 
 -- a sheet that breaks one of some rules does not keep all; where the rules read none of the four fields, no pick passes
-pub unkept : (t : Sheet) (ns : List ℕ) → every (λ (n : ℕ). among n order) ns ≡ true → every (keeps t) ns ≡ false → keepsAll t ≡ false
+pub unkept : (D : Dates) (t : Sheet) (ns : List ℕ) → every (λ (n : ℕ). among n order) ns ≡ true → every (keeps D t) ns ≡ false → keepsAll D t ≡ false
 unfolding keepsAll
-unkept t ns m h = go (keepsAll t) refl
+unkept D t ns m h = go (keepsAll D t) refl
   where
-    go : (b : Bool) → keepsAll t ≡ b → b ≡ false
-    go true e = absurd (false≢true (sym h ∙ every-within (keeps t) order ns m e))
+    go : (b : Bool) → keepsAll D t ≡ b → b ≡ false
+    go true e = absurd (false≢true (sym h ∙ every-within (keeps D t) order ns m e))
     go false e = refl
 
-pub broken-fixed : (u : Sheet) (ns : List ℕ) → length u ≡ 390 → every (λ (n : ℕ). among n order) ns ≡ true → spare varying ns ≡ true → every (keeps u) ns ≡ false → (q : List ℕ) → passesAt u q ≡ false
+pub broken-fixed : (D : Dates) (u : Sheet) (ns : List ℕ) → length u ≡ 390 → every (λ (n : ℕ). among n order) ns ≡ true → spare varying ns ≡ true → every (keeps D u) ns ≡ false → (q : List ℕ) → passesAt D u q ≡ false
 unfolding passesAt
-broken-fixed u ns size m a h q = unkept (pickedOf u q) ns m (sym (spared varying u (pickedOf u q) (picked-alike u q size .1) ns a) ∙ h)
+broken-fixed D u ns size m a h q = unkept D (pickedOf D u q) ns m (sym (spared D varying u (pickedOf D u q) (picked-alike D u q size .1) ns a) ∙ h)
 
 -- where nothing passes, all are counted
 pub none-look : {A : Type 0} (p : A → Bool) → ((x : A) → p x ≡ false) → (l : List A) (n : ℕ) → look p n l ≡ none (n + length l)
@@ -100,21 +102,21 @@ none-look p h (x ∷ l) n = rw (h x) (none-look p h l (n + 1) ∙ ap none (omega
 abbrev pub rest : List ℕ → Picks
 rest ns = product (map (λ (n : ℕ). places n 0) ns)
 
-pub first-pick : (u : Sheet) (n101 n106 n108 n109 : ℕ) → n101 ≡ width (blank (textOf u 6)) statusCount → n106 ≡ width (blank (textOf u 11)) basisCount
+pub first-pick : (D : Dates) (u : Sheet) (n101 n106 n108 n109 : ℕ) → n101 ≡ width (blank (textOf u 6)) (statusCount D) → n106 ≡ width (blank (textOf u 11)) basisCount
     → n108 ≡ width (blank (textOf u 13)) zeroCount → n109 ≡ width (blank (textOf u 14)) zeroCount
-    → firstPick u ≡ look (passesAt u) 0 (map (λ (t : List ℕ). t) (rest (n101 ∷ n106 ∷ n108 ∷ n109 ∷ [])) ++ [])
+    → firstPick D u ≡ look (passesAt D u) 0 (map (λ (t : List ℕ). t) (rest (n101 ∷ n106 ∷ n108 ∷ n109 ∷ [])) ++ [])
 unfolding firstPick picks
-first-pick u n101 n106 n108 n109 e1 e2 e3 e4 =
-    ap (look (passesAt u) 0) (sym (append-nil _ ∙ map-id (rest (n101 ∷ n106 ∷ n108 ∷ n109 ∷ [])) ∙ (λ i. rest (e1 i ∷ e2 i ∷ e3 i ∷ e4 i ∷ []))))
+first-pick D u n101 n106 n108 n109 e1 e2 e3 e4 =
+    ap (look (passesAt D u) 0) (sym (append-nil _ ∙ map-id (rest (n101 ∷ n106 ∷ n108 ∷ n109 ∷ [])) ∙ (λ i. rest (e1 i ∷ e2 i ∷ e3 i ∷ e4 i ∷ []))))
 
 -- ---- where one of the rules that read none of the four fields is broken, no pick is looked at
 
-pub none-passes : (f : Facts) (k : Bool) → Kept f k fixedRules → not k ≡ true → (n : ℕ) → ((s : Sheet) → Read f s → n ≡ length (picks s)) → (s : Sheet) → Payment f s → Nothing n ≡ foundOf (firstPick s)
+pub none-passes : (f : Facts) (k : Bool) → Kept f k fixedRules → not k ≡ true → (n : ℕ) → ((D : Dates) (s : Sheet) → Read D f s → n ≡ length (picks D s)) → (D : Dates) (s : Sheet) → Payment D f s → Nothing n ≡ foundOf (firstPick D s)
 unfolding firstPick passesAt every any are among
-none-passes f k h e n c s o =
-    let b : every (keeps s) fixedRules ≡ false = sym (h s (o .read) (o .class)) ∙ not-true k e in
-    let p = broken-fixed s fixedRules (o .read .size) refl refl b in
-    ap Nothing (c s (o .read)) ∙ sym (ap foundOf (none-look (passesAt s) p (picks s) 0 ∙ ap none (omega arith)))
+none-passes f k h e n c D s o =
+    let b : every (keeps D s) fixedRules ≡ false = sym (h D s (o .read) (o .class)) ∙ not-true k e in
+    let p = broken-fixed D s fixedRules (o .read .size) refl refl b in
+    ap Nothing (c D s (o .read)) ∙ sym (ap foundOf (none-look (passesAt D s) p (picks D s) 0 ∙ ap none (omega arith)))
 
 -- count_all: how many fillings have one entry in 101 and 106, and one in 101
 abbrev pub ofBasis : ℕ
@@ -123,14 +125,18 @@ ofBasis = zeroCount * zeroCount
 abbrev pub ofStatus : ℕ
 ofStatus = basisCount * ofBasis
 
-pub most : (a b c d : ℕ) → a ≤ statusCount → b ≤ basisCount → c ≤ zeroCount → d ≤ zeroCount → (c * d ≤ ofBasis) × (b * (c * d) ≤ ofStatus) × (a * (b * (c * d)) ≤ mostFillings)
+-- no more than all statuses
+pub within-all : {a n : ℕ} → a ≤ n → n ≤ 23 → a ≤ 23
+within-all h k = omega arith
+
+pub most : (a b c d : ℕ) → a ≤ 23 → b ≤ basisCount → c ≤ zeroCount → d ≤ zeroCount → (c * d ≤ ofBasis) × (b * (c * d) ≤ ofStatus) × (a * (b * (c * d)) ≤ 23 * ofStatus)
 most a b c d ha hb hc hd =
     let two = mul-le-mul hc hd in
     let three = mul-le-mul hb two in
     (two, three, mul-le-mul ha three)
 
-module _ (f : Facts) (a b c d : Bool) (ha : (s : Sheet) → Read f s → a ≡ blank (textOf s 6)) (hb : (s : Sheet) → Read f s → b ≡ blank (textOf s 11)) (hc : (s : Sheet) → Read f s → c ≡ blank (textOf s 13)) (hd : (s : Sheet) → Read f s → d ≡ blank (textOf s 14)) where
-  pub all-counted : (n101 n106 n108 n109 : ℕ) → n101 ≡ width a statusCount → n106 ≡ width b basisCount → n108 ≡ width c zeroCount → n109 ≡ width d zeroCount → (s : Sheet) → Read f s → n101 * (n106 * (n108 * n109)) ≡ length (picks s)
+module _ (f : Facts) (a b c d : Bool) (n : ℕ) (hn : (D : Dates) (s : Sheet) → Read D f s → n ≡ statusCount D) (ha : (D : Dates) (s : Sheet) → Read D f s → a ≡ blank (textOf s 6)) (hb : (D : Dates) (s : Sheet) → Read D f s → b ≡ blank (textOf s 11)) (hc : (D : Dates) (s : Sheet) → Read D f s → c ≡ blank (textOf s 13)) (hd : (D : Dates) (s : Sheet) → Read D f s → d ≡ blank (textOf s 14)) where
+  pub all-counted : (n101 n106 n108 n109 : ℕ) → n101 ≡ width a n → n106 ≡ width b basisCount → n108 ≡ width c zeroCount → n109 ≡ width d zeroCount → (D : Dates) (s : Sheet) → Read D f s → n101 * (n106 * (n108 * n109)) ≡ length (picks D s)
   unfolding picks
-  all-counted n101 n106 n108 n109 e1 e2 e3 e4 s o =
-      rw (e1, e2, e3, e4, ha s o, hb s o, hc s o, hd s o) (sym (length-picks _ _ _ _))
+  all-counted n101 n106 n108 n109 e1 e2 e3 e4 D s o =
+      rw (e1, e2, e3, e4, hn D s o, ha D s o, hb D s o, hc D s o, hd D s o) (sym (length-picks _ _ _ _))

@@ -20,6 +20,7 @@ use Rattle.texts.specs.declared.answers.Refusal.{Refusal}
 use Rattle.drafts.specs.declared.message.Reading.{Reading}
 use Rattle.drafts.specs.declared.message.Reading.the-variants.{Message, Refused}
 use Rattle.drafts.specs.declared.draft.Posted.{Posted}
+use Rattle.sheets.specs.declared.dates.Dates.{Dates}
 use Rattle.orders.specs.Complete.{completing, completed, completeAnswer}
 use Rattle.orders.specs.Whole.{Whole, Completes}
 use Rattle.orders.specs.Stream.{pieceOf, endsStream, pieces, messagesOf, Streams}
@@ -141,13 +142,14 @@ module _ (i : List ℕ) (k : ℕ) (h : k < length i) (s m : List ℕ) (es : s �
 
 -- ---- the whole
 
-pub streamed : (i b d : List ℕ) (r : Completed) (t : List ℕ) → Postings (messagesOf i) d → Completes d b r t → Streams i b r t
-streamed i b d r t L C = record {
-  answer = C .answer ∙ ap (λ (x : List ℕ). completing x b) (L .draft);
-  sheet = C .sheet ∙ ap (λ (x : List ℕ). completed x b) (L .draft);
+pub streamed : (D : Dates) (i b d : List ℕ) (r : Completed) (t : List ℕ) → Postings (messagesOf i) d → Completes D d b r t → Streams D i b r t
+streamed D i b d r t L C = record {
+  answer = C .answer ∙ ap (λ (x : List ℕ). completing D x b) (L .draft);
+  sheet = C .sheet ∙ ap (λ (x : List ℕ). completed D x b) (L .draft);
   refused = C .refused;
   sized = C .sized (left-formed (messagesOf i) d L);
-  whole = subst (λ (x : List ℕ). Whole (messagesOf i) x b (completeAnswer r) t) (L .draft) (C .whole (messagesOf i) L);
+  undated = C .undated (left-formed (messagesOf i) d L);
+  whole = subst (λ (x : List ℕ). Whole D (messagesOf i) x b (completeAnswer r) t) (L .draft) (C .whole (messagesOf i) L);
 }
 
 pub ruleset streams = (needs, piece-is, ends-not, ends-by, stream-none, stream-within, stream-less, stream-last, stream-next, stream-done)

@@ -22,6 +22,8 @@ use Rattle.drafts.proofs.Slots.{Formed, formed-means, formed-by}
 use Rattle.drafts.proofs.EndSlots.{all-formed}
 use Rattle.drafts.proofs.Arrangements.{held-by}
 use Rattle.drafts.proofs.DraftSheets.{length-sheet}
+use Rattle.sheets.specs.Dates.{datesFit}
+use Rattle.sheets.specs.declared.dates.Dates.{Dates}
 use Rattle.orders.specs.Fillings.{Filling, Place, Look, found, none, fillings, firstFilling}
 use Rattle.orders.specs.Complete.{setOf, budgetPayment, completeAnswer, nothing, counted, sheetIn, sheetTests, completeTests, completing, completed}
 use Rattle.orders.specs.Whole.{countOf, FirstFilling, All, FilledSet, Unpaid, broken, ordinary, Whole, Completes}
@@ -47,58 +49,58 @@ abbrev pub lookSheet : List ℕ → Look (List ℕ) → List ℕ
 lookSheet b o = bufferBy ((nothing o refuses 10 with (counted o ∷ [])) ∷ []) (sheetIn b o) b
 
 -- completing a well-formed budget payment is what looking through its fillings finds
-module _ (d b : List ℕ) (f : draftFormed d ≡ true) (z : length b ≡ 390) (p : budgetPayment (draftSheet d) ≡ true) where
-  kept : (every (keeps (draftSheet d)) basic ≡ true) × (budget (draftSheet d) ≡ true)
+module _ (D : Dates) (d b : List ℕ) (f : draftFormed d ≡ true) (z : length b ≡ 390) (t : datesFit D ≡ true) (p : budgetPayment D (draftSheet d) ≡ true) where
+  kept : (every (keeps D (draftSheet d)) basic ≡ true) × (budget (draftSheet d) ≡ true)
   unfolding budgetPayment
-  kept = both (every (keeps (draftSheet d)) basic) (budget (draftSheet d)) p
+  kept = both (every (keeps D (draftSheet d)) basic) (budget (draftSheet d)) p
 
-  pub answer-is : completing d b ≡ lookAnswer (draftSheet d) (firstFilling (draftSheet d))
+  pub answer-is : completing D d b ≡ lookAnswer (draftSheet d) (firstFilling D (draftSheet d))
   unfolding completing completeTests sheetTests
-  answer-is = rw (f, z, kept-none (keeps (draftSheet d)) basic (kept .0), kept .1)
+  answer-is = rw (f, z, t, kept-none (keeps D (draftSheet d)) basic (kept .0), kept .1)
 
-  pub sheet-is : completed d b ≡ lookSheet b (firstFilling (draftSheet d))
+  pub sheet-is : completed D d b ≡ lookSheet b (firstFilling D (draftSheet d))
   unfolding completed completeTests sheetTests
-  sheet-is = rw (f, z, kept-none (keeps (draftSheet d)) basic (kept .0), kept .1)
+  sheet-is = rw (f, z, t, kept-none (keeps D (draftSheet d)) basic (kept .0), kept .1)
 
 -- the promise, by what the look found
-module _ (s b : List ℕ) (z : length s ≡ 390) where
-  found-first : (n : ℕ) (t : List ℕ) → firstFilling s ≡ found n t → FirstFilling s t n
+module _ (D : Dates) (s b : List ℕ) (z : length s ≡ 390) where
+  found-first : (n : ℕ) (t : List ℕ) → firstFilling D s ≡ found n t → FirstFilling D s t n
   unfolding firstFilling
   found-first n t e =
-      let w = look-found keepsAll (fillings s) n t e in
-      let m : List·Memᴰ t (fillings s) = subst (List·Memᴰ t) (sym (w .split)) (Memᴰ·append-right (w .before) (List·Memᴰ·head refl)) in
+      let w = look-found (keepsAll D) (fillings D s) n t e in
+      let m : List·Memᴰ t (fillings D s) = subst (List·Memᴰ t) (sym (w .split)) (Memᴰ·append-right (w .before) (List·Memᴰ·head refl)) in
       record {
-        filling = filling-of s z t m;
+        filling = filling-of D s z t m;
         keeps = w .passes;
-        unchanged = given-stays s t (filling-of s z t m);
-        place = subst (Place s t) (sym (w .place)) (place-of s z (w .before) (w .after) t (w .split));
-        first = λ g p q. w .fails g (earlier-before s z (w .before) (w .after) t (w .split) g p q);
+        unchanged = given-stays D s t (filling-of D s z t m);
+        place = subst (Place D s t) (sym (w .place)) (place-of D s z (w .before) (w .after) t (w .split));
+        first = λ g p q. w .fails g (earlier-before D s z (w .before) (w .after) t (w .split) g p q);
       }
 
-  pub refused-by : (o : Look (List ℕ)) → firstFilling s ≡ o → (numberOf (lookAnswer s o) ≡ 10) ↔ ((f : List ℕ) → Filling s f → keepsAll f ≡ false)
+  pub refused-by : (o : Look (List ℕ)) → firstFilling D s ≡ o → (numberOf (lookAnswer s o) ≡ 10) ↔ ((f : List ℕ) → Filling D s f → keepsAll D f ≡ false)
   unfolding firstFilling
   refused-by (found n t) e =
       let w = found-first n t e in
       (λ q. absurd (omega arith), λ h. absurd (true≢false (sym (w .keeps) ∙ h t (w .filling))))
-  refused-by (none n) e = (λ q f w. look-none keepsAll (fillings s) n e .1 f (of-filling s z f w), λ h. refl)
+  refused-by (none n) e = (λ q f w. look-none (keepsAll D) (fillings D s) n e .1 f (of-filling D s z f w), λ h. refl)
 
-  filled-by : (o : Look (List ℕ)) → firstFilling s ≡ o → (numberOf (lookAnswer s o) ≡ 10 → ⊥) → FirstFilling s (lookSheet b o) (countOf (lookAnswer s o))
+  filled-by : (o : Look (List ℕ)) → firstFilling D s ≡ o → (numberOf (lookAnswer s o) ≡ 10 → ⊥) → FirstFilling D s (lookSheet b o) (countOf (lookAnswer s o))
   filled-by (found n t) e h = found-first n t e
   filled-by (none n) e h = absurd (h refl)
 
-  pub all-by : (o : Look (List ℕ)) → firstFilling s ≡ o → numberOf (lookAnswer s o) ≡ 10 → (lookAnswer s o ≡ refusal 10 (countOf (lookAnswer s o) ∷ [])) × All s (countOf (lookAnswer s o))
+  pub all-by : (o : Look (List ℕ)) → firstFilling D s ≡ o → numberOf (lookAnswer s o) ≡ 10 → (lookAnswer s o ≡ refusal 10 (countOf (lookAnswer s o) ∷ [])) × All D s (countOf (lookAnswer s o))
   unfolding firstFilling
   all-by (found n t) e h = absurd (omega arith)
   all-by (none n) e h =
-      let c = look-none keepsAll (fillings s) n e .0 in (
+      let c = look-none (keepsAll D) (fillings D s) n e .0 in (
         refl,
         record {
-          list = fillings s;
+          list = fillings D s;
           count = c;
-          holds = λ g. (filling-of s z g, of-filling s z g);
-          once = once-all s z;
-          most = rw c (fillings-most s);
-          one = λ k. c ∙ fillings-one s k;
+          holds = λ g. (filling-of D s z g, of-filling D s z g);
+          once = once-all D s z;
+          most = rw c (fillings-most D s);
+          one = λ k. c ∙ fillings-one D s k;
         },
       )
 
@@ -111,32 +113,32 @@ unfolding every
 basic-numbered = refl
 
 -- a draft that is no budget payment
-module _ (d b : List ℕ) (f : draftFormed d ≡ true) (z : length b ≡ 390) where
-  unpaid-by : budgetPayment (draftSheet d) ≡ false → Unpaid (draftSheet d) (completing d b)
+module _ (D : Dates) (d b : List ℕ) (f : draftFormed d ≡ true) (z : length b ≡ 390) (t : datesFit D ≡ true) where
+  unpaid-by : budgetPayment D (draftSheet d) ≡ false → Unpaid D (draftSheet d) (completing D d b)
   unfolding completing completeTests sheetTests budgetPayment
-  unpaid-by p = go (every (keeps (draftSheet d)) basic) (budget (draftSheet d)) refl refl p
+  unpaid-by p = go (every (keeps D (draftSheet d)) basic) (budget (draftSheet d)) refl refl p
     where
-      go : (k c : Bool) → every (keeps (draftSheet d)) basic ≡ k → budget (draftSheet d) ≡ c → (k && c) ≡ false → Unpaid (draftSheet d) (completing d b)
+      go : (k c : Bool) → every (keeps D (draftSheet d)) basic ≡ k → budget (draftSheet d) ≡ c → (k && c) ≡ false → Unpaid D (draftSheet d) (completing D d b)
       go true true ek ec h = absurd (true≢false h)
-      go true false ek ec h = rw (f, z, kept-none (keeps (draftSheet d)) basic ek, ec) (ordinary ek (ordinary-class (draftSheet d) ec))
+      go true false ek ec h = rw (f, z, t, kept-none (keeps D (draftSheet d)) basic ek, ec) (ordinary ek (ordinary-class (draftSheet d) ec))
       go false c ek ec h =
           let s = draftSheet d in
-          let (before, n, after, e, k, p, i) = split (keeps s) basic (λ q. false≢true (sym ek ∙ q)) in
-          let y : n ≡ 0 → ⊥ = λ q. false≢true (sym ek ∙ none-kept (keeps s) basic basic-numbered (i ∙ q)) in
-          rw (f, z, i, ne-eqb n 0 y) (broken before after n e k p)
+          let (before, n, after, e, k, p, i) = split (keeps D s) basic (λ q. false≢true (sym ek ∙ q)) in
+          let y : n ≡ 0 → ⊥ = λ q. false≢true (sym ek ∙ none-kept (keeps D s) basic basic-numbered (i ∙ q)) in
+          rw (f, z, t, i, ne-eqb n 0 y) (broken before after n e k p)
 
-pub whole-law : (ms : List (List ℕ)) (d b : List ℕ) → Postings ms d → Whole ms d b (completing d b) (completed d b)
-whole-law ms d b L =
+pub whole-law : (D : Dates) (ms : List (List ℕ)) (d b : List ℕ) → Postings ms d → Whole D ms d b (completing D d b) (completed D d b)
+whole-law D ms d b L =
     let s = draftSheet d in
     let f = left-formed ms d L in
     let z = length-draftSheet d f in
     record {
       held = held-by ms d L;
-      refused = λ l p. rw (answer-is d b f l p) (refused-by s b z (firstFilling s) refl);
-      all = λ l p. rw (answer-is d b f l p) (all-by s b z (firstFilling s) refl);
-      filled = λ l p. rw (answer-is d b f l p, sheet-is d b f l p) (filled-by s b z (firstFilling s) refl);
-      answered = λ l p. rw (answer-is d b f l p) (answered-by s b z (firstFilling s));
-      unpaid = λ l p. unpaid-by d b f l p;
+      refused = λ l t p. rw (answer-is D d b f l t p) (refused-by D s b z (firstFilling D s) refl);
+      all = λ l t p. rw (answer-is D d b f l t p) (all-by D s b z (firstFilling D s) refl);
+      filled = λ l t p. rw (answer-is D d b f l t p, sheet-is D d b f l t p) (filled-by D s b z (firstFilling D s) refl);
+      answered = λ l t p. rw (answer-is D d b f l t p) (answered-by D s b z (firstFilling D s));
+      unpaid = λ l t p. unpaid-by D d b f l t p;
     }
 
 -- refusals: a test that is true, and no other, gives its number
@@ -147,33 +149,42 @@ filled-of (Impossible m) n set k e = absurd (no-success 10 _ _ e)
 filled-of (Broken g m) n set k e = absurd (no-success 8 _ _ e)
 filled-of (Refused m) n set k e = absurd (no-success (m .0) _ _ e)
 
-module _ (d b : List ℕ) where
+module _ (D : Dates) (d b : List ℕ) where
   values : List ℕ
-  values = counted (firstFilling (draftSheet d)) ∷ setOf (draftSheet d) ∷ ones (setOf (draftSheet d)) ∷ []
+  values = counted (firstFilling D (draftSheet d)) ∷ setOf (draftSheet d) ∷ ones (setOf (draftSheet d)) ∷ []
 
-  malformed-by : (numberOf (completing d b) ≡ 1) ↔ (draftFormed d ≡ false)
+  malformed-by : (numberOf (completing D d b) ≡ 1) ↔ (draftFormed d ≡ false)
   unfolding completing completeTests sheetTests values
   malformed-by = (λ h. go (draftFormed d) refl h, λ w. rw w)
     where
-      go : (w : Bool) → draftFormed d ≡ w → numberOf (completing d b) ≡ 1 → w ≡ false
+      go : (w : Bool) → draftFormed d ≡ w → numberOf (completing D d b) ≡ 1 → w ≡ false
       go false e h = refl
-      go true e h = absurd (never 1 values ((not (eqb (length b) 390) refuses 7) ∷ sheetTests (draftSheet d)) (λ z. omega arith) refl (rw e at h))
+      go true e h = absurd (never 1 values ((not (eqb (length b) 390) refuses 7) ∷ (not (datesFit D) refuses 12) ∷ sheetTests D (draftSheet d)) (λ z. omega arith) refl (rw e at h))
 
-  sized-by : draftFormed d ≡ true → (numberOf (completing d b) ≡ 7) ↔ (length b ≡ 390 → ⊥)
+  sized-by : draftFormed d ≡ true → (numberOf (completing D d b) ≡ 7) ↔ (length b ≡ 390 → ⊥)
   unfolding completing completeTests sheetTests values
   sized-by w = (
-    λ h l. never 7 values (sheetTests (draftSheet d)) (λ z. omega arith) refl (rw (w, l) at h),
+    λ h l. never 7 values ((not (datesFit D) refuses 12) ∷ sheetTests D (draftSheet d)) (λ z. omega arith) refl (rw (w, l) at h),
     λ n. simp (w, ne-eqb (length b) 390 n),
   )
 
+  undated-by : draftFormed d ≡ true → length b ≡ 390 → (numberOf (completing D d b) ≡ 12) ↔ (datesFit D ≡ false)
+  unfolding completing completeTests sheetTests values
+  undated-by w z = (λ h. go (datesFit D) refl h, λ t. rw (w, z, t))
+    where
+      go : (t : Bool) → datesFit D ≡ t → numberOf (completing D d b) ≡ 12 → t ≡ false
+      go false e h = refl
+      go true e h = absurd (never 12 values (sheetTests D (draftSheet d)) (λ y. omega arith) refl (rw (w, z, e) at h))
+
 -- the promise of `complete`, from the two equations that its code is proved to meet
-pub completes-by : (d b : List ℕ) (r : Completed) (t : List ℕ) → completeAnswer r ≡ completing d b → t ≡ completed d b → Completes d b r t
+pub completes-by : (D : Dates) (d b : List ℕ) (r : Completed) (t : List ℕ) → completeAnswer r ≡ completing D d b → t ≡ completed D d b → Completes D d b r t
 unfolding completing completed
-completes-by d b r t p q = record {
+completes-by D d b r t p q = record {
   answer = p;
   sheet = q;
-  refused = λ h. q ∙ unchanged _ _ _ (completeTests d b) (λ e. h _ _ _ (filled-of r _ _ _ (p ∙ e)));
-  malformed = rw p (malformed-by d b);
-  sized = rw p (sized-by d b);
-  whole = λ ms L. rw (p, q) (whole-law ms d b L);
+  refused = λ h. q ∙ unchanged _ _ _ (completeTests D d b) (λ e. h _ _ _ (filled-of r _ _ _ (p ∙ e)));
+  malformed = rw p (malformed-by D d b);
+  sized = rw p (sized-by D d b);
+  undated = rw p (undated-by D d b);
+  whole = λ ms L. rw (p, q) (whole-law D ms d b L);
 }

@@ -9,6 +9,8 @@ use lib.ListN.{length}
 use Rattle.texts.specs.Texts.{every}
 use Rattle.texts.specs.Answers.{Answer, success, refusal, Test, _refuses_, _refuses_with_, answerBy, bufferBy}
 use Rattle.sheets.specs.Sheet.{slots, sheetSize}
+use Rattle.sheets.specs.Dates.{datesFit}
+use Rattle.sheets.specs.declared.dates.Dates.{Dates}
 use Rattle.rules.specs.Rules.{budget, rules, basic, keeps, firstBroken}
 use Rattle.rules.specs.Verdicts.{brokenRule}
 use Rattle.drafts.specs.Draft.{draftFormed, draftSheet}
@@ -25,8 +27,8 @@ unfoldable pub setOf : List ℕ → ℕ
 setOf s = bits s slots
 
 -- "With 1 to 3 kept, a sheet has a class"; "A budget payment is a sheet of class A or B"
-unfoldable pub budgetPayment : List ℕ → Bool
-budgetPayment s = every (keeps s) basic && budget s
+unfoldable pub budgetPayment : Dates → List ℕ → Bool
+budgetPayment D s = every (keeps D s) basic && budget s
 
 -- document 01's number and values for each case
 unfoldable pub completeAnswer : Completed → Answer
@@ -49,24 +51,24 @@ sheetIn b (found n f) = f
 sheetIn b (none n) = b
 
 -- of the draft's sheet s: "a broken rule; in completion only 1 to 3", "completion of class O"
-abbrev pub unpaidTests : List ℕ → List Test
-unpaidTests s =
-    brokenRule rules (firstBroken s basic) s
+abbrev pub unpaidTests : Dates → List ℕ → List Test
+unpaidTests D s =
+    brokenRule rules (firstBroken D s basic) s
     ∷ (not (budget s) refuses 9)
     ∷ []
 
 -- and "no filling keeps the rules"
-unfoldable pub sheetTests : List ℕ → List Test
-sheetTests s = unpaidTests s ++ ((nothing (firstFilling s) refuses 10 with (counted (firstFilling s) ∷ [])) ∷ [])
+unfoldable pub sheetTests : Dates → List ℕ → List Test
+sheetTests D s = unpaidTests D s ++ ((nothing (firstFilling D s) refuses 10 with (counted (firstFilling D s) ∷ [])) ∷ [])
 
--- "draft or sheet malformed", "output: a sheet not of 390", and these
-unfoldable pub completeTests : List ℕ → List ℕ → List Test
-completeTests d b = (not (draftFormed d) refuses 1) ∷ (not (eqb (length b) sheetSize) refuses 7) ∷ sheetTests (draftSheet d)
+-- "draft or sheet malformed", "output: a sheet not of 390", 12 "just before 8", and these
+unfoldable pub completeTests : Dates → List ℕ → List ℕ → List Test
+completeTests D d b = (not (draftFormed d) refuses 1) ∷ (not (eqb (length b) sheetSize) refuses 7) ∷ (not (datesFit D) refuses 12) ∷ sheetTests D (draftSheet d)
 
 -- completing the draft d into the buffer b: "the first filling that keeps all rules, the count of fillings up to and including it, a
 -- 16-bit set of the filled slots, and how many bits are set"
-unfoldable pub completing : List ℕ → List ℕ → Answer
-completing d b = answerBy (completeTests d b) (counted (firstFilling (draftSheet d)) ∷ setOf (draftSheet d) ∷ ones (setOf (draftSheet d)) ∷ [])
+unfoldable pub completing : Dates → List ℕ → List ℕ → Answer
+completing D d b = answerBy (completeTests D d b) (counted (firstFilling D (draftSheet d)) ∷ setOf (draftSheet d) ∷ ones (setOf (draftSheet d)) ∷ [])
 
-unfoldable pub completed : List ℕ → List ℕ → List ℕ
-completed d b = bufferBy (completeTests d b) (sheetIn b (firstFilling (draftSheet d))) b
+unfoldable pub completed : Dates → List ℕ → List ℕ → List ℕ
+completed D d b = bufferBy (completeTests D d b) (sheetIn b (firstFilling D (draftSheet d))) b

@@ -3,4 +3,5 @@ pub mod Complete
 pub mod Whole
 pub mod Pretest
 pub mod Stream
+pub mod R7
 pub mod Working

@@ -1,13 +1,15 @@
 -- The messages of an input (document 01, "Writer and program"), and demand 3 of posting them and completing. Assumes nothing.
 use mathlib.Core.Path.{_≡_}
 use mathlib.Core.Logic.{_↔_}
-use mathlib.Core.Bool.{Bool, cond}
+use mathlib.Core.Bool.{Bool, false, cond}
 use mathlib.Core.List.{List, [], _∷_}
 use Prim.Native.Nat.{ℕ, zero, suc, _+_}
 use lib.Dec.{eqb}
 use lib.ListN.{length, take, drop}
 use Rattle.texts.specs.Answers.{numberOf}
 use Rattle.sheets.specs.Sheet.{sheetSize}
+use Rattle.sheets.specs.Dates.{datesFit}
+use Rattle.sheets.specs.declared.dates.Dates.{Dates}
 use Rattle.drafts.specs.Message.{lengthOf, readingOf}
 use Rattle.drafts.specs.History.{postedAll}
 use Rattle.orders.specs.Complete.{completing, completed, completeAnswer}
@@ -35,11 +37,12 @@ messagesOf i = pieces (length i) i
 
 -- the promise of `complete_stream`: posting the messages of i to a fresh draft, and completing that into a buffer that held b,
 -- returned r and left t
-pub record Streams (i b : List ℕ) (r : Completed) (t : List ℕ) : Type 0 where
-  pub answer : completeAnswer r ≡ completing (postedAll (messagesOf i)) b
-  pub sheet : t ≡ completed (postedAll (messagesOf i)) b
+pub record Streams (D : Dates) (i b : List ℕ) (r : Completed) (t : List ℕ) : Type 0 where
+  pub answer : completeAnswer r ≡ completing D (postedAll (messagesOf i)) b
+  pub sheet : t ≡ completed D (postedAll (messagesOf i)) b
   -- "A refused call changes none of them"; "output: a sheet not of 390"
   pub refused : ((n set k : ℕ) → r ≡ Filled n set k → ⊥) → t ≡ b
   pub sized : (numberOf (completeAnswer r) ≡ 7) ↔ (length b ≡ sheetSize → ⊥)
+  pub undated : length b ≡ sheetSize → (numberOf (completeAnswer r) ≡ 12) ↔ (datesFit D ≡ false)
   -- demand 3, of this list of messages
-  pub whole : Whole (messagesOf i) (postedAll (messagesOf i)) b (completeAnswer r) t
+  pub whole : Whole D (messagesOf i) (postedAll (messagesOf i)) b (completeAnswer r) t

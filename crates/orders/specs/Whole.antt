@@ -8,6 +8,8 @@ use lib.ListN.{length, getD}
 use Rattle.texts.specs.Texts.{every, blank}
 use Rattle.texts.specs.Answers.{Answer, success, refusal, numberOf}
 use Rattle.sheets.specs.Sheet.{slots, sheetSize, cellOf, textOf}
+use Rattle.sheets.specs.Dates.{datesFit}
+use Rattle.sheets.specs.declared.dates.Dates.{Dates}
 use Rattle.rules.specs.Rules.{classOf, rules, basic, fieldOf, keeps, keepsAll}
 use Rattle.rules.specs.declared.class.Class.the-variants.{O}
 use Rattle.drafts.specs.Draft.{draftFormed, draftSheet}
@@ -23,23 +25,23 @@ countOf (success vs) = getD vs 0 0
 countOf (refusal n vs) = getD vs 0 0
 
 -- t is the first filling of s that keeps all rules, and n is its place
-pub record FirstFilling (s t : List ℕ) (n : ℕ) : Type 0 where
-  pub filling : Filling s t
-  pub keeps : keepsAll t ≡ true
+pub record FirstFilling (D : Dates) (s t : List ℕ) (n : ℕ) : Type 0 where
+  pub filling : Filling D s t
+  pub keeps : keepsAll D t ≡ true
   -- "every field that was not blank unchanged"
   pub unchanged : (k : ℕ) → k < 15 → blank (textOf s k) ≡ false → cellOf t k ≡ cellOf s k
   -- "the count is its place in the order"
-  pub place : Place s t n
+  pub place : Place D s t n
   -- "no earlier filling keeps them"
-  pub first : (g : List ℕ) → Filling s g → Earlier s g t → keepsAll g ≡ false
+  pub first : (g : List ℕ) → Filling D s g → Earlier D s g t → keepsAll D g ≡ false
 
 -- n is the number of all fillings of s: the list has each once; "there are at most .., and one if nothing is to be filled"
-pub record All (s : List ℕ) (n : ℕ) : Type 0 where
+pub record All (D : Dates) (s : List ℕ) (n : ℕ) : Type 0 where
   pub list : List (List ℕ)
   pub count : n ≡ length list
-  pub holds : (g : List ℕ) → List·Memᴰ g list ↔ Filling s g
+  pub holds : (g : List ℕ) → List·Memᴰ g list ↔ Filling D s g
   pub once : (a b c : List (List ℕ)) (g : List ℕ) → list ≡ a ++ (g ∷ (b ++ (g ∷ c))) → ⊥
-  pub most : n ≤ mostFillings
+  pub most : n ≤ mostFillings D
   pub one : ((k : ℕ) → toFill s k ≡ false) → n ≡ 1
 
 -- how many of some slots pass a test
@@ -55,46 +57,50 @@ pub record FilledSet (s : List ℕ) (set k : ℕ) : Type 0 where
 
 -- why a draft that is no budget payment is refused, s being its sheet: one of rules 1 to 3 is broken, and the answer names the first of
 -- these and its field; or they are kept, and the class is O
-pub data Unpaid (s : List ℕ) : Answer → Type 0 where
+pub data Unpaid (D : Dates) (s : List ℕ) : Answer → Type 0 where
   broken :
       (before after : List ℕ)
       (n : ℕ)
       → basic ≡ before ++ (n ∷ after)
-      → every (keeps s) before ≡ true
-      → keeps s n ≡ false
-      → Unpaid s (refusal 8 (fieldOf rules n s ∷ n ∷ []))
-  ordinary : every (keeps s) basic ≡ true → classOf s ≡ O → Unpaid s (refusal 9 [])
+      → every (keeps D s) before ≡ true
+      → keeps D s n ≡ false
+      → Unpaid D s (refusal 8 (fieldOf rules n s ∷ n ∷ []))
+  ordinary : every (keeps D s) basic ≡ true → classOf s ≡ O → Unpaid D s (refusal 9 [])
 
--- posting ms one after another from a fresh draft left d; completing d into a buffer that held b answered a and left t
-pub record Whole (ms : List (List ℕ)) (d b : List ℕ) (a : Answer) (t : List ℕ) : Type 0 where
+-- at the dates D: posting ms one after another from a fresh draft left d; completing d into a buffer that held b answered a and left t
+pub record Whole (D : Dates) (ms : List (List ℕ)) (d b : List ℕ) (a : Answer) (t : List ℕ) : Type 0 where
   -- each field ends with its winner, and every arrangement ends in the same draft
   pub held : Held ms d
   -- "Whenever that draft is a budget payment, completing it into a sheet buffer of the right size is refused (10) exactly when no
   -- filling of its blanks keeps all the rules"
   pub refused :
       length b ≡ sheetSize
-      → budgetPayment (draftSheet d) ≡ true
-      → (numberOf a ≡ 10) ↔ ((f : List ℕ) → Filling (draftSheet d) f → keepsAll f ≡ false)
+      → datesFit D ≡ true
+      → budgetPayment D (draftSheet d) ≡ true
+      → (numberOf a ≡ 10) ↔ ((f : List ℕ) → Filling D (draftSheet d) f → keepsAll D f ≡ false)
   -- "number, count of all fillings"
-  pub all : length b ≡ sheetSize → budgetPayment (draftSheet d) ≡ true → numberOf a ≡ 10 → (a ≡ refusal 10 (countOf a ∷ [])) × All (draftSheet d) (countOf a)
+  pub all : length b ≡ sheetSize → datesFit D ≡ true → budgetPayment D (draftSheet d) ≡ true → numberOf a ≡ 10 → (a ≡ refusal 10 (countOf a ∷ [])) × All D (draftSheet d) (countOf a)
   -- "else the sheet returned is a filling that keeps them .."
-  pub filled : length b ≡ sheetSize → budgetPayment (draftSheet d) ≡ true → (numberOf a ≡ 10 → ⊥) → FirstFilling (draftSheet d) t (countOf a)
+  pub filled : length b ≡ sheetSize → datesFit D ≡ true → budgetPayment D (draftSheet d) ≡ true → (numberOf a ≡ 10 → ⊥) → FirstFilling D (draftSheet d) t (countOf a)
   -- and the answer is a success with that count, the set of the filled slots and how many they are
   pub answered :
       length b ≡ sheetSize
-      → budgetPayment (draftSheet d) ≡ true
+      → datesFit D ≡ true
+      → budgetPayment D (draftSheet d) ≡ true
       → (numberOf a ≡ 10 → ⊥)
       → (set : ℕ) × (k : ℕ) × (a ≡ success (countOf a ∷ set ∷ k ∷ [])) × FilledSet (draftSheet d) set k
   -- a draft that is no budget payment is refused with 8 or 9
-  pub unpaid : length b ≡ sheetSize → budgetPayment (draftSheet d) ≡ false → Unpaid (draftSheet d) a
+  pub unpaid : length b ≡ sheetSize → datesFit D ≡ true → budgetPayment D (draftSheet d) ≡ false → Unpaid D (draftSheet d) a
 
 -- the promise of `complete`: completing d into a buffer that held b returned r and left t
-pub record Completes (d b : List ℕ) (r : Completed) (t : List ℕ) : Type 0 where
-  pub answer : completeAnswer r ≡ completing d b
-  pub sheet : t ≡ completed d b
+pub record Completes (D : Dates) (d b : List ℕ) (r : Completed) (t : List ℕ) : Type 0 where
+  pub answer : completeAnswer r ≡ completing D d b
+  pub sheet : t ≡ completed D d b
   -- "A refused call changes none of them"
   pub refused : ((n set k : ℕ) → r ≡ Filled n set k → ⊥) → t ≡ b
   -- "draft or sheet malformed"; "output: a sheet not of 390"
   pub malformed : (numberOf (completeAnswer r) ≡ 1) ↔ (draftFormed d ≡ false)
   pub sized : draftFormed d ≡ true → (numberOf (completeAnswer r) ≡ 7) ↔ (length b ≡ sheetSize → ⊥)
-  pub whole : (ms : List (List ℕ)) → Postings ms d → Whole ms d b (completeAnswer r) t
+  -- "the rest answer 12"
+  pub undated : draftFormed d ≡ true → length b ≡ sheetSize → (numberOf (completeAnswer r) ≡ 12) ↔ (datesFit D ≡ false)
+  pub whole : (ms : List (List ℕ)) → Postings ms d → Whole D ms d b (completeAnswer r) t

@@ -9,11 +9,13 @@ ghost use Rattle.sheets.specs.Working.Entries.{filledAt};
 ghost use Rattle.orders.specs.Working.Entering.{rowCell, baseOf, pickedOf, varying};
 ghost use Rattle.orders.specs.Complete.{setOf};
 use crate::search::Pick;
+use sheets::dates::Dates;
 use sheets::entries::basis_row;
 use sheets::entries::status_row;
 use sheets::entries::zero_row;
 use sheets::facts::is_given;
 use sheets::sheet::CELL_SIZE;
+use sheets::sheet::SHEET_SIZE;
 use sheets::sheet::text;
 use texts::buffers::put;
 use texts::parts::wide;
@@ -52,10 +54,10 @@ pub(crate) fn fill_zeros(sheet: &mut [u8])
 }
 
 // The picked entries into 101, 106, 108 and 109.
-pub(crate) fn fill_picked(sheet: &mut [u8], pick: Pick)
-    ensures { λ _. ⌜ now (sheet .exit) ≡ pickedOf (now (sheet .entry)) (pick .status ∷ pick .basis ∷ pick .document ∷ pick .day ∷ []) ⌝ }
+pub(crate) fn fill_picked(sheet: &mut [u8], pick: Pick, dates: Dates)
+    ensures { λ _. ⌜ now (sheet .exit) ≡ pickedOf dates (now (sheet .entry)) (pick .status ∷ pick .basis ∷ pick .document ∷ pick .day ∷ []) ⌝ }
 {
-    fill_slot(sheet, 6, status_row(pick.status));
+    fill_slot(sheet, 6, status_row(dates, pick.status));
     fill_slot(sheet, 11, basis_row(pick.basis));
     fill_slot(sheet, 13, zero_row(pick.document));
     fill_slot(sheet, 14, zero_row(pick.day));
@@ -70,13 +72,13 @@ fn picks_nothing(sheet: &[u8]) -> bool
 }
 
 // The same, and no list is looked into where nothing is blank.
-pub(crate) fn fill_found(sheet: &mut [u8], pick: Pick)
-    ensures { λ _. ⌜ now (sheet .exit) ≡ pickedOf (now (sheet .entry)) (pick .status ∷ pick .basis ∷ pick .document ∷ pick .day ∷ []) ⌝ }
+pub(crate) fn fill_found(sheet: &mut [u8; SHEET_SIZE], pick: Pick, dates: Dates)
+    ensures { λ _. ⌜ now (sheet .exit) ≡ pickedOf dates (now (sheet .entry)) (pick .status ∷ pick .basis ∷ pick .document ∷ pick .day ∷ []) ⌝ }
 {
     if picks_nothing(sheet) {
         return;
     }
-    fill_picked(sheet, pick);
+    fill_picked(sheet, pick, dates);
 }
 
 // A slot's bit, if the slot is blank.

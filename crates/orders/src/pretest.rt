@@ -1,4 +1,5 @@
 // A test of a draft ahead of completion: a rule that all its fillings break (R-3).
+ghost use Rattle.sheets.specs.declared.dates.Dates.{Dates};
 ghost use Rattle.orders.specs.Pretest.{Pretests};
 use crate::fill::fill_picked;
 use crate::fill::fill_zeros;
@@ -10,6 +11,7 @@ use rules::check::broken_basic;
 use rules::class::is_budget;
 use rules::rules::RuleNumber;
 use rules::rules::field_of;
+use sheets::dates::program_dates;
 use sheets::facts::facts_of;
 use sheets::sheet::Field;
 use sheets::sheet::SHEET_SIZE;
@@ -23,9 +25,9 @@ pub enum Pretested {
     Refused(Refusal),
 }
 
-// A rule of the test has one verdict for all fillings, so that the first filling is looked at.
+// A rule of the test has one verdict for all fillings, whatever the dates allow, so that the first filling at some dates is looked at.
 pub fn pretest(draft: &[u8]) -> Pretested
-    ensures { λ r. ⌜ Pretests (now (draft .entry)) r ⌝ }
+    ensures { λ r. ⌜ ((D : Dates) → Pretests D (now (draft .entry)) r) ⌝ }
 {
     let mut work = [0u8; SHEET_SIZE];
     put_sheet(draft, &mut work);
@@ -33,7 +35,8 @@ pub fn pretest(draft: &[u8]) -> Pretested
         return Pretested::Refused(Refusal(1));
     }
     fill_zeros(&mut work);
-    let f = facts_of(&work);
+    let dates = program_dates();
+    let f = facts_of(&work, dates);
     let broken = broken_basic(f);
     if broken.0 != 0 {
         return Pretested::Broken(field_of(broken, &work), broken);
@@ -47,8 +50,8 @@ pub fn pretest(draft: &[u8]) -> Pretested
         document: 0,
         day: 0,
     };
-    fill_picked(&mut work, first);
-    let named = broken_ahead(facts_of(&work));
+    fill_picked(&mut work, first, dates);
+    let named = broken_ahead(facts_of(&work, dates));
     if named.0 == 0 {
         return Pretested::Unnamed;
     }

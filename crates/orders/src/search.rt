@@ -3,6 +3,7 @@ ghost use mathlib.Core.Path.{_≡_};
 ghost use Prim.Native.Nat.{_≤_};
 ghost use lib.ListN.{length};
 ghost use Rattle.sheets.specs.Sheet.{Sheet};
+ghost use Rattle.sheets.specs.declared.dates.Dates.{Dates};
 ghost use Rattle.sheets.specs.Working.Facts.{Read};
 ghost use Rattle.orders.specs.Working.Search.{width, picks, Payment, firstPick};
 ghost use Rattle.orders.specs.Working.Found.{foundOf};
@@ -21,8 +22,8 @@ use sheets::entries::fill_basis;
 use sheets::entries::fill_day;
 use sheets::entries::fill_document;
 use sheets::entries::fill_status;
+use sheets::entries::status_count;
 use sheets::facts::Facts;
-use sheets::facts::STATUS_COUNT;
 
 fn width_of(blank: bool, listed: usize) -> usize
     requires { ⌜ 1 ≤ listed ⌝ }
@@ -47,7 +48,7 @@ pub enum Found {
 
 // "Order: 101 varies slowest, then 106, 108, 109". Each level tests the rules that ask of its field at last, once.
 fn walk(f: Facts) -> Found
-    ensures { λ r. ⌜ ((s : Sheet) → Payment f s → r ≡ foundOf (firstPick s)) ⌝ }
+    ensures { λ r. ⌜ ((D : Dates) (s : Sheet) → Payment D f s → r ≡ foundOf (firstPick D s)) ⌝ }
 {
     let mut count: usize = 0;
     let mut pick = Pick {
@@ -58,7 +59,7 @@ fn walk(f: Facts) -> Found
     };
     let mut found = false;
     let kept = kept_fixed(f);
-    let n101 = width_of(blank_status(f), STATUS_COUNT);
+    let n101 = width_of(blank_status(f), status_count(f));
     let n106 = width_of(blank_basis(f), BASIS_COUNT);
     let n108 = width_of(blank_document(f), ZERO_COUNT);
     let n109 = width_of(blank_day(f), ZERO_COUNT);
@@ -97,9 +98,9 @@ fn walk(f: Facts) -> Found
 
 // How many fillings there are.
 fn count_all(f: Facts) -> usize
-    ensures { λ r. ⌜ ((s : Sheet) → Read f s → r ≡ length (picks s)) ⌝ }
+    ensures { λ r. ⌜ ((D : Dates) (s : Sheet) → Read D f s → r ≡ length (picks D s)) ⌝ }
 {
-    let statuses = width_of(blank_status(f), STATUS_COUNT);
+    let statuses = width_of(blank_status(f), status_count(f));
     let bases = width_of(blank_basis(f), BASIS_COUNT);
     let documents = width_of(blank_document(f), ZERO_COUNT);
     let days = width_of(blank_day(f), ZERO_COUNT);
@@ -108,7 +109,7 @@ fn count_all(f: Facts) -> usize
 
 // Where a rule is broken that has one verdict for all fillings, as those of the test ahead have (R-3), no filling is looked at.
 pub(crate) fn search(f: Facts) -> Found
-    ensures { λ r. ⌜ ((s : Sheet) → Payment f s → r ≡ foundOf (firstPick s)) ⌝ }
+    ensures { λ r. ⌜ ((D : Dates) (s : Sheet) → Payment D f s → r ≡ foundOf (firstPick D s)) ⌝ }
 {
     if !kept_fixed(f) {
         return Found::Nothing(count_all(f));

@@ -10,6 +10,7 @@ use drafts::draft::fresh;
 use drafts::draft::post;
 use drafts::message::Reading;
 use drafts::message::read;
+use sheets::dates::Dates;
 use texts::numbers::number_of_2;
 use texts::parts::at;
 use texts::parts::part;
@@ -48,11 +49,11 @@ fn post_stream(draft: &mut [u8], input: &[u8])
 }
 
 // Demand 3 of an input: its messages are posted to a fresh draft, one after another, and the draft is completed.
-pub fn complete_stream(input: &[u8], sheet: &mut [u8]) -> Completed
-    ensures { λ r. ⌜ Streams (now (input .entry)) (now (sheet .entry)) r (now (sheet .exit)) ⌝ }
+pub fn complete_stream(input: &[u8], sheet: &mut [u8], dates: Dates) -> Completed
+    ensures { λ r. ⌜ Streams dates (now (input .entry)) (now (sheet .entry)) r (now (sheet .exit)) ⌝ }
 {
     let mut draft = [0u8; DRAFT_SIZE];
     fresh(&mut draft);
     post_stream(&mut draft, input);
-    complete(&draft, sheet)
+    complete(&draft, sheet, dates)
 }

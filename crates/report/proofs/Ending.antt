@@ -1,5 +1,5 @@
 -- The ways through the end of the report, and the whole. Assumes nothing.
-use mathlib.Core.Path.{_≡_, refl, sym, ap, _∙_}
+use mathlib.Core.Path.{_≡_, refl, sym, ap, _∙_, subst}
 use mathlib.Core.Bool.{Bool, true, false, cond, _&&_, and-false}
 use mathlib.Core.List.{List, [], _∷_, _++_, append-assoc}
 use Prim.Native.Nat.{ℕ, suc, _+_, _<_, _≤_}
@@ -20,21 +20,29 @@ use Rattle.drafts.specs.History.{postedAll}
 use Rattle.drafts.specs.Promises.{Freshens}
 use Rattle.texts.specs.declared.answers.Refusal.{Refusal}
 use Rattle.drafts.specs.declared.draft.Begun.{Begun}
+use Rattle.sheets.specs.Dates.{programDates}
+use Rattle.sheets.specs.declared.dates.Dates.{Dates}
 use Rattle.orders.specs.Complete.{completing, completed, completeAnswer}
 use Rattle.orders.specs.Whole.{Completes}
+use Rattle.orders.specs.R7.{completingBefore, completedBefore}
+use Rattle.orders.proofs.Dated.{as-before-completed}
 use Rattle.orders.specs.declared.complete.Completed.{Completed}
 use Rattle.orders.specs.declared.complete.Completed.the-variants.{Filled, Impossible, Broken, Refused}
 use Rattle.report.specs.Lines.{decimal, item, space, newline, Wrote}
 use Rattle.orders.specs.Stream.{messagesOf}
-use Rattle.report.specs.Report.{messageLine, fieldLines, endLines, noSheet, ending, reportFrom, reportOf, reported, Reports}
+use Rattle.report.specs.Report.{messageLine, fieldLines, endLines, noSheet, ending, reportFrom, reportOf, reportFromBefore, reportBefore, reported, Reports}
 use Rattle.report.specs.Working.Told.{Told}
 use Rattle.report.proofs.Writing.{wrote-as, number-as, wrote-then}
 
-module _ (d s b x : List ℕ) (at k : ℕ) (r : Completed) (C : Completes d noSheet r s) (w : Wrote b at (item (bytes "end") space) k x) (kw : k ≡ at + 3 + 1) (l : at + 733 ≤ length b) (e : List ℕ) (q : ℕ) where
+-- complete_draft
+pub at-program : (D : Dates) (d b : List ℕ) (r : Completed) (t : List ℕ) → D ≡ programDates → Completes D d b r t → Completes programDates d b r t
+at-program D d b r t e C = subst (λ (E : Dates). Completes E d b r t) e C
+
+module _ (d s b x : List ℕ) (at k : ℕ) (r : Completed) (C : Completes programDates d noSheet r s) (w : Wrote b at (item (bytes "end") space) k x) (kw : k ≡ at + 3 + 1) (l : at + 733 ≤ length b) (e : List ℕ) (q : ℕ) where
   ended : (a : Completed) (t : Text) → r ≡ a → t ≡ endLines (completeAnswer a) s → q ≤ at + 733 → (q ≤ at + 733 → Wrote b at t q e) → Wrote b at (ending d) q e × (q ≤ at + 733)
   unfolding ending
   ended a t h g o v = (
-    wrote-as b e at q t (endLines (completing d noSheet) (completed d noSheet))
+    wrote-as b e at q t (endLines (completing programDates d noSheet) (completed programDates d noSheet))
         (g ∙ (λ i. endLines ((ap completeAnswer (sym h) ∙ C .answer) i) (C .sheet i))) (v o),
     o,
   )
@@ -77,6 +85,13 @@ module _ (d s b x : List ℕ) (at k : ℕ) (r : Completed) (C : Completes d noSh
       ended (Refused n) (item (bytes "end") space ++ item (decimal (n .0)) newline) h refl (omega arith)
       (λ l'. wrote-then b x e at k q (item (bytes "end") space) (item (decimal (n .0)) newline) w (number-as x e k q m (n .0) newline hm v) (omega arith))
 
+-- ---- R-7: the report is the one before
+
+told-before : (D : Dates) (n : ℕ) (d : List ℕ) (ms : List (List ℕ)) → reportFrom n d ms ≡ reportFromBefore D n d ms
+unfolding reportFrom reportFromBefore ending
+told-before D n d [] = let q = as-before-completed D d noSheet in rw (q .answer, q .sheet)
+told-before D n d (m ∷ ms) = ap (λ (r : List ℕ). messageLine n (postingOf d m) ++ r) (told-before D (suc n) (postedTo d m) ms)
+
 -- ---- the whole
 
 -- a draft of 450 bytes made fresh
@@ -92,7 +107,7 @@ end-some (refusal n vs) s = omega arith
 
 report-some : (n : ℕ) (d : List ℕ) (ms : List (List ℕ)) → 0 < length (reportFrom n d ms)
 unfolding reportFrom ending
-report-some n d [] = end-some (completing d noSheet) (completed d noSheet)
+report-some n d [] = end-some (completing programDates d noSheet) (completed programDates d noSheet)
 report-some n d (m ∷ ms) = omega (arith, length-append (messageLine n (postingOf d m)) (reportFrom (suc n) (postedTo d m) ms), report-some (suc n) (postedTo d m) ms)
 
 module _ (i b : List ℕ) where
@@ -115,7 +130,7 @@ module _ (i b : List ℕ) where
 
   -- the promise of `report`, from its three equations
   reports-by : (r : ℕ) (e : List ℕ) → r ≡ length (reported i b) → e ≡ put b 0 (reported i b) → take r e ≡ reported i b → Reports i b r e
-  unfolding reportOf
+  unfolding reportOf reportBefore
   reports-by r e c p t = record {
     count = c;
     buffer = p;
@@ -126,6 +141,7 @@ module _ (i b : List ℕ) where
       λ h. omega (arith, c, ap length (fitting (h .0) (h .1)), report-some 1 freshDraft (messagesOf i)),
     );
     whole = λ h l. t ∙ fitting h l;
+    before = λ D. told-before D 1 freshDraft (messagesOf i);
   }
 
   nothing : reported i b ≡ [] → Reports i b 0 b

@@ -11,8 +11,11 @@ use Rattle.texts.specs.Texts.{blank}
 use Rattle.texts.specs.Buffers.{put}
 use Rattle.texts.specs.Answers.{Answer, success, refusal}
 use Rattle.sheets.specs.Sheet.{slots, fieldIn, sheetSize, textOf}
+use Rattle.sheets.specs.Dates.{programDates}
+use Rattle.sheets.specs.declared.dates.Dates.{Dates}
 use Rattle.drafts.specs.Draft.{freshDraft, postingOf, postedTo}
 use Rattle.orders.specs.Complete.{completing, completed}
+use Rattle.orders.specs.R7.{completingBefore, completedBefore}
 use Rattle.orders.specs.Stream.{messagesOf}
 use Rattle.report.specs.Lines.{decimal, line}
 
@@ -42,9 +45,9 @@ endLines (refusal n vs) s = line (bytes "end") (decimal n ∷ map decimal vs)
 abbrev pub noSheet : List ℕ
 noSheet = replicate sheetSize 0
 
--- "Then it completes the draft and prints the end"
+-- "Then it completes the draft and prints the end", at the program's dates (R-7)
 unfoldable pub ending : List ℕ → Text
-ending d = endLines (completing d noSheet) (completed d noSheet)
+ending d = endLines (completing programDates d noSheet) (completed programDates d noSheet)
 
 -- some messages, the first of them being number n, posted to the draft d, and the end
 unfoldable pub reportFrom : ℕ → List ℕ → List (List ℕ) → Text
@@ -54,6 +57,14 @@ reportFrom n d (m ∷ ms) = messageLine n (postingOf d m) ++ reportFrom (suc n) 
 -- all that the program writes of the input i: its messages are "posted to a fresh draft"
 unfoldable pub reportOf : List ℕ → Text
 reportOf i = reportFrom 1 freshDraft (messagesOf i)
+
+-- the same before the order's date was asked (R-7), whatever dates D the rules before are given
+unfoldable pub reportFromBefore : Dates → ℕ → List ℕ → List (List ℕ) → Text
+reportFromBefore D n d [] = endLines (completingBefore D d noSheet) (completedBefore D d noSheet)
+reportFromBefore D n d (m ∷ ms) = messageLine n (postingOf d m) ++ reportFromBefore D (suc n) (postedTo d m) ms
+
+unfoldable pub reportBefore : Dates → List ℕ → Text
+reportBefore D i = reportFromBefore D 1 freshDraft (messagesOf i)
 
 -- "at most 32,768 bytes of standard input"; no report of so many is longer than 46,080 bytes
 abbrev pub fits : List ℕ → List ℕ → Bool
@@ -73,3 +84,5 @@ pub record Reports (i b : List ℕ) (r : ℕ) (e : List ℕ) : Type 0 where
   pub refused : r ≡ 0 → e ≡ b
   pub exactly : (0 < r) ↔ ((length i ≤ 32768) × (46080 ≤ length b))
   pub whole : length i ≤ 32768 → 46080 ≤ length b → take r e ≡ reportOf i
+  -- "so its output is the same as before" (R-7)
+  pub before : (D : Dates) → reportOf i ≡ reportBefore D i

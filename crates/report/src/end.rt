@@ -3,12 +3,15 @@ ghost use mathlib.Core.Path.{_≡_};
 ghost use Prim.Native.Nat.{_+_, _≤_};
 ghost use lib.ListN.{length};
 ghost use Rattle.sheets.specs.Sheet.{slots};
+ghost use Rattle.sheets.specs.Dates.{programDates};
+ghost use Rattle.orders.specs.Whole.{Completes};
 ghost use Rattle.report.specs.Lines.{Wrote};
 ghost use Rattle.report.specs.Report.{fieldLine, fieldLines, ending};
 use crate::lines::put_item;
 use crate::lines::put_number;
 use orders::complete::Completed;
 use orders::complete::complete;
+use sheets::dates::program_dates;
 use sheets::sheet::SHEET_SIZE;
 use sheets::sheet::SLOT_COUNT;
 use sheets::sheet::field_in;
@@ -42,13 +45,20 @@ fn put_fields(out: &mut [u8], at: usize, sheet: &[u8]) -> usize
     next
 }
 
+// At the program's dates (R-7).
+fn complete_draft(draft: &[u8], sheet: &mut [u8]) -> Completed
+    ensures { λ r. ⌜ Completes programDates (now (draft .entry)) (now (sheet .entry)) r (now (sheet .exit)) ⌝ }
+{
+    complete(draft, sheet, program_dates())
+}
+
 // "Then it completes the draft and prints the end".
 pub(crate) fn put_end(out: &mut [u8], at: usize, draft: &[u8]) -> usize
     requires { ⌜ at + 733 ≤ length (now out) ⌝ }
     ensures { λ r. ⌜ Wrote (now (out .entry)) at (ending (now (draft .entry))) r (now (out .exit)) × (r ≤ at + 733) ⌝ }
 {
     let mut sheet = [0u8; SHEET_SIZE];
-    let answer = complete(draft, &mut sheet);
+    let answer = complete_draft(draft, &mut sheet);
     let place = put_item(out, at, b"end", b' ');
     match answer {
         Completed::Filled { count, .. } => {

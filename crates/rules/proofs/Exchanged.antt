@@ -16,6 +16,8 @@ use Rattle.texts.proofs.Every.{every-member}
 use Rattle.sheets.specs.Sheet.{Sheet, wellFormed, _⟨_⟩}
 use Rattle.sheets.specs.Forms.{_⇒_, uin}
 use Rattle.sheets.specs.Lists.{account03212, courtsGroup}
+use Rattle.sheets.specs.Dates.{datesFit}
+use Rattle.sheets.specs.declared.dates.Dates.{Dates}
 use Rattle.rules.specs.Rules.{budget, rules, order, status, testOf, fieldOf, keeps, keepsAll, firstNot, classOf}
 use Rattle.rules.specs.Verdicts.{className, brokenRule, checkTests, checked}
 use Rattle.rules.specs.Before.{testsBy, checkedBy}
@@ -74,9 +76,9 @@ unfolding every are
 not-uin t e = ap uin (same-true t (48 ∷ []) e)
 
 -- they are, behind rules that are kept, of exactly these sheets
-caught-is : (s : Sheet) → caught s ≡ (every (keeps s) upTo20 && (not (keeps s 21) && not (keeps s 22)))
+caught-is : (D : Dates) (s : Sheet) → caught D s ≡ (every (keeps D s) upTo20 && (not (keeps D s 21) && not (keeps D s 22)))
 unfolding keeps testOf rules any are among
-caught-is s = alike _ _ forth back
+caught-is D s = alike _ _ forth back
   where
     f17 : Bool
     f17 = s ⟨ 17 ⟩ begins account03212
@@ -84,20 +86,20 @@ caught-is s = alike _ _ forth back
     f22 : Bool
     f22 = s ⟨ 22 ⟩ is "0"
 
-    forth : caught s ≡ true → (every (keeps s) upTo20 && (not (keeps s 21) && not (keeps s 22))) ≡ true
+    forth : caught D s ≡ true → (every (keeps D s) upTo20 && (not (keeps D s 21) && not (keeps D s 22))) ≡ true
     forth c =
-        let q = both (f17 && status s courtsGroup) (f22 && every (keeps s) upTo20) c in
+        let q = both (f17 && status s courtsGroup) (f22 && every (keeps D s) upTo20) c in
         let f = both f17 (status s courtsGroup) (q .0) in
-        let g = both f22 (every (keeps s) upTo20) (q .1) in
-        let b = classed (budget s) (s ⟨ 101 ⟩) (every-member (keeps s) upTo20 4 refl (g .1)) (f .1) in
+        let g = both f22 (every (keeps D s) upTo20) (q .1) in
+        let b = classed (budget s) (s ⟨ 101 ⟩) (every-member (keeps D s) upTo20 4 refl (g .1)) (f .1) in
         rw (g .1, b, f .1, not-uin (s ⟨ 22 ⟩) (g .0), f .0, g .0)
 
-    back : (every (keeps s) upTo20 && (not (keeps s 21) && not (keeps s 22))) ≡ true → caught s ≡ true
+    back : (every (keeps D s) upTo20 && (not (keeps D s 21) && not (keeps D s 22))) ≡ true → caught D s ≡ true
     back c =
-        let q = both (every (keeps s) upTo20) (not (keeps s 21) && not (keeps s 22)) c in
-        let r = both (not (keeps s 21)) (not (keeps s 22)) (q .1) in
-        let a = refused (budget s) (status s courtsGroup) (uin (s ⟨ 22 ⟩)) (not-true (keeps s 21) (r .0)) in
-        let b = refused (budget s) f17 (not f22) (not-true (keeps s 22) (r .1)) in
+        let q = both (every (keeps D s) upTo20) (not (keeps D s 21) && not (keeps D s 22)) c in
+        let r = both (not (keeps D s 21)) (not (keeps D s 22)) (q .1) in
+        let a = refused (budget s) (status s courtsGroup) (uin (s ⟨ 22 ⟩)) (not-true (keeps D s 21) (r .0)) in
+        let b = refused (budget s) f17 (not f22) (not-true (keeps D s 22) (r .1)) in
         rw (b .0, a .0, not-false f22 (b .1), q .0)
 
 -- ---- the answers
@@ -106,33 +108,36 @@ abbrev second : Answer → ℕ
 second (success vs) = 0
 second (refusal n vs) = getD vs 1 0
 
-module _ (s : Sheet) where
+module _ (D : Dates) (s : Sheet) where
   -- by the first broken rule
   abbrev answerOf : ℕ → Answer
-  answerOf n = answerBy ((not (wellFormed s) refuses 1) ∷ brokenRule rules n s ∷ []) (className (classOf s))
+  answerOf n = answerBy ((not (wellFormed s) refuses 1) ∷ (not (datesFit D) refuses 12) ∷ brokenRule rules n s ∷ []) (className (classOf s))
 
-  before-is : before s ≡ answerOf (firstNot (keeps s) orderBefore)
+  before-is : before D s ≡ answerOf (firstNot (keeps D s) orderBefore)
   unfolding checkedBy testsBy keeps
   before-is = refl
 
-  now-is : checked s ≡ answerOf (firstNot (keeps s) order)
+  now-is : checked D s ≡ answerOf (firstNot (keeps D s) order)
   unfolding checked checkTests
   now-is = refl
 
-  malformed-still : wellFormed s ≡ false → before s ≡ checked s
-  malformed-still w = let e : answerOf (firstNot (keeps s) orderBefore) ≡ answerOf (firstNot (keeps s) order) = rw w in before-is ∙ e ∙ sym now-is
+  malformed-still : wellFormed s ≡ false → before D s ≡ checked D s
+  malformed-still w = let e : answerOf (firstNot (keeps D s) orderBefore) ≡ answerOf (firstNot (keeps D s) order) = rw w in before-is ∙ e ∙ sym now-is
 
-  moved-case : (b : Bool) → wellFormed s ≡ true → caught s ≡ b → Moved s
+  undated-still : datesFit D ≡ false → before D s ≡ checked D s
+  undated-still w = let e : answerOf (firstNot (keeps D s) orderBefore) ≡ answerOf (firstNot (keeps D s) order) = rw w in before-is ∙ e ∙ sym now-is
+
+  moved-case : (b : Bool) → wellFormed s ≡ true → datesFit D ≡ true → caught D s ≡ b → Moved D s
   unfolding fieldOf rules broken
-  moved-case false w c =
-      let q = before-is ∙ ap answerOf (first-exchanged (keeps s) 21 22 from23 upTo20 (sym (caught-is s) ∙ c)) ∙ sym now-is in
-      let no : caught s ≡ true → ⊥ = λ d. false≢true (sym c ∙ d) in
+  moved-case false w t c =
+      let q = before-is ∙ ap answerOf (first-exchanged (keeps D s) 21 22 from23 upTo20 (sym (caught-is D s) ∙ c)) ∙ sym now-is in
+      let no : caught D s ≡ true → ⊥ = λ d. false≢true (sym c ∙ d) in
       record { exactly = (λ n. absurd (n q), λ d. absurd (no d)); was = λ d. absurd (no d); becomes = λ d. absurd (no d); stays = λ z. q }
-  moved-case true w c =
-      let q = both (every (keeps s) upTo20) (not (keeps s 21) && not (keeps s 22)) (sym (caught-is s) ∙ c) in
-      let r = both (not (keeps s 21)) (not (keeps s 22)) (q .1) in
-      let u : before s ≡ broken 22 21 = before-is ∙ ap answerOf (first-broken (keeps s) 21 (22 ∷ from23) upTo20 (q .0) (r .0)) ∙ rw w in
-      let v : checked s ≡ broken 22 22 = now-is ∙ ap answerOf (first-broken (keeps s) 22 (21 ∷ from23) upTo20 (q .0) (r .1)) ∙ rw w in
+  moved-case true w t c =
+      let q = both (every (keeps D s) upTo20) (not (keeps D s 21) && not (keeps D s 22)) (sym (caught-is D s) ∙ c) in
+      let r = both (not (keeps D s 21)) (not (keeps D s 22)) (q .1) in
+      let u : before D s ≡ broken 22 21 = before-is ∙ ap answerOf (first-broken (keeps D s) 21 (22 ∷ from23) upTo20 (q .0) (r .0)) ∙ rw (w, t) in
+      let v : checked D s ≡ broken 22 22 = now-is ∙ ap answerOf (first-broken (keeps D s) 22 (21 ∷ from23) upTo20 (q .0) (r .1)) ∙ rw (w, t) in
       record {
         exactly = (λ n. c, λ d q. let z : _≡_ {A = ℕ} 21 22 = ap second (sym u ∙ q ∙ v) in absurd (omega arith));
         was = λ d. u;
@@ -144,7 +149,8 @@ pub moved-only : MovedOnly
 unfolding keepsAll
 moved-only =
     record {
-      moved = λ s w. moved-case s (caught s) w refl;
+      moved = λ D s w t. moved-case D s (caught D s) w t refl;
       malformed = malformed-still;
-      kept = λ s. every-exchanged (keeps s) 21 22 from23 upTo20;
+      undated = undated-still;
+      kept = λ D s. every-exchanged (keeps D s) 21 22 from23 upTo20;
     }

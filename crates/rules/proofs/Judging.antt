@@ -13,6 +13,8 @@ use Rattle.texts.specs.Texts.{every, any, are, among, blank}
 use Rattle.texts.proofs.Bools.{both}
 use Rattle.texts.proofs.Every.{every-append, every-same}
 use Rattle.sheets.specs.Sheet.{slots, slotOk, wellFormed, fieldIn, slotOf, Sheet, given, _⟨_⟩}
+use Rattle.sheets.specs.Dates.{datesFit}
+use Rattle.sheets.specs.declared.dates.Dates.{Dates}
 use Rattle.rules.specs.Rules.{Rule, classA, classB, budget, testOf, keepsAll, firstBlank, rules, order, basic, ahead, fieldOf, keeps, firstNot, firstBroken, classOf}
 use Rattle.sheets.specs.Working.Facts.{accountOf, factsBy, factsOf, generalOf, standingOf, Read}
 use Rattle.rules.specs.Working.Tests.{ordinary, classOn, kept, holds, allTrue, generalOn, outcomesOn, judgedOn}
@@ -22,7 +24,7 @@ use Rattle.rules.specs.declared.class.Class.{Class}
 use Rattle.rules.specs.declared.class.Class.the-variants.{A, B, O}
 use Rattle.rules.specs.declared.rules.RuleNumber.{RuleNumber}
 use Rattle.sheets.specs.declared.sheet.Field.{Field}
-use Rattle.rules.specs.declared.check.Verdict.the-variants.{Malformed, Broken, Accepted}
+use Rattle.rules.specs.declared.check.Verdict.the-variants.{Malformed, Undated, Broken, Accepted}
 use Rattle.sheets.specs.declared.facts.Facts.{Facts}
 use Rattle.rules.proofs.On.{rules-counted, counted-at, budget-keeps, judged-keeps, class-on}
 use Rattle.rules.proofs.First.{all-held}
@@ -47,10 +49,10 @@ module _ (s : Sheet) (ks : List ℕ) (i : ℕ) where
 
 -- ---- the groups of rules
 
-pub kept-in : (f : Facts) (ks : List ℕ) (os : List Bool) (r : Bool) → os ≡ map (holds f) ks → r ≡ allTrue os → (s : Sheet) → Read f s → budget s ≡ true → r ≡ every (keeps s) ks
-kept-in f ks os r e h s o b =
+pub kept-in : (f : Facts) (ks : List ℕ) (os : List Bool) (r : Bool) → os ≡ map (holds f) ks → r ≡ allTrue os → (D : Dates) (s : Sheet) → Read D f s → budget s ≡ true → r ≡ every (keeps D s) ks
+kept-in f ks os r e h D s o b =
     h ∙ ap allTrue e ∙ all-held (holds f) ks ∙ ap (λ (g : Facts). every (holds g) ks) (o .facts)
-    ∙ ap (λ (p : ℕ → Bool). every p ks) (fun-ext (λ n. sym (budget-keeps s n b)))
+    ∙ ap (λ (p : ℕ → Bool). every p ks) (fun-ext (λ n. sym (budget-keeps D s n b)))
 
 -- the groups have the rules of the order but 1 to 4
 order-grouped : (p : ℕ → Bool) → every p order ≡ every p (1 ∷ 2 ∷ 3 ∷ 4 ∷ grouped)
@@ -58,42 +60,42 @@ unfolding every any are among
 order-grouped p = every-same p order (1 ∷ 2 ∷ 3 ∷ 4 ∷ grouped) refl refl
 
 -- of a budget payment rule 4 asks nothing
-fourth : (u : Sheet) → budget u ≡ true → every (keeps u) (4 ∷ grouped) ≡ every (keeps u) grouped
+fourth : (D : Dates) (u : Sheet) → budget u ≡ true → every (keeps D u) (4 ∷ grouped) ≡ every (keeps D u) grouped
 unfolding every keeps rules testOf
-fourth u b = ap (λ (c : Bool). (not (not c) || blank (u ⟨ 101 ⟩)) && every (keeps u) grouped) b
+fourth D u b = ap (λ (c : Bool). (not (not c) || blank (u ⟨ 101 ⟩)) && every (keeps D u) grouped) b
 
 -- a budget payment that keeps rules 1 to 3 keeps all rules if it keeps those of each group
-pub all-grouped : (u : Sheet) → budget u ≡ true → every (keeps u) basic ≡ true → keepsAll u ≡ (every (keeps u) fixedRules && (every (keeps u) statusRules && (every (keeps u) basisRules && (every (keeps u) documentRules && every (keeps u) dayRules))))
+pub all-grouped : (D : Dates) (u : Sheet) → budget u ≡ true → every (keeps D u) basic ≡ true → keepsAll D u ≡ (every (keeps D u) fixedRules && (every (keeps D u) statusRules && (every (keeps D u) basisRules && (every (keeps D u) documentRules && every (keeps D u) dayRules))))
 unfolding keepsAll
-all-grouped u b h =
-    let p = every-append (keeps u) documentRules dayRules in
-    let q = every-append (keeps u) basisRules (documentRules ++ dayRules) in
-    let r = every-append (keeps u) statusRules (basisRules ++ (documentRules ++ dayRules)) in
-    let w = every-append (keeps u) fixedRules (statusRules ++ (basisRules ++ (documentRules ++ dayRules))) in
-    order-grouped (keeps u) ∙ sym (every-append (keeps u) basic (4 ∷ grouped)) ∙ ap (λ (x : Bool). x && every (keeps u) (4 ∷ grouped)) h
-    ∙ fourth u b ∙ cc
+all-grouped D u b h =
+    let p = every-append (keeps D u) documentRules dayRules in
+    let q = every-append (keeps D u) basisRules (documentRules ++ dayRules) in
+    let r = every-append (keeps D u) statusRules (basisRules ++ (documentRules ++ dayRules)) in
+    let w = every-append (keeps D u) fixedRules (statusRules ++ (basisRules ++ (documentRules ++ dayRules))) in
+    order-grouped (keeps D u) ∙ sym (every-append (keeps D u) basic (4 ∷ grouped)) ∙ ap (λ (x : Bool). x && every (keeps D u) (4 ∷ grouped)) h
+    ∙ fourth D u b ∙ cc
 
 -- ---- broken_basic, is_budget
 
-pub basic-first : (f : Facts) (os : List Bool) (r : RuleNumber) → os ≡ generalOn f → r .0 ≡ firstNot (kept os) basic → (s : Sheet) → Read f s → r .0 ≡ firstBroken s basic
+pub basic-first : (f : Facts) (os : List Bool) (r : RuleNumber) → os ≡ generalOn f → r .0 ≡ firstNot (kept os) basic → (D : Dates) (s : Sheet) → Read D f s → r .0 ≡ firstBroken D s basic
 unfolding kept keeps firstNot testOf rules factsBy generalOf accountOf standingOf slotOf _⟨_⟩
-basic-first f os r e h s o = h ∙ ap (λ (bs : List Bool). firstNot (kept bs) basic) (e ∙ ap (λ (g : Facts). generalOn g) (o .facts))
+basic-first f os r e h D s o = h ∙ ap (λ (bs : List Bool). firstNot (kept bs) basic) (e ∙ ap (λ (g : Facts). generalOn g) (o .facts))
 
 -- the outcomes of the test ahead, at their numbers
 abbrev pub placeAhead : List Bool → List Bool → List Bool
 placeAhead x y =
     true ∷ true ∷ true ∷ true ∷ true ∷ getD x 0 false ∷ getD y 0 false ∷ getD x 1 false ∷ getD x 2 false ∷ getD x 3 false ∷ true ∷ getD x 4 false ∷ getD x 5 false ∷ getD x 6 false ∷ getD x 7 false ∷ true ∷ getD x 8 false ∷ true ∷ true ∷ true ∷ true ∷ true ∷ getD x 9 false ∷ true ∷ true ∷ true ∷ true ∷ true ∷ getD x 10 false ∷ []
 
-pub ahead-first : (f : Facts) (x y os : List Bool) (r : RuleNumber) → x ≡ map (holds f) fixedRules → y ≡ map (holds f) dayRules → os ≡ placeAhead x y → r .0 ≡ firstNot (kept os) ahead → (s : Sheet) → Read f s → budget s ≡ true → r .0 ≡ firstBroken s ahead
+pub ahead-first : (f : Facts) (x y os : List Bool) (r : RuleNumber) → x ≡ map (holds f) fixedRules → y ≡ map (holds f) dayRules → os ≡ placeAhead x y → r .0 ≡ firstNot (kept os) ahead → (D : Dates) (s : Sheet) → Read D f s → budget s ≡ true → r .0 ≡ firstBroken D s ahead
 unfolding kept firstNot
-ahead-first f x y os r ex ey eo h s o b =
+ahead-first f x y os r ex ey eo h D s o b =
     h ∙ ap (λ (l : List Bool). firstNot (kept l) ahead) (eo ∙ (λ i. placeAhead (ex i) (ey i)))
     ∙ ap (λ (g : Facts). firstNot (holds g) ahead) (o .facts)
-    ∙ ap (λ (p : ℕ → Bool). firstNot p ahead) (fun-ext (λ n. sym (budget-keeps s n b)))
+    ∙ ap (λ (p : ℕ → Bool). firstNot p ahead) (fun-ext (λ n. sym (budget-keeps D s n b)))
 
-pub budget-is : (f : Facts) (s : Sheet) → Read f s → (f .banking .account .a || f .banking .account .b) ≡ budget s
+pub budget-is : (D : Dates) (f : Facts) (s : Sheet) → Read D f s → (f .banking .account .a || f .banking .account .b) ≡ budget s
 unfolding factsBy accountOf slotOf _⟨_⟩
-budget-is f s o = ap (λ (g : Facts). g .banking .account .a || g .banking .account .b) (o .facts)
+budget-is D f s o = ap (λ (g : Facts). g .banking .account .a || g .banking .account .b) (o .facts)
 
 -- ---- outcomes
 
@@ -159,24 +161,35 @@ module _ (s : Sheet) where
       go false true e = absurd (false≢true (sym e))
       go false false e = refl
 
-  pub check-malformed : (w : Bool) → w ≡ wellFormed s → not w ≡ true → Checked s Malformed
+module _ (D : Dates) (s : Sheet) where
+  pub check-malformed : (w : Bool) → w ≡ wellFormed s → not w ≡ true → Checked D s Malformed
   unfolding checked checkTests verdictAnswer
-  check-malformed w e n = let o : wellFormed s ≡ false = sym e ∙ not-true w n in checked-by s Malformed (sym (rw o))
+  check-malformed w e n = let o : wellFormed s ≡ false = sym e ∙ not-true w n in checked-by D s Malformed (sym (rw o))
 
-  module _ (w : Bool) (x : Facts) (g : RuleNumber) (e : w ≡ wellFormed s) (n : not w ≡ false) (j : length s ≡ 390 → Read x s) (i : g .0 ≡ firstNot (kept (judgedOn x)) order) where
+  pub check-undated : (w v : Bool) → w ≡ wellFormed s → not w ≡ false → v ≡ datesFit D → not v ≡ true → Checked D s Undated
+  unfolding checked checkTests verdictAnswer
+  check-undated w v e n ev m =
+      let o : wellFormed s ≡ true = sym e ∙ not-false w n in
+      let p : datesFit D ≡ false = sym ev ∙ not-true v m in
+      checked-by D s Undated (sym (rw (o, p)))
+
+  module _ (w v : Bool) (x : Facts) (g : RuleNumber) (e : w ≡ wellFormed s) (n : not w ≡ false) (ev : v ≡ datesFit D) (m : not v ≡ false) (j : length s ≡ 390 → Read D x s) (i : g .0 ≡ firstNot (kept (judgedOn x)) order) where
     formed : wellFormed s ≡ true
     formed = sym e ∙ not-false w n
 
-    h : x ≡ factsOf s
+    dated : datesFit D ≡ true
+    dated = sym ev ∙ not-false v m
+
+    h : x ≡ factsOf D s
     h = j (eqb-true (length s) 390 (both (eqb (length s) 390) (every (slotOk s) slots) formed .0)) .facts
 
-    first-is : firstBroken s order ≡ g .0
-    first-is = ap (λ (p : ℕ → Bool). firstNot p order) (fun-ext (judged-keeps s)) ∙ cc h
+    first-is : firstBroken D s order ≡ g .0
+    first-is = ap (λ (p : ℕ → Bool). firstNot p order) (fun-ext (judged-keeps D s)) ∙ cc h
 
-    pub check-broken : (f : Field) → (g .0 ≡ 0 → ⊥) → f .0 ≡ fieldOf rules (g .0) s → Checked s (Broken f g)
+    pub check-broken : (f : Field) → (g .0 ≡ 0 → ⊥) → f .0 ≡ fieldOf rules (g .0) s → Checked D s (Broken f g)
     unfolding checked checkTests verdictAnswer
-    check-broken f z k = checked-by s (Broken f g) (sym (rw (formed, first-is, ne-eqb (g .0) 0 z, k)))
+    check-broken f z k = checked-by D s (Broken f g) (sym (rw (formed, dated, first-is, ne-eqb (g .0) 0 z, k)))
 
-    pub check-accepted : (k : Class) → g .0 ≡ 0 → k ≡ classOn x → Checked s (Accepted k)
+    pub check-accepted : (k : Class) → g .0 ≡ 0 → k ≡ classOn x → Checked D s (Accepted k)
     unfolding checked checkTests verdictAnswer
-    check-accepted k z m = checked-by s (Accepted k) (sym (rw (formed, first-is ∙ z, m ∙ ap classOn h ∙ class-on s)))
+    check-accepted k z q = checked-by D s (Accepted k) (sym (rw (formed, dated, first-is ∙ z, q ∙ ap classOn h ∙ class-on D s)))

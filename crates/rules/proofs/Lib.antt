@@ -5,3 +5,4 @@ pub mod Judging
 pub mod Reading
 pub mod Requests
 pub mod Exchanged
+pub mod Dated

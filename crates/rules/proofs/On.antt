@@ -15,6 +15,7 @@ use Rattle.texts.proofs.Every.{every-member}
 use Rattle.sheets.specs.Sheet.{slotOf, textOf, _⟨_⟩, Sheet, given}
 use Rattle.sheets.specs.Lists.{wantInn, wantTen, wantTwelve, wantZero, numbersOf}
 use Rattle.sheets.specs.Forms.{_⇒_, inn, inn10, inn12}
+use Rattle.sheets.specs.declared.dates.Dates.{Dates}
 use Rattle.rules.specs.Rules.{Rule, budget, classOf, rules, testOf, keeps, rule6, rule23}
 use Rattle.sheets.specs.Working.Facts.{payerOf, codeOf, formOf, groupsOf, standingOf, basisOf, documentOf, dayOf, generalOf, accountOf, factsBy, factsOf, wantedBy}
 use Rattle.rules.specs.Working.Tests.{suits, classOn, ordinary, on6, on23, generalOn, specialOn, outcomesOn, judgedOn, kept, holds}
@@ -31,9 +32,9 @@ and-left-comm false false c = refl
 six-order : (a b c d e f g h i j k l : Bool) → ((a && (b && (c && (e && (f && (g && (h && (j && true)))))))) && (d && (i && (k && l)))) ≡ (a && (b && (c && (d && (e && (f && (g && (h && (i && (j && (k && (l && true))))))))))))
 six-order a b c d e f g h i j k l = simp (and-assoc, and-left-comm, and-comm)
 
-on-6 : (s : Sheet) → on6 (factsOf s) ≡ rule6 s
+on-6 : (D : Dates) (s : Sheet) → on6 (factsOf D s) ≡ rule6 s
 unfolding factsBy standingOf basisOf documentOf dayOf every given slotOf
-on-6 s = six-order (given s 3) (given s 4) (given s 5) (given s 6) (given s 7) (given s 8) (given s 9) (given s 10) (given s 11) (given s 12) (given s 13) (given s 14)
+on-6 D s = six-order (given s 3) (given s 4) (given s 5) (given s 6) (given s 7) (given s 8) (given s 9) (given s 10) (given s 11) (given s 12) (given s 13) (given s 14)
 
 -- rule 23: the form that a status wants, where no status is in two of its lists
 abbrev wants : Bool → Bool → Bool → Bool → Payer → Bool
@@ -66,9 +67,9 @@ wants-is n p =
     of : String → ℕ → Bool
     of q k = among k (numbersOf 2 q)
 
-on-23 : (s : Sheet) → on23 (factsOf s) ≡ rule23 s
+on-23 : (D : Dates) (s : Sheet) → on23 (factsOf D s) ≡ rule23 s
 unfolding factsBy payerOf standingOf slotOf _⟨_⟩ every number value valueOf
-on-23 s =
+on-23 D s =
     let t = textOf s 6 in
     let a = is-one-of 2 t wantInn refl in
     let b = is-one-of 2 t wantTen refl in
@@ -79,8 +80,8 @@ on-23 s =
     ∙ (λ i. (a i ⇒ inn p) && ((b i ⇒ inn10 p) && ((c i ⇒ inn12 p) && (d i ⇒ p is "0"))))
 
 -- the outcomes of rules
-unfoldable pub testsOf : Sheet → List Rule → List Bool
-testsOf s rs = map (λ (r : Rule). r .test s) rs
+unfoldable pub testsOf : Dates → Sheet → List Rule → List Bool
+testsOf D s rs = map (λ (r : Rule). r .test D s) rs
 
 -- the rules' numbers go up by one, so that each outcome stands at its rule's number
 abbrev pub counted : ℕ → List Rule → Bool
@@ -103,14 +104,14 @@ module _ {A : Type 0} (d : A) (part : Rule → A) (look : List Rule → ℕ → 
       let q = both (eqb (r .number) k) (counted (suc k) rs) c in
       one r rs n ∙ rw (eqb-true (r .number) k (q .0), ne-eqb n k (λ z. omega arith)) (counted-at n (suc k) m rs (q .1) (omega arith))
 
-pub none-at : (s : Sheet) → keeps s 0 ≡ true
+pub none-at : (D : Dates) (s : Sheet) → keeps D s 0 ≡ true
 unfolding keeps testOf rules
-none-at s = refl
+none-at D s = refl
 
 -- the test of the rule with a number stands at its place
-pub tests-at : (s : Sheet) (n : ℕ) (rs : List Rule) → counted 1 rs ≡ true → testOf rs (suc n) s ≡ getD (testsOf s rs) n true
+pub tests-at : (D : Dates) (s : Sheet) (n : ℕ) (rs : List Rule) → counted 1 rs ≡ true → testOf rs (suc n) D s ≡ getD (testsOf D s rs) n true
 unfolding testOf testsOf
-tests-at s n rs c = counted-at true (λ r. r .test s) (λ rs n. testOf rs n s) (λ n. refl) (λ r rs n. refl) (suc n) 1 n rs c (omega arith)
+tests-at D s n rs c = counted-at true (λ r. r .test D s) (λ rs n. testOf rs n D s) (λ n. refl) (λ r rs n. refl) (suc n) 1 n rs c (omega arith)
 
 -- the outcomes of all rules, at their numbers: those for classes A and B are true of any other sheet
 abbrev verdictsBy : Bool → Facts → List Bool
@@ -119,32 +120,32 @@ verdictsBy b f = generalOn f ++ map (λ (o : Bool). b ⇒ o) (specialOn f)
 abbrev pub verdictsOn : Facts → List Bool
 verdictsOn f = verdictsBy (not (ordinary f)) f
 
-tests-on : (s : Sheet) → true ∷ testsOf s rules ≡ verdictsOn (factsOf s)
+tests-on : (D : Dates) (s : Sheet) → true ∷ testsOf D s rules ≡ verdictsOn (factsOf D s)
 unfolding testsOf rules factsBy generalOf accountOf codeOf payerOf formOf groupsOf standingOf basisOf documentOf dayOf slotOf _⟨_⟩
-tests-on s =
-    let f = factsOf s in
-    λ i. generalOn f ++ map (λ (o : Bool). sym (Bool·not-not (budget s)) i ⇒ o) (set (set (specialOn f) 1 (sym (on-6 s) i)) 18 (sym (on-23 s) i))
+tests-on D s =
+    let f = factsOf D s in
+    λ i. generalOn f ++ map (λ (o : Bool). sym (Bool·not-not (budget s)) i ⇒ o) (set (set (specialOn f) 1 (sym (on-6 D s) i)) 18 (sym (on-23 D s) i))
 
-pub keeps-on : (s : Sheet) (n : ℕ) → keeps s n ≡ getD (verdictsOn (factsOf s)) n true
+pub keeps-on : (D : Dates) (s : Sheet) (n : ℕ) → keeps D s n ≡ getD (verdictsOn (factsOf D s)) n true
 unfolding keeps
-keeps-on s n = at n ∙ ap (λ (l : List Bool). getD l n true) (tests-on s)
+keeps-on D s n = at n ∙ ap (λ (l : List Bool). getD l n true) (tests-on D s)
   where
-    at : (n : ℕ) → testOf rules n s ≡ getD (true ∷ testsOf s rules) n true
-    at zero = none-at s
-    at (suc n) = tests-at s n rules rules-counted
+    at : (n : ℕ) → testOf rules n D s ≡ getD (true ∷ testsOf D s rules) n true
+    at zero = none-at D s
+    at (suc n) = tests-at D s n rules rules-counted
 
 -- the class
-pub class-on : (s : Sheet) → classOn (factsOf s) ≡ classOf s
+pub class-on : (D : Dates) (s : Sheet) → classOn (factsOf D s) ≡ classOf s
 unfolding classOf factsBy accountOf slotOf _⟨_⟩
-class-on s = refl
+class-on D s = refl
 
-ordinary-on : (s : Sheet) → ordinary (factsOf s) ≡ not (budget s)
+ordinary-on : (D : Dates) (s : Sheet) → ordinary (factsOf D s) ≡ not (budget s)
 unfolding factsBy accountOf slotOf _⟨_⟩
-ordinary-on s = refl
+ordinary-on D s = refl
 
-pub budget-keeps : (s : Sheet) (n : ℕ) → budget s ≡ true → keeps s n ≡ holds (factsOf s) n
+pub budget-keeps : (D : Dates) (s : Sheet) (n : ℕ) → budget s ≡ true → keeps D s n ≡ holds (factsOf D s) n
 unfolding holds
-budget-keeps s n b = keeps-on s n ∙ ap (λ (o : Bool). getD (verdictsBy (not o) (factsOf s)) n true) (ordinary-on s ∙ ap not b)
+budget-keeps D s n b = keeps-on D s n ∙ ap (λ (o : Bool). getD (verdictsBy (not o) (factsOf D s)) n true) (ordinary-on D s ∙ ap not b)
 
 beyond : (os qs : List Bool) (n : ℕ) → getD (os ++ map (λ (q : Bool). true) qs) n true ≡ getD os n true
 beyond [] [] n = refl
@@ -154,9 +155,9 @@ beyond (o ∷ os) qs zero = refl
 beyond (o ∷ os) qs (suc n) = beyond os qs n
 
 -- a rule is kept by a sheet where it is kept by the outcomes that count
-pub judged-keeps : (s : Sheet) (n : ℕ) → keeps s n ≡ kept (judgedOn (factsOf s)) n
+pub judged-keeps : (D : Dates) (s : Sheet) (n : ℕ) → keeps D s n ≡ kept (judgedOn (factsOf D s)) n
 unfolding kept
-judged-keeps s n = keeps-on s n ∙ go (factsOf s) (ordinary (factsOf s))
+judged-keeps D s n = keeps-on D s n ∙ go (factsOf D s) (ordinary (factsOf D s))
   where
     go : (f : Facts) (o : Bool) → getD (verdictsBy (not o) f) n true ≡ getD (cond o (generalOn f) (outcomesOn f)) n true
     go f true = beyond (generalOn f) (specialOn f) n

@@ -12,6 +12,7 @@ use Rattle.texts.proofs.Bools.{both}
 use Rattle.texts.proofs.Every.{every-member}
 use Rattle.sheets.specs.Sheet.{Sheet, slotOf, textOf, _⟨_⟩}
 use Rattle.sheets.specs.Working.Facts.{generalOf, factsBy}
+use Rattle.sheets.specs.declared.dates.Dates.{Dates}
 use Rattle.rules.specs.Rules.{budget, order, keeps}
 use Rattle.rules.specs.Working.Groups.{readsOf, AlikeIn, AlikeBut, apart, spare}
 use Rattle.rules.proofs.On.{verdictsOn, keeps-on}
@@ -20,13 +21,13 @@ use Rattle.rules.proofs.On.{verdictsOn, keeps-on}
 abbrev seen : List ℕ → (ℕ → Text) → ℕ → Text
 seen ks T k = cond (among k ks) (T k) []
 
-abbrev verdictBy : (ℕ → Text) → ℕ → Bool
-verdictBy T n = getD (verdictsOn (factsBy T)) n true
+abbrev verdictBy : Dates → (ℕ → Text) → ℕ → Bool
+verdictBy D T n = getD (verdictsOn (factsBy D T)) n true
 
 -- the table of the slots is right: every verdict is that of the sheet of which no other slot is seen
-verdicts-seen : (T : ℕ → Text) → map (verdictBy T) order ≡ map (λ (n : ℕ). verdictBy (seen (readsOf n) T) n) order
+verdicts-seen : (D : Dates) (T : ℕ → Text) → map (verdictBy D T) order ≡ map (λ (n : ℕ). verdictBy D (seen (readsOf n) T) n) order
 unfolding factsBy generalOf every any are among
-verdicts-seen T = refl
+verdicts-seen D T = refl
 
 member-step : (g h : ℕ → Bool) (k y : ℕ) (e a : Bool) → eqb y k ≡ e → (e || a) ≡ true → g y ≡ h y → (a ≡ true → g k ≡ h k) → g k ≡ h k
 member-step g h k y true a p m q f = let z = eqb-true y k p in ap g (sym z) ∙ q ∙ ap h z
@@ -45,27 +46,27 @@ seen-case ks s t k true e a = a k e
 seen-case ks s t k false e a = refl
 
 -- a rule is kept alike by sheets that are alike in the slots that it reads
-pub reads-only : (s t : Sheet) (n : ℕ) → among n order ≡ true → AlikeIn (readsOf n) s t → keeps s n ≡ keeps t n
-reads-only s t n m a =
-    by s ∙ ap (λ (T : ℕ → Text). verdictBy T n) (fun-ext (λ k. seen-case (readsOf n) s t k (among k (readsOf n)) refl a)) ∙ sym (by t)
+pub reads-only : (D : Dates) (s t : Sheet) (n : ℕ) → among n order ≡ true → AlikeIn (readsOf n) s t → keeps D s n ≡ keeps D t n
+reads-only D s t n m a =
+    by s ∙ ap (λ (T : ℕ → Text). verdictBy D T n) (fun-ext (λ k. seen-case (readsOf n) s t k (among k (readsOf n)) refl a)) ∙ sym (by t)
   where
-    by : (u : Sheet) → keeps u n ≡ verdictBy (seen (readsOf n) (textOf u)) n
+    by : (u : Sheet) → keeps D u n ≡ verdictBy D (seen (readsOf n) (textOf u)) n
     by u =
-        keeps-on u n
-        ∙ tabled (verdictBy (textOf u)) (λ (k : ℕ). verdictBy (seen (readsOf k) (textOf u)) k) order n (verdicts-seen (textOf u)) m
+        keeps-on D u n
+        ∙ tabled (verdictBy D (textOf u)) (λ (k : ℕ). verdictBy D (seen (readsOf k) (textOf u)) k) order n (verdicts-seen D (textOf u)) m
 
 -- rules that read none of some slots are kept alike by sheets that differ only there
-module _ (ds : List ℕ) (s t : Sheet) (a : AlikeBut ds s t) where
+module _ (D : Dates) (ds : List ℕ) (s t : Sheet) (a : AlikeBut ds s t) where
   alike-in : (ks : List ℕ) → apart ds ks ≡ true → AlikeIn ks s t
   alike-in ks p k m = a k (not-true (among k ds) (every-member (λ (j : ℕ). not (among j ds)) ks k m p))
 
-  pub spared : (ns : List ℕ) → spare ds ns ≡ true → every (keeps s) ns ≡ every (keeps t) ns
+  pub spared : (ns : List ℕ) → spare ds ns ≡ true → every (keeps D s) ns ≡ every (keeps D t) ns
   unfolding every
   spared [] h = refl
   spared (n ∷ ns) h =
       let q = both (among n order && apart ds (readsOf n)) (spare ds ns) h in
       let r = both (among n order) (apart ds (readsOf n)) (q .0) in
-      λ i. reads-only s t n (r .0) (alike-in (readsOf n) (r .1)) i && spared ns (q .1) i
+      λ i. reads-only D s t n (r .0) (alike-in (readsOf n) (r .1)) i && spared ns (q .1) i
 
   pub spared-class : apart ds (0 ∷ 1 ∷ 2 ∷ []) ≡ true → budget s ≡ budget t
   unfolding slotOf _⟨_⟩ any are among

@@ -14,6 +14,8 @@ use Rattle.sheets.specs.Sheet.{Sheet, wellFormed, _⟨_⟩}
 use Rattle.sheets.specs.Forms.{_⇒_, uin, foreignCode, weights10, weights11, weights12, checkDigit, inn10, inn12, inn, person}
 use Rattle.sheets.specs.Lists.{personalGroup, wantInn, wantTen, wantTwelve, wantZero}
 use Rattle.sheets.proofs.Kpps.{kpp-wider}
+use Rattle.sheets.specs.Dates.{datesFit}
+use Rattle.sheets.specs.declared.dates.Dates.{Dates}
 use Rattle.rules.specs.Rules.{Rule, budget, rules, order, status, testOf, rule8, rule9, rule11, rule12, rule23, rule24, rule25, classOf}
 use Rattle.rules.specs.Verdicts.{className}
 use Rattle.rules.specs.Before.{testsBy, checkedBy, now}
@@ -54,35 +56,36 @@ if-implied : (a b c : Bool) → (b ≡ true → c ≡ true) → (a ⇒ b) ≡ tr
 if-implied a = or-implied (not a)
 
 -- where the outcomes by rs imply those by qs, a sheet accepted by rs is accepted by qs
-module _ (rs qs : List Rule) (a : counted 1 rs ≡ true) (b : counted 1 qs ≡ true) (s : Sheet) (z : testOf qs 0 s ≡ true) (h : (n : ℕ) → getD (testsOf s rs) n true ≡ true → getD (testsOf s qs) n true ≡ true) where
-  implied-at : (n : ℕ) → testOf rs n s ≡ true → testOf qs n s ≡ true
+module _ (rs qs : List Rule) (a : counted 1 rs ≡ true) (b : counted 1 qs ≡ true) (D : Dates) (s : Sheet) (z : testOf qs 0 D s ≡ true) (h : (n : ℕ) → getD (testsOf D s rs) n true ≡ true → getD (testsOf D s qs) n true ≡ true) where
+  implied-at : (n : ℕ) → testOf rs n D s ≡ true → testOf qs n D s ≡ true
   implied-at zero e = z
-  implied-at (suc n) e = tests-at s n qs b ∙ h n (sym (tests-at s n rs a) ∙ e)
+  implied-at (suc n) e = tests-at D s n qs b ∙ h n (sym (tests-at D s n rs a) ∙ e)
 
-  accepted-too : (c : List ℕ) → checkedBy rs order s ≡ success c → checkedBy qs order s ≡ success c
+  accepted-too : (c : List ℕ) → checkedBy rs order D s ≡ success c → checkedBy qs order D s ≡ success c
   unfolding checkedBy testsBy
   accepted-too c e =
-      let q = succeeded (className (classOf s)) c (testsBy rs order s) (sym e) in
-      let o = none-of (testsBy rs order s) (q .0) in
-      let k = none-kept (λ (n : ℕ). testOf rs n s) order order-numbered (eqb-true _ _ (not-false _ (o .1 .0))) in
-      let f = kept-none (λ (n : ℕ). testOf qs n s) order (every-implied (λ (n : ℕ). testOf rs n s) (λ (n : ℕ). testOf qs n s) implied-at order k) in
+      let q = succeeded (className (classOf s)) c (testsBy rs order D s) (sym e) in
+      let o = none-of (testsBy rs order D s) (q .0) in
+      let k = none-kept (λ (n : ℕ). testOf rs n D s) order order-numbered (eqb-true _ _ (not-false _ (o .1 .1 .0))) in
+      let f = kept-none (λ (n : ℕ). testOf qs n D s) order (every-implied (λ (n : ℕ). testOf rs n D s) (λ (n : ℕ). testOf qs n D s) implied-at order k) in
       let w : wellFormed s ≡ true = not-false _ (o .0) in
-      rw (w, f) (ap success (sym (q .1)))
+      let d : datesFit D ≡ true = not-false _ (o .1 .0) in
+      rw (w, d, f) (ap success (sym (q .1)))
 
 -- ---- R-2
 
 -- before, the outcomes of the rules were those of now with two replaced
-implied-before : (s : Sheet) (n : ℕ) → getD (testsOf s r2.rulesBefore) n true ≡ true → getD (testsOf s rules) n true ≡ true
+implied-before : (D : Dates) (s : Sheet) (n : ℕ) → getD (testsOf D s r2.rulesBefore) n true ≡ true → getD (testsOf D s rules) n true ≡ true
 unfolding testsOf r2.rulesBefore rules
-implied-before s n e =
+implied-before D s n e =
     let b = budget s in
-    let with11 = set (testsOf s rules) 10 (b ⇒ r2.rule11Before s) in
-    set-implies (testsOf s rules) 10 _ (b ⇒ rule11 s) (if-implied b (r2.rule11Before s) _ (or-implied (s ⟨ 102 ⟩ is "0") _ _ (kpp-wider (s ⟨ 102 ⟩)))) n
+    let with11 = set (testsOf D s rules) 10 (b ⇒ r2.rule11Before s) in
+    set-implies (testsOf D s rules) 10 _ (b ⇒ rule11 s) (if-implied b (r2.rule11Before s) _ (or-implied (s ⟨ 102 ⟩ is "0") _ _ (kpp-wider (s ⟨ 102 ⟩)))) n
     (set-implies with11 11 (b ⇒ r2.rule12Before s) (b ⇒ rule12 s) (if-implied b _ _ (kpp-wider (s ⟨ 103 ⟩))) n e)
 
 pub still-accepted : r2.StillAccepted
 unfolding testOf rules r2.rulesBefore
-still-accepted s c e = sym (now s) ∙ accepted-too r2.rulesBefore rules refl refl s refl (implied-before s) c e
+still-accepted D s c e = sym (now D s) ∙ accepted-too r2.rulesBefore rules refl refl D s refl (implied-before D s) c e
 
 -- ---- R-4
 
@@ -112,12 +115,12 @@ rule25-plain s =
     (and-both (s ⟨ 108 ⟩ is "0") _ _ _ (λ z. z) (or-both _ (uin (s ⟨ 22 ⟩)) _ _ (inn12-plain (s ⟨ 60 ⟩)) (λ z. z))))
 
 -- before, the outcomes of the rules were those of now with five replaced
-plain-implied : (s : Sheet) (n : ℕ) → getD (testsOf s rules) n true ≡ true → getD (testsOf s r4.rulesBefore) n true ≡ true
+plain-implied : (D : Dates) (s : Sheet) (n : ℕ) → getD (testsOf D s rules) n true ≡ true → getD (testsOf D s r4.rulesBefore) n true ≡ true
 unfolding testsOf r4.rulesBefore rules
-plain-implied s n e =
+plain-implied D s n e =
     let b = budget s in
     let t = s ⟨ 60 ⟩ in
-    let with25 = set (testsOf s rules) 24 (b ⇒ r4.rule25Before s) in
+    let with25 = set (testsOf D s rules) 24 (b ⇒ r4.rule25Before s) in
     let with24 = set with25 23 (b ⇒ r4.rule24Before s) in
     let with23 = set with24 22 (b ⇒ r4.rule23Before s) in
     let with9 = set with23 8 (b ⇒ r4.rule9Before s) in
@@ -125,8 +128,8 @@ plain-implied s n e =
     (set-implies with23 8 (b ⇒ rule9 s) (b ⇒ r4.rule9Before s) (if-implied b _ _ (inn10-plain (s ⟨ 61 ⟩))) n
     (set-implies with24 22 (b ⇒ rule23 s) (b ⇒ r4.rule23Before s) (if-implied b _ _ (rule23-plain s)) n
     (set-implies with25 23 (b ⇒ rule24 s) (b ⇒ r4.rule24Before s) (if-implied b _ _ (rule24-plain s)) n
-    (set-implies (testsOf s rules) 24 (b ⇒ rule25 s) (b ⇒ r4.rule25Before s) (if-implied b _ _ (rule25-plain s)) n e))))
+    (set-implies (testsOf D s rules) 24 (b ⇒ rule25 s) (b ⇒ r4.rule25Before s) (if-implied b _ _ (rule25-plain s)) n e))))
 
 pub accepted-before : r4.AcceptedBefore
 unfolding testOf rules r4.rulesBefore
-accepted-before s c e = accepted-too rules r4.rulesBefore refl refl s refl (plain-implied s) c (now s ∙ e)
+accepted-before D s c e = accepted-too rules r4.rulesBefore refl refl D s refl (plain-implied D s) c (now D s ∙ e)

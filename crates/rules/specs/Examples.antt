@@ -8,6 +8,7 @@ use lib.ListN.{set, replicate}
 use Rattle.texts.specs.Quoted.{Text, bytes, words}
 use Rattle.texts.specs.Answers.{Answer, success, refusal}
 use Rattle.sheets.specs.Sheet.{slotOf, cell}
+use Rattle.sheets.specs.Dates.{programDates}
 use Rattle.rules.specs.Verdicts.{checked}
 use Rattle.rules.specs.Working.Computing.{rulesComputing}
 
@@ -57,7 +58,7 @@ sheetWith cs = sheetOf (changed s cs)
 
 unfoldable pub answer : List Change → Answer
 unfolding _≔_ changed sheetOf s accepted broken sheetWith rulesComputing
-answer cs = checked (sheetWith cs)
+answer cs = checked programDates (sheetWith cs)
 
 -- each of a table's sheets, differences from S, has its answer
 abbrev pub Right : List (List Change × Answer) → Type 0

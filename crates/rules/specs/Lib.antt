@@ -7,4 +7,5 @@ pub mod R1
 pub mod R2
 pub mod R4
 pub mod R5
+pub mod R7
 pub mod Working

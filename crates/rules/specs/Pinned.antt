@@ -13,6 +13,7 @@ use Rattle.texts.specs.Quoted.{Text, bytes, words}
 use Rattle.texts.specs.Answers.{Answer, refusal}
 use Rattle.sheets.specs.Sheet.{Sheet, slots}
 use Rattle.rules.specs.Rules.{Rule, rules, order, keeps}
+use Rattle.sheets.specs.Dates.{programDates}
 use Rattle.rules.specs.Verdicts.{checked}
 use Rattle.rules.specs.Examples.{Change, _≔_, accepted, broken, sheetWith, answer, varied}
 
@@ -43,14 +44,14 @@ testedOnce = (refl, refl)
 -- those of some rules that a sheet breaks
 breaks : Sheet → List ℕ → List ℕ
 breaks x [] = []
-breaks x (n ∷ ns) = cond (keeps x n) [] (n ∷ []) ++ breaks x ns
+breaks x (n ∷ ns) = cond (keeps programDates x n) [] (n ∷ []) ++ breaks x ns
 
 -- each of some sheets has one value
 abbrev All : {A : Type 0} → List (List Change) → (List Change → A) → A → Type 0
 All ds g v = map (λ (d : List Change). v) ds ≡ map g ds
 
 abbrev kept : ℕ → List Change → Bool
-kept n cs = keeps (sheetWith cs) n
+kept n cs = keeps programDates (sheetWith cs) n
 
 -- What a line says of S with the differences cs. The `refl` at its end has this computed; the prover refuses a line that is not so.
 data Line : Type 0 where
@@ -63,7 +64,7 @@ data Line : Type 0 where
   keep : (n : ℕ) (cs : List Change) (f : ℕ) (q : String) → All (varied cs f q) (kept n) true → Line
   break : (n : ℕ) (cs : List Change) (f : ℕ) (q : String) → All (varied cs f q) (kept n) false → Line
   -- the answer of a sheet's bytes
-  raw : (x : Sheet) (a : Answer) → a ≡ checked x → Line
+  raw : (x : Sheet) (a : Answer) → a ≡ checked programDates x → Line
 
 -- differences that many lines share: two accounts of class A, a UIN, class B, status 06 with its office, 106 to 109 of a customs payment
 to03212 : Change
@@ -184,8 +185,8 @@ malformed =
 
 -- a length of 26, and a byte behind the text, in each slot
 malformedSlots :
-    (map (λ (k : ℕ). checked (set (sheetWith []) (k * 26) 26)) slots ≡ map (λ (k : ℕ). refusal 1 []) slots)
-    × (map (λ (k : ℕ). checked (set (sheetWith []) (k * 26 + 25) 1)) slots ≡ map (λ (k : ℕ). refusal 1 []) slots)
+    (map (λ (k : ℕ). checked programDates (set (sheetWith []) (k * 26) 26)) slots ≡ map (λ (k : ℕ). refusal 1 []) slots)
+    × (map (λ (k : ℕ). checked programDates (set (sheetWith []) (k * 26 + 25) 1)) slots ≡ map (λ (k : ℕ). refusal 1 []) slots)
 unfolding answer
 malformedSlots = (refl, refl)
 
@@ -327,20 +328,20 @@ rules19to35 : List Line
 unfolding answer varied inB to03212 to03222 uin customs
 rules19to35 =
     -- 19, 20: class A alone
-    break 19 (to03222 ∷ []) 101 "01 04 06 07 13 16 17 28 30 32" refl
+    break 19 (to03222 ∷ []) 101 "01 02 04 06 07 13 16 17 28 30 32" refl
     ∷ keep 19 (to03222 ∷ []) 101 "03 05 08 15 19 20 23 24 27 29 31 33" refl
-    ∷ keep 19 inB 101 "01 04 06 07 13 16 17 28 30 32" refl
+    ∷ keep 19 inB 101 "01 02 04 06 07 13 16 17 28 30 32" refl
     ∷ break 19 [] 17 "03212643000000014800 03222643000000014800 03232643000000014800 03242643000000014800" refl
     ∷ break 19 [] 17 "03252643000000014800 03262643000000014800 03272643000000014800 03214643000000014800" refl
     ∷ break 19 [] 17 "03224643000000014800 03234643000000014800 03244643000000014800" refl
-    ∷ keep 20 (to03222 ∷ []) 101 "01 03 04 05 06 07 08 13 15 16 17 19 20 23 24 27 28 29 30 32 33" refl
+    ∷ keep 20 (to03222 ∷ []) 101 "01 02 03 04 05 06 07 08 13 15 16 17 19 20 23 24 27 28 29 30 32 33" refl
     ∷ keep 20 inB 101 "31" refl
     ∷ keep 20 ((101 ≔ "31") ∷ []) 17 "03212643000000014800" refl
     ∷ break 20 ((101 ≔ "31") ∷ []) 17 "03100643000000014800 03222643000000014800 03232643000000014800 03242643000000014800" refl
     ∷ break 20 ((101 ≔ "31") ∷ []) 17 "03252643000000014800 03262643000000014800 03272643000000014800 03214643000000014800" refl
     ∷ break 20 ((101 ≔ "31") ∷ []) 17 "03224643000000014800 03234643000000014800 03244643000000014800" refl
     ∷ break 21 [] 101 "31 33" refl
-    ∷ keep 21 [] 101 "01 03 04 05 06 07 08 13 15 16 17 19 20 23 24 27 28 29 30 32" refl
+    ∷ keep 21 [] 101 "01 02 03 04 05 06 07 08 13 15 16 17 19 20 23 24 27 28 29 30 32" refl
     ∷ break 21 (to03212 ∷ (101 ≔ "31") ∷ []) 22 "0 1234" refl
     ∷ keep 21 (to03212 ∷ (101 ≔ "31") ∷ []) 22 "12345678901234567890 1234567890123456789012345" refl
     ∷ break 22 [] 17 "03212643000000014800" refl
@@ -349,24 +350,24 @@ rules19to35 =
     ∷ keep 22 [] 17 "03224643000000014800 03234643000000014800 03244643000000014800" refl
     ∷ keep 22 (to03212 ∷ []) 22 "1234 12345678901234567890 1234567890123456789012345" refl
     -- 23: what each status wants in 60
-    ∷ keep 23 ((60 ≔ "0") ∷ []) 101 "03 04 05 08 13 15 16 19 20 23 24 27 28 29 30 31 33" refl
+    ∷ keep 23 ((60 ≔ "0") ∷ []) 101 "02 03 04 05 08 13 15 16 19 20 23 24 27 28 29 30 31 33" refl
     ∷ break 23 ((60 ≔ "0") ∷ []) 101 "01 06 07 17 32" refl
-    ∷ keep 23 ((60 ≔ "12345") ∷ []) 101 "03 04 05 08 13 15 16 19 20 23 24 27 28 29 31 33" refl
+    ∷ keep 23 ((60 ≔ "12345") ∷ []) 101 "02 03 04 05 08 13 15 16 19 20 23 24 27 28 29 31 33" refl
     ∷ break 23 ((60 ≔ "12345") ∷ []) 101 "01 06 07 17 30 32" refl
-    ∷ keep 23 ((60 ≔ "7701569743") ∷ []) 101 "01 03 04 05 06 07 08 13 15 16 19 20 23 24 27 28 29 31 32 33" refl
+    ∷ keep 23 ((60 ≔ "7701569743") ∷ []) 101 "01 02 03 04 05 06 07 08 13 15 16 19 20 23 24 27 28 29 31 32 33" refl
     ∷ break 23 ((60 ≔ "7701569743") ∷ []) 101 "17 30" refl
-    ∷ keep 23 ((60 ≔ "781023456779") ∷ []) 101 "01 03 04 05 08 13 15 16 17 19 20 23 24 27 28 29 31 32 33" refl
+    ∷ keep 23 ((60 ≔ "781023456779") ∷ []) 101 "01 02 03 04 05 08 13 15 16 17 19 20 23 24 27 28 29 31 32 33" refl
     ∷ break 23 ((60 ≔ "781023456779") ∷ []) 101 "06 07 30" refl
     ∷ break 23 ((60 ≔ "7722222222") ∷ []) 101 "01 06 07 17 30 32" refl
     ∷ break 23 ((60 ≔ "781023456789") ∷ []) 101 "01 06 07 17 30 32" refl
     ∷ break 24 ((60 ≔ "0") ∷ []) 101 "13" refl
-    ∷ keep 24 ((60 ≔ "0") ∷ []) 101 "01 03 04 05 06 07 08 15 16 17 19 20 23 24 27 28 29 30 31 32 33" refl
+    ∷ keep 24 ((60 ≔ "0") ∷ []) 101 "01 02 03 04 05 06 07 08 15 16 17 19 20 23 24 27 28 29 30 31 32 33" refl
     ∷ break 24 ((101 ≔ "13") ∷ []) 60 "0 12345 7722222222 781023456789" refl
     ∷ keep 24 ((101 ≔ "13") ∷ []) 60 "7701569743 781023456779" refl
     ∷ keep 24 ((101 ≔ "13") ∷ (60 ≔ "12345") ∷ []) 22 "12345678901234567890 1234567890123456789012345" refl
     -- 25: a person identifier, or "0" with a 12-digit INN or a UIN
     ∷ break 25 [] 101 "03 19 20 24" refl
-    ∷ keep 25 [] 101 "01 04 05 06 07 08 13 15 16 17 23 27 28 29 30 31 32 33" refl
+    ∷ keep 25 [] 101 "01 02 04 05 06 07 08 13 15 16 17 23 27 28 29 30 31 32 33" refl
     ∷ keep 25 ((101 ≔ "24") ∷ []) 108 "01;1 02;1 03;1 04;1 05;1 06;1 07;1 08;1 09;1 10;1 11;1 12;1 13;1 14;1" refl
     ∷ keep 25 ((101 ≔ "24") ∷ []) 108 "22;1 24;1 25;1 26;1 28;1 29;1 30;1" refl
     ∷ break 25 ((101 ≔ "24") ∷ []) 108 "1 00 15;1 00;1 01; 123;4" refl
@@ -376,12 +377,12 @@ rules19to35 =
     ∷ break 25 (to03212 ∷ (101 ≔ "24") ∷ []) 22 "1234" refl
     ∷ break 25 (uin ∷ (60 ≔ "781023456779") ∷ (101 ≔ "24") ∷ []) 108 "1 00 123;4" refl
     ∷ break 26 ((108 ≔ "1") ∷ []) 101 "31 33" refl
-    ∷ keep 26 ((108 ≔ "1") ∷ []) 101 "01 03 04 05 06 07 08 13 15 16 17 19 20 23 24 27 28 29 30 32" refl
+    ∷ keep 26 ((108 ≔ "1") ∷ []) 101 "01 02 03 04 05 06 07 08 13 15 16 17 19 20 23 24 27 28 29 30 32" refl
     ∷ keep 26 ((101 ≔ "31") ∷ []) 108 "0" refl
     ∷ break 26 ((101 ≔ "31") ∷ []) 108 "1 00 01;1" refl
     -- 27: 102 by the digits of 60
     ∷ keep 27 ((102 ≔ "0") ∷ []) 101 "01" refl
-    ∷ break 27 ((102 ≔ "0") ∷ []) 101 "03 04 05 06 07 08 13 15 16 17 19 20 23 24 27 28 29 30 31 32 33" refl
+    ∷ break 27 ((102 ≔ "0") ∷ []) 101 "02 03 04 05 06 07 08 13 15 16 17 19 20 23 24 27 28 29 30 31 32 33" refl
     ∷ keep 27 ((102 ≔ "0") ∷ []) 60 "0 781023456779 781023456789" refl
     ∷ break 27 ((102 ≔ "0") ∷ []) 60 "12345" refl
     ∷ keep 27 [] 60 "0 12345 7701569743" refl
@@ -394,16 +395,16 @@ rules19to35 =
     ∷ keep 28 inB 104 "0" refl
     -- 29, 30, 31: the customs group and the others
     ∷ keep 29 ((106 ≔ "00") ∷ []) 101 "06 07 16 17 28 30 32" refl
-    ∷ break 29 ((106 ≔ "00") ∷ []) 101 "01 03 04 05 08 13 15 19 20 23 24 27 29 31 33" refl
+    ∷ break 29 ((106 ≔ "00") ∷ []) 101 "01 02 03 04 05 08 13 15 19 20 23 24 27 29 31 33" refl
     ∷ keep 29 [] 106 "0" refl
     ∷ break 29 [] 106 "00 УВ ИЛ ПБ ТГ ТБ ТД ПВ ИН ПК КЭ" refl
     ∷ keep 29 customs 106 "0 00 УВ ИЛ ПБ ТГ ТБ ТД ПВ ИН ПК КЭ" refl
     ∷ keep 30 ((107 ≔ "10000000") ∷ []) 101 "06 07 16 17 28 30 32" refl
-    ∷ break 30 ((107 ≔ "10000000") ∷ []) 101 "01 03 04 05 08 13 15 19 20 23 24 27 29 31 33" refl
+    ∷ break 30 ((107 ≔ "10000000") ∷ []) 101 "01 02 03 04 05 08 13 15 19 20 23 24 27 29 31 33" refl
     ∷ break 30 ((107 ≔ "0") ∷ []) 101 "06 07 16 17 28 30 32" refl
-    ∷ keep 30 ((107 ≔ "0") ∷ []) 101 "01 03 04 05 08 13 15 19 20 23 24 27 29 31 33" refl
+    ∷ keep 30 ((107 ≔ "0") ∷ []) 101 "01 02 03 04 05 08 13 15 19 20 23 24 27 29 31 33" refl
     ∷ keep 31 ((109 ≔ "00") ∷ []) 101 "06 07 16 17 28 30 32" refl
-    ∷ break 31 ((109 ≔ "00") ∷ []) 101 "01 03 04 05 08 13 15 19 20 23 24 27 29 31 33" refl
+    ∷ break 31 ((109 ≔ "00") ∷ []) 101 "01 02 03 04 05 08 13 15 19 20 23 24 27 29 31 33" refl
     ∷ keep 31 [] 109 "0" refl
     ∷ break 31 [] 109 "00 01.01.2024" refl
     -- 32, 33, 34: 108 and 109 by 106
@@ -418,8 +419,8 @@ rules19to35 =
     ∷ break 34 ((109 ≔ "00") ∷ []) 106 "0 УВ ИЛ ПБ ТГ ТБ ТД ПВ ИН ПК КЭ" refl
     ∷ keep 34 ((106 ≔ "0") ∷ []) 109 "0 01.01.2024" refl
     ∷ keep 34 ((106 ≔ "ТД") ∷ []) 109 "0 01.01.2024" refl
-    ∷ break 35 ((108 ≔ "14;12345678900") ∷ []) 101 "01 03 04 05 06 07 08 13 15 16 17 19 20 23 24 27 28 29 30 31 32 33" refl
-    ∷ keep 35 ((108 ≔ "14;12345678964") ∷ []) 101 "01 03 04 05 06 07 08 13 15 16 17 19 20 23 24 27 28 29 30 31 32 33" refl
+    ∷ break 35 ((108 ≔ "14;12345678900") ∷ []) 101 "01 02 03 04 05 06 07 08 13 15 16 17 19 20 23 24 27 28 29 30 31 32 33" refl
+    ∷ keep 35 ((108 ≔ "14;12345678964") ∷ []) 101 "01 02 03 04 05 06 07 08 13 15 16 17 19 20 23 24 27 28 29 30 31 32 33" refl
     ∷ []
 
 -- ---- "Bytes in hexadecimal: У D3, В C2, И C8, Л CB, П CF, Б C1, Т D2, Г C3, Д C4, Н CD, К CA, Э DD"

@@ -10,6 +10,8 @@ use Rattle.texts.specs.Texts.{_is_, digitsNot00}
 use Rattle.texts.specs.Answers.{Answer, success}
 use Rattle.sheets.specs.Sheet.{Sheet, _⟨_⟩}
 use Rattle.rules.specs.Rules.{Rule, general, special, forBudget, order}
+use Rattle.sheets.specs.Dates.{programDates}
+use Rattle.sheets.specs.declared.dates.Dates.{Dates}
 use Rattle.rules.specs.Verdicts.{checked}
 use Rattle.rules.specs.Before.{replaced, testsBy, checkedBy}
 use Rattle.rules.specs.Examples.{Change, _≔_, accepted, broken, sheetWith, answer, Right, varied}
@@ -29,11 +31,11 @@ rulesBefore = general ++ map forBudget (map (replaced 11 rule11Before) (map (rep
 
 -- "Every sheet accepted before is still accepted", with the same class
 abbrev pub StillAccepted : Type 0
-StillAccepted = (s : Sheet) (c : List ℕ) → checkedBy rulesBefore order s ≡ success c → checked s ≡ success c
+StillAccepted = (D : Dates) (s : Sheet) (c : List ℕ) → checkedBy rulesBefore order D s ≡ success c → checked D s ≡ success c
 
 -- what was accepted before and what was not, so that the statement speaks of something
 was : List Change → Answer
-was cs = checkedBy rulesBefore order (sheetWith cs)
+was cs = checkedBy rulesBefore order programDates (sheetWith cs)
 
 beforehand :
     map was (

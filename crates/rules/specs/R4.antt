@@ -12,6 +12,8 @@ use Rattle.sheets.specs.Sheet.{Sheet, _⟨_⟩}
 use Rattle.sheets.specs.Forms.{_⇒_, uin, foreignCode, person}
 use Rattle.sheets.specs.Lists.{personalGroup, wantInn, wantTen, wantTwelve, wantZero}
 use Rattle.rules.specs.Rules.{Rule, general, special, forBudget, order, status}
+use Rattle.sheets.specs.Dates.{programDates}
+use Rattle.sheets.specs.declared.dates.Dates.{Dates}
 use Rattle.rules.specs.Verdicts.{checked}
 use Rattle.rules.specs.Before.{replaced, testsBy, checkedBy}
 use Rattle.rules.specs.Examples.{Change, _≔_, accepted, broken, sheetWith, answer, Right, varied}
@@ -54,7 +56,7 @@ rulesBefore =
 
 -- every sheet accepted now was accepted before, with the same class
 abbrev pub AcceptedBefore : Type 0
-AcceptedBefore = (s : Sheet) (c : List ℕ) → checked s ≡ success c → checkedBy rulesBefore order s ≡ success c
+AcceptedBefore = (D : Dates) (s : Sheet) (c : List ℕ) → checked D s ≡ success c → checkedBy rulesBefore order D s ≡ success c
 
 -- ---- the table: S with each text of a line in 60 (in 61), and S of status 17 with each in 60
 
@@ -101,7 +103,7 @@ changed = refl
 
 -- what was answered before: accepted with a digit off, refused for 00 in front
 was : List Change → Answer
-was cs = checkedBy rulesBefore order (sheetWith cs)
+was cs = checkedBy rulesBefore order programDates (sheetWith cs)
 
 beforehand :
     map was (

@@ -11,6 +11,8 @@ use Rattle.texts.specs.Answers.{Answer}
 use Rattle.sheets.specs.Sheet.{Sheet, wellFormed, _⟨_⟩}
 use Rattle.sheets.specs.Lists.{account03212, courtsGroup}
 use Rattle.rules.specs.Rules.{rules, status, keeps, keepsAll}
+use Rattle.sheets.specs.Dates.{datesFit, programDates}
+use Rattle.sheets.specs.declared.dates.Dates.{Dates}
 use Rattle.rules.specs.Verdicts.{checked}
 use Rattle.rules.specs.Before.{testsBy, checkedBy}
 use Rattle.rules.specs.Examples.{Change, _≔_, accepted, broken, sheetWith, answer}
@@ -26,25 +28,26 @@ abbrev pub orderBefore : List ℕ
 orderBefore = upTo20 ++ (21 ∷ 22 ∷ from23)
 
 -- "17 begins 03212, status 31 or 33, 22 "0", rules 1 to 20 kept"
-abbrev pub caught : Sheet → Bool
-caught s = (s ⟨ 17 ⟩ begins account03212 && status s courtsGroup) && (s ⟨ 22 ⟩ is "0" && every (keeps s) upTo20)
+abbrev pub caught : Dates → Sheet → Bool
+caught D s = (s ⟨ 17 ⟩ begins account03212 && status s courtsGroup) && (s ⟨ 22 ⟩ is "0" && every (keeps D s) upTo20)
 
-abbrev pub before : Sheet → Answer
-before s = checkedBy rules orderBefore s
+abbrev pub before : Dates → Sheet → Answer
+before D s = checkedBy rules orderBefore D s
 
 -- "The answers that change are exactly these ..": of a well-formed sheet, "They were field 22, rule 21, and become field 22, rule 22.
 -- Nothing else moves, acceptance included"
-pub record Moved (s : Sheet) : Type 0 where
-  pub exactly : (before s ≡ checked s → ⊥) ↔ (caught s ≡ true)
-  pub was : caught s ≡ true → before s ≡ broken 22 21
-  pub becomes : caught s ≡ true → checked s ≡ broken 22 22
-  pub stays : caught s ≡ false → before s ≡ checked s
+pub record Moved (D : Dates) (s : Sheet) : Type 0 where
+  pub exactly : (before D s ≡ checked D s → ⊥) ↔ (caught D s ≡ true)
+  pub was : caught D s ≡ true → before D s ≡ broken 22 21
+  pub becomes : caught D s ≡ true → checked D s ≡ broken 22 22
+  pub stays : caught D s ≡ false → before D s ≡ checked D s
 
 pub record MovedOnly : Type 0 where
-  pub moved : (s : Sheet) → wellFormed s ≡ true → Moved s
-  pub malformed : (s : Sheet) → wellFormed s ≡ false → before s ≡ checked s
+  pub moved : (D : Dates) (s : Sheet) → wellFormed s ≡ true → datesFit D ≡ true → Moved D s
+  pub malformed : (D : Dates) (s : Sheet) → wellFormed s ≡ false → before D s ≡ checked D s
+  pub undated : (D : Dates) (s : Sheet) → datesFit D ≡ false → before D s ≡ checked D s
   -- so completion, which asks whether a filling keeps all rules
-  pub kept : (s : Sheet) → every (keeps s) orderBefore ≡ keepsAll s
+  pub kept : (D : Dates) (s : Sheet) → every (keeps D s) orderBefore ≡ keepsAll D s
 
 -- ---- the table: differences from S, what was answered before, what is answered now
 
@@ -81,12 +84,12 @@ table =
     ∷ ((14 ≔ "044525000") ∷ (15 ≔ "") ∷ (17 ≔ "40503810000004000000") ∷ (101 ≔ "31") ∷ [], (broken 22 21, broken 22 21))
     ∷ []
 
-changed : map (λ (e : List Change × (Answer × Answer)). (before (sheetWith (e .0)), answer (e .0))) table ≡ map (λ (e : List Change × (Answer × Answer)). e .1) table
+changed : map (λ (e : List Change × (Answer × Answer)). (before programDates (sheetWith (e .0)), answer (e .0))) table ≡ map (λ (e : List Change × (Answer × Answer)). e .1) table
 unfolding answer table account other uin checkedBy testsBy
 changed = refl
 
 -- the sheets of the table that are meant: the first four and no other
-meant : map (λ (e : List Change × (Answer × Answer)). caught (sheetWith (e .0))) table
+meant : map (λ (e : List Change × (Answer × Answer)). caught programDates (sheetWith (e .0))) table
     ≡ true ∷ true ∷ true ∷ true ∷ map (λ (n : ℕ). false) (1 ∷ 2 ∷ 3 ∷ 4 ∷ 5 ∷ 6 ∷ 7 ∷ 8 ∷ 9 ∷ 10 ∷ 11 ∷ 12 ∷ 13 ∷ 14 ∷ [])
 unfolding answer table account other uin
 meant = refl

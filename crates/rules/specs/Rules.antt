@@ -7,7 +7,9 @@ use lib.Dec.{eqb}
 use Rattle.texts.specs.Texts.{every, blank, _is_, _isOneOf_, _begins_}
 use Rattle.sheets.specs.Sheet.{Sheet, fieldIn, slotOf, given, _⟨_⟩}
 use Rattle.sheets.specs.Forms.{_⇒_, bik, account, ofClassA, ofClassB, home, uin, code4, foreignCode, inn10, inn12, inn, digits5, digits10, digits12, kpp, kbk, oktmo, office, letterPair, person, document, pension, date}
-use Rattle.sheets.specs.Lists.{account03100, account03212, statuses, customsGroup, treasuryGroup, courtsGroup, personalGroup, wantInn, wantTen, wantTwelve, wantZero}
+use Rattle.sheets.specs.Dates.{statusTexts, listed}
+use Rattle.sheets.specs.declared.dates.Dates.{Dates}
+use Rattle.sheets.specs.Lists.{account03100, account03212, customsGroup, treasuryGroup, courtsGroup, personalGroup, wantInn, wantTen, wantTwelve, wantZero}
 use Rattle.rules.specs.declared.class.Class.{Class}
 use Rattle.rules.specs.declared.class.Class.the-variants.{A, B, O}
 
@@ -63,8 +65,9 @@ rule9 s = inn10 (s ⟨ 61 ⟩)
 abbrev pub status : Sheet → String → Bool
 status s q = s ⟨ 101 ⟩ isOneOf q
 
-abbrev pub rule10 : Sheet → Bool
-rule10 s = status s statuses
+-- the list of the statuses that the date allows (R-7)
+abbrev pub rule10 : Dates → Sheet → Bool
+rule10 D s = listed (s ⟨ 101 ⟩) (statusTexts D)
 
 abbrev pub rule11 : Sheet → Bool
 rule11 s = s ⟨ 102 ⟩ is "0" || kpp (s ⟨ 102 ⟩)
@@ -155,10 +158,10 @@ rule35 s = pension (s ⟨ 108 ⟩)
 pub record Rule : Type 0 where
   pub number : ℕ
   pub field : Sheet → ℕ
-  pub test : Sheet → Bool
+  pub test : Dates → Sheet → Bool
 
 abbrev pub rule : ℕ → ℕ → (Sheet → Bool) → Rule
-rule n f t = record { number = n; field = λ s. f; test = t }
+rule n f t = record { number = n; field = λ s. f; test = λ D s. t s }
 
 -- rule 6 names "the first blank one"
 unfoldable pub firstBlank : Sheet → List ℕ → ℕ
@@ -171,11 +174,11 @@ general = rule 1 14 rule1 ∷ rule 2 15 rule2 ∷ rule 3 17 rule3 ∷ rule 4 101
 abbrev pub special : List Rule
 special =
     rule 5 17 rule5
-    ∷ record { number = 6; field = λ s. firstBlank s needed; test = rule6 }
+    ∷ record { number = 6; field = λ s. firstBlank s needed; test = λ D s. rule6 s }
     ∷ rule 7 22 rule7
     ∷ rule 8 60 rule8
     ∷ rule 9 61 rule9
-    ∷ rule 10 101 rule10
+    ∷ record { number = 10; field = λ s. 101; test = rule10 }
     ∷ rule 11 102 rule11
     ∷ rule 12 103 rule12
     ∷ rule 13 104 rule13
@@ -204,7 +207,7 @@ special =
     ∷ []
 
 abbrev pub forBudget : Rule → Rule
-forBudget r = record { number = r .number; field = r .field; test = λ s. budget s ⇒ r .test s }
+forBudget r = record { number = r .number; field = r .field; test = λ D s. budget s ⇒ r .test D s }
 
 unfoldable pub rules : List Rule
 rules = general ++ map forBudget special
@@ -224,20 +227,20 @@ abbrev pub ahead : List ℕ
 ahead = 5 ∷ 6 ∷ 7 ∷ 8 ∷ 9 ∷ 11 ∷ 12 ∷ 13 ∷ 14 ∷ 16 ∷ 22 ∷ 28 ∷ []
 
 -- the test and the field of the rule with a number
-unfoldable pub testOf : List Rule → ℕ → Sheet → Bool
-testOf [] n s = true
-testOf (r ∷ rs) n s = cond (eqb n (r .number)) (r .test s) (testOf rs n s)
+unfoldable pub testOf : List Rule → ℕ → Dates → Sheet → Bool
+testOf [] n D s = true
+testOf (r ∷ rs) n D s = cond (eqb n (r .number)) (r .test D s) (testOf rs n D s)
 
 unfoldable pub fieldOf : List Rule → ℕ → Sheet → ℕ
 fieldOf [] n s = 0
 fieldOf (r ∷ rs) n s = cond (eqb n (r .number)) (r .field s) (fieldOf rs n s)
 
--- a sheet keeps the rule with a number; it keeps all rules
-unfoldable pub keeps : Sheet → ℕ → Bool
-keeps s n = testOf rules n s
+-- at the dates D a sheet keeps the rule with a number; it keeps all rules
+unfoldable pub keeps : Dates → Sheet → ℕ → Bool
+keeps D s n = testOf rules n D s
 
-unfoldable pub keepsAll : Sheet → Bool
-keepsAll s = every (keeps s) order
+unfoldable pub keepsAll : Dates → Sheet → Bool
+keepsAll D s = every (keeps D s) order
 
 -- the first of some numbers that fails a test, 0 where none does
 unfoldable pub firstNot : (ℕ → Bool) → List ℕ → ℕ
@@ -245,5 +248,5 @@ firstNot p [] = 0
 firstNot p (n ∷ ns) = cond (p n) (firstNot p ns) n
 
 -- the first broken one of some rules
-abbrev pub firstBroken : Sheet → List ℕ → ℕ
-firstBroken s ns = firstNot (keeps s) ns
+abbrev pub firstBroken : Dates → Sheet → List ℕ → ℕ
+firstBroken D s ns = firstNot (keeps D s) ns

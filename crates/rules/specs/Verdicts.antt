@@ -9,11 +9,13 @@ use Rattle.texts.specs.Quoted.{bytes}
 use Rattle.texts.specs.Texts.{every}
 use Rattle.texts.specs.Answers.{Answer, success, refusal, Test, _refuses_, _refuses_with_, answerBy}
 use Rattle.sheets.specs.Sheet.{wellFormed, Sheet}
+use Rattle.sheets.specs.Dates.{datesFit, Dated, InForce}
+use Rattle.sheets.specs.declared.dates.Dates.{Dates}
 use Rattle.rules.specs.Rules.{Rule, classOf, rules, order, fieldOf, keeps, keepsAll, firstBroken}
 use Rattle.rules.specs.declared.class.Class.{Class}
 use Rattle.rules.specs.declared.class.Class.the-variants.{A, B, O}
 use Rattle.rules.specs.declared.check.Verdict.{Verdict}
-use Rattle.rules.specs.declared.check.Verdict.the-variants.{Malformed, Broken, Accepted}
+use Rattle.rules.specs.declared.check.Verdict.the-variants.{Malformed, Undated, Broken, Accepted}
 
 -- "Acceptance returns the class"
 abbrev pub className : Class → List ℕ
@@ -24,6 +26,7 @@ className O = bytes "O"
 -- document 01's number and values for each case of a verdict
 unfoldable pub verdictAnswer : Verdict → Answer
 verdictAnswer Malformed = refusal 1 []
+verdictAnswer Undated = refusal 12 []
 verdictAnswer (Broken f r) = refusal 8 (f .0 ∷ r .0 ∷ [])
 verdictAnswer (Accepted c) = success (className c)
 
@@ -31,29 +34,36 @@ verdictAnswer (Accepted c) = success (className c)
 abbrev pub brokenRule : List Rule → ℕ → Sheet → Test
 brokenRule rs n s = not (eqb n 0) refuses 8 with (fieldOf rs n s ∷ n ∷ [])
 
--- "draft or sheet malformed"; "the first broken one is named with the field in brackets"
-unfoldable pub checkTests : Sheet → List Test
-checkTests s =
+-- "draft or sheet malformed"; 12, "just before 8"; "the first broken one is named with the field in brackets"
+unfoldable pub checkTests : Dates → Sheet → List Test
+checkTests D s =
     (not (wellFormed s) refuses 1)
-    ∷ brokenRule rules (firstBroken s order) s
+    ∷ (not (datesFit D) refuses 12)
+    ∷ brokenRule rules (firstBroken D s order) s
     ∷ []
 
-unfoldable pub checked : Sheet → Answer
-checked s = answerBy (checkTests s) (className (classOf s))
+unfoldable pub checked : Dates → Sheet → Answer
+checked D s = answerBy (checkTests D s) (className (classOf s))
 
 -- the promise of `check`, and what it means
-pub record Checked (s : Sheet) (v : Verdict) : Type 0 where
-  pub answer : verdictAnswer v ≡ checked s
-  -- "A well-formed sheet is accepted exactly when it keeps the rules"
-  pub accepted : wellFormed s ≡ true → (v ≡ Accepted (classOf s)) ↔ (keepsAll s ≡ true)
+pub record Checked (D : Dates) (s : Sheet) (v : Verdict) : Type 0 where
+  pub answer : verdictAnswer v ≡ checked D s
+  -- "A well-formed sheet is accepted exactly when it keeps the rules": at all dates that 12 does not refuse
+  pub accepted : wellFormed s ≡ true → datesFit D ≡ true → (v ≡ Accepted (classOf s)) ↔ (keepsAll D s ≡ true)
   -- "else the answer is the first broken rule and its field": it is broken, and those before it in the order are kept
   pub named :
       wellFormed s ≡ true
-      → (keepsAll s ≡ true → ⊥)
+      → datesFit D ≡ true
+      → (keepsAll D s ≡ true → ⊥)
       → (before : List ℕ) × (n : ℕ) × (after : List ℕ)
       × (order ≡ before ++ (n ∷ after))
-      × (every (keeps s) before ≡ true)
-      × (keeps s n ≡ false)
+      × (every (keeps D s) before ≡ true)
+      × (keeps D s n ≡ false)
       × (v ≡ Broken (record { 0 = fieldOf rules n s }) (record { 0 = n }))
   -- "Malformed"
   pub malformed : (v ≡ Malformed) ↔ (wellFormed s ≡ false)
+  -- "the rest answer 12", and what the rest is
+  pub undated : wellFormed s ≡ true → (v ≡ Undated) ↔ (datesFit D ≡ false)
+  pub dated : (datesFit D ≡ true) ↔ Dated D
+  -- what rule 10's list is
+  pub inForce : InForce D

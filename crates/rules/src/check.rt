@@ -4,6 +4,7 @@ ghost use mathlib.Core.Bool.{true};
 ghost use mathlib.Core.List.{[], _∷_};
 ghost use Rattle.sheets.specs.Sheet.{Sheet};
 ghost use Rattle.sheets.specs.Working.Facts.{Read};
+ghost use Rattle.sheets.specs.declared.dates.Dates.{Dates};
 ghost use Rattle.rules.specs.Rules.{budget, order, basic, ahead, firstNot, firstBroken};
 ghost use Rattle.rules.specs.Working.Tests.{kept, outcomesOn, judgedOn};
 ghost use Rattle.rules.specs.Verdicts.{Checked};
@@ -18,15 +19,18 @@ use crate::groups::general_outcomes;
 use crate::groups::status_outcomes;
 use crate::rules::RuleNumber;
 use crate::rules::field_of;
+use sheets::dates::Dates;
+use sheets::dates::are_fit;
 use sheets::facts::Facts;
 use sheets::facts::facts_of;
 use sheets::sheet::Field;
 use sheets::sheet::well_formed;
 use texts::parts::wide;
 
-// What checking a sheet answers: 1, 8 with field and rule, or acceptance with the class.
+// What checking a sheet answers: 1, 12, 8 with field and rule, or acceptance with the class.
 pub enum Verdict {
     Malformed,
+    Undated,
     Broken(Field, RuleNumber),
     Accepted(Class),
 }
@@ -105,7 +109,7 @@ fn first_broken(outcomes: &[bool], order: &[u8]) -> RuleNumber
 
 // What completion asks of a sheet's facts, in words of the sheet: the first broken one of rules 1 to 3.
 pub fn broken_basic(f: Facts) -> RuleNumber
-    ensures { λ r. ⌜ ((s : Sheet) → Read f s → r .0 ≡ firstBroken s basic) ⌝ }
+    ensures { λ r. ⌜ ((D : Dates) (s : Sheet) → Read D f s → r .0 ≡ firstBroken D s basic) ⌝ }
 {
     first_broken(&general_outcomes(f), &BASIC)
 }
@@ -163,7 +167,7 @@ fn outcomes(f: Facts) -> [bool; 36]
 // What a test ahead of completion asks of a budget payment's facts, in words of the sheet: the first broken one of its rules. It makes no
 // other outcome.
 pub fn broken_ahead(f: Facts) -> RuleNumber
-    ensures { λ r. ⌜ ((s : Sheet) → Read f s → budget s ≡ true → r .0 ≡ firstBroken s ahead) ⌝ }
+    ensures { λ r. ⌜ ((D : Dates) (s : Sheet) → Read D f s → budget s ≡ true → r .0 ≡ firstBroken D s ahead) ⌝ }
 {
     let always = fixed_outcomes(f);
     let given = day_outcomes(f);
@@ -211,13 +215,16 @@ fn broken(f: Facts) -> RuleNumber
 }
 
 // "A well-formed sheet is accepted exactly when it keeps the rules; else the answer is the first broken rule and its field."
-pub fn check(sheet: &[u8]) -> Verdict
-    ensures { λ r. ⌜ Checked (now (sheet .entry)) r ⌝ }
+pub fn check(sheet: &[u8], dates: Dates) -> Verdict
+    ensures { λ r. ⌜ Checked dates (now (sheet .entry)) r ⌝ }
 {
     if !well_formed(sheet) {
         return Verdict::Malformed;
     }
-    let f = facts_of(sheet);
+    if !are_fit(dates) {
+        return Verdict::Undated;
+    }
+    let f = facts_of(sheet, dates);
     let b = broken(f);
     if b.0 != 0 {
         return Verdict::Broken(field_of(b, sheet), b);

@@ -2,6 +2,7 @@
 ghost use mathlib.Core.Path.{_≡_};
 ghost use Rattle.sheets.specs.Sheet.{Sheet};
 ghost use Rattle.sheets.specs.Working.Facts.{Read};
+ghost use Rattle.sheets.specs.declared.dates.Dates.{Dates};
 ghost use Rattle.rules.specs.Rules.{budget};
 ghost use Rattle.rules.specs.Working.Tests.{ordinary, classOn};
 use sheets::facts::Facts;
@@ -31,7 +32,7 @@ pub(crate) fn is_ordinary(f: Facts) -> bool
 }
 
 pub fn is_budget(f: Facts) -> bool
-    ensures { λ r. ⌜ ((s : Sheet) → Read f s → r ≡ budget s) ⌝ }
+    ensures { λ r. ⌜ ((D : Dates) (s : Sheet) → Read D f s → r ≡ budget s) ⌝ }
 {
     f.banking.account.a | f.banking.account.b
 }

@@ -5,6 +5,7 @@ ghost use mathlib.Core.List.{map};
 ghost use Rattle.texts.specs.Texts.{every};
 ghost use Rattle.sheets.specs.Sheet.{Sheet};
 ghost use Rattle.sheets.specs.Working.Facts.{Read};
+ghost use Rattle.sheets.specs.declared.dates.Dates.{Dates};
 ghost use Rattle.rules.specs.Rules.{budget, keeps};
 ghost use Rattle.rules.specs.Working.Tests.{holds, allTrue, generalOn};
 ghost use Rattle.rules.specs.Working.Groups.{fixedRules, statusRules, basisRules, documentRules, dayRules};
@@ -103,31 +104,31 @@ pub(crate) fn day_outcomes(f: Facts) -> [bool; 4]
 
 // Each group, as completion tests it.
 pub fn kept_fixed(f: Facts) -> bool
-    ensures { λ r. ⌜ ((s : Sheet) → Read f s → budget s ≡ true → r ≡ every (keeps s) fixedRules) ⌝ }
+    ensures { λ r. ⌜ ((D : Dates) (s : Sheet) → Read D f s → budget s ≡ true → r ≡ every (keeps D s) fixedRules) ⌝ }
 {
     all_true(&fixed_outcomes(f))
 }
 
 pub fn kept_status(f: Facts) -> bool
-    ensures { λ r. ⌜ ((s : Sheet) → Read f s → budget s ≡ true → r ≡ every (keeps s) statusRules) ⌝ }
+    ensures { λ r. ⌜ ((D : Dates) (s : Sheet) → Read D f s → budget s ≡ true → r ≡ every (keeps D s) statusRules) ⌝ }
 {
     all_true(&status_outcomes(f))
 }
 
 pub fn kept_basis(f: Facts) -> bool
-    ensures { λ r. ⌜ ((s : Sheet) → Read f s → budget s ≡ true → r ≡ every (keeps s) basisRules) ⌝ }
+    ensures { λ r. ⌜ ((D : Dates) (s : Sheet) → Read D f s → budget s ≡ true → r ≡ every (keeps D s) basisRules) ⌝ }
 {
     all_true(&basis_outcomes(f))
 }
 
 pub fn kept_document(f: Facts) -> bool
-    ensures { λ r. ⌜ ((s : Sheet) → Read f s → budget s ≡ true → r ≡ every (keeps s) documentRules) ⌝ }
+    ensures { λ r. ⌜ ((D : Dates) (s : Sheet) → Read D f s → budget s ≡ true → r ≡ every (keeps D s) documentRules) ⌝ }
 {
     all_true(&document_outcomes(f))
 }
 
 pub fn kept_day(f: Facts) -> bool
-    ensures { λ r. ⌜ ((s : Sheet) → Read f s → budget s ≡ true → r ≡ every (keeps s) dayRules) ⌝ }
+    ensures { λ r. ⌜ ((D : Dates) (s : Sheet) → Read D f s → budget s ≡ true → r ≡ every (keeps D s) dayRules) ⌝ }
 {
     all_true(&day_outcomes(f))
 }

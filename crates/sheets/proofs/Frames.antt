@@ -17,7 +17,10 @@ use Rattle.texts.proofs.Bools.{both}
 use Rattle.texts.proofs.Puts.{put-fits, length-put, part-put, mid-put}
 use Rattle.sheets.specs.Sheet.{Sheet, slotCount, textMax, cellSize, sheetSize, cell, cellText, cellOf, textOf}
 use Rattle.sheets.specs.Working.Facts.{standingOf, basisOf, documentOf, dayOf, factsBy, factsOf, Read}
-use Rattle.sheets.specs.Lists.{statusTexts, basisTexts, zeroTexts}
+use Rattle.sheets.specs.Lists.{basisTexts, zeroTexts}
+use Rattle.sheets.specs.Dates.{forceOf, statusTexts}
+use Rattle.sheets.specs.declared.dates.Dates.{Dates}
+use Rattle.sheets.proofs.InForce.{every-in}
 use Rattle.sheets.specs.Working.Entries.{filledAt, statusAt, basisAt, documentAt, dayAt, withAll}
 use Rattle.sheets.specs.declared.facts.Standing.{Standing}
 use Rattle.sheets.specs.declared.facts.Basis.{Basis}
@@ -46,9 +49,9 @@ entry-short [] k h = omega arith
 entry-short (t ∷ ts) zero h = leb-true (length t) textMax (both (short t) (every short ts) h .0)
 entry-short (t ∷ ts) (suc k) h = entry-short ts k (both (short t) (every short ts) h .1)
 
-pub status-sized : (k : ℕ) → length (cell (getD statusTexts k [])) ≡ cellSize
+pub status-sized : (D : Dates) (k : ℕ) → length (cell (getD (statusTexts D) k [])) ≡ cellSize
 unfolding every
-status-sized k = length-cell (getD statusTexts k []) (entry-short statusTexts k refl)
+status-sized D k = length-cell (getD (statusTexts D) k []) (entry-short (statusTexts D) k (every-in short (forceOf D) refl))
 
 pub basis-sized : (k : ℕ) → length (cell (getD basisTexts k [])) ≡ cellSize
 unfolding every
@@ -110,47 +113,47 @@ module _ (s x : List ℕ) (k : ℕ) (size : length s ≡ sheetSize) (lk : k < sl
         | no n ↦ simp (ne-eqb j k n) (filled-other j n)
       ]
 
-facts-filled : (s : Sheet) (k : ℕ) (t : Text) → length s ≡ sheetSize → k < slotCount → length (cell t) ≡ cellSize → factsOf (filledAt s k (cell t)) ≡ factsBy (refilled (textOf s) k t)
-facts-filled s k t size lk lx = ap factsBy (fun-ext (filled-texts s (cell t) k size lk lx)) ∙ ap (λ (u : Text). factsBy (refilled (textOf s) k u)) (text-cell t)
+facts-filled : (D : Dates) (s : Sheet) (k : ℕ) (t : Text) → length s ≡ sheetSize → k < slotCount → length (cell t) ≡ cellSize → factsOf D (filledAt s k (cell t)) ≡ factsBy D (refilled (textOf s) k t)
+facts-filled D s k t size lk lx = ap (factsBy D) (fun-ext (filled-texts s (cell t) k size lk lx)) ∙ ap (λ (u : Text). factsBy D (refilled (textOf s) k u)) (text-cell t)
 
 -- which of the fields that can vary are blank
-pub blank-fields : (f : Facts) (s : Sheet) → Read f s
+pub blank-fields : (D : Dates) (f : Facts) (s : Sheet) → Read D f s
     → (f .status .blank ≡ blank (textOf s 6)) × ((f .basis .blank ≡ blank (textOf s 11)) × ((f .document .blank ≡ blank (textOf s 13)) × (f .day .blank ≡ blank (textOf s 14))))
 unfolding factsBy standingOf basisOf documentOf dayOf
-blank-fields f s o = rw (o .facts) (refl, (refl, (refl, refl)))
+blank-fields D f s o = rw (o .facts) (refl, (refl, (refl, refl)))
 
 -- what is read of a sheet with an entry in such a field: `of` reads the field's facts off its text, `set` puts facts in
-module _ {X : Type 0} (of : Text → X) (set : Facts → X → Facts) (j : ℕ) (lj : j < slotCount) (ts : List Text) (short-ts : every short ts ≡ true)
-    (puts : (t : Sheet) (x : Text) → set (factsOf t) (of (cond (blank (textOf t j)) x (textOf t j))) ≡ factsBy (refilled (textOf t) j x)) where
+module _ (D : Dates) {X : Type 0} (of : Text → X) (set : Facts → X → Facts) (j : ℕ) (lj : j < slotCount) (ts : List Text) (short-ts : every short ts ≡ true)
+    (puts : (t : Sheet) (x : Text) → set (factsOf D t) (of (cond (blank (textOf t j)) x (textOf t j))) ≡ factsBy D (refilled (textOf t) j x)) where
   -- of a sheet t that has in the field what s has
-  filled-in : (g : Facts) (k : ℕ) (s t : Sheet) → Read g t → textOf t j ≡ textOf s j → (y : X) → y ≡ cond (blank (textOf s j)) (of (getD ts k [])) (of (textOf s j))
-      → Read (set g y) (filledAt t j (cell (getD ts k [])))
+  filled-in : (g : Facts) (k : ℕ) (s t : Sheet) → Read D g t → textOf t j ≡ textOf s j → (y : X) → y ≡ cond (blank (textOf s j)) (of (getD ts k [])) (of (textOf s j))
+      → Read D (set g y) (filledAt t j (cell (getD ts k [])))
   filled-in g k s t p e y hy =
       let x = getD ts k [] in
       let lx = length-cell x (entry-short ts k short-ts) in
       let z : y ≡ of (cond (blank (textOf t j)) x (textOf t j)) = hy ∙ ap (λ (v : Text). cond (blank v) (of x) (of v)) (sym e) ∙ chosen of (blank (textOf t j)) x (textOf t j) in
       record {
         size = filled-length t (cell x) j (p .size) lj lx;
-        facts = (λ i. set (p .facts i) (z i)) ∙ puts t x ∙ sym (facts-filled t j x (p .size) lj lx);
+        facts = (λ i. set (p .facts i) (z i)) ∙ puts t x ∙ sym (facts-filled D t j x (p .size) lj lx);
       }
 
-module _ (f g : Facts) (k : ℕ) (s t : Sheet) (o : Read f s) (p : Read g t) where
-  pub status-filled : textOf t 6 ≡ textOf s 6 → (y : Standing) → y ≡ statusAt f k → Read (withAll g y (g .basis) (g .document) (g .day)) (filledAt t 6 (cell (getD statusTexts k [])))
+module _ (D : Dates) (f g : Facts) (k : ℕ) (s t : Sheet) (o : Read D f s) (p : Read D g t) where
+  pub status-filled : textOf t 6 ≡ textOf s 6 → (y : Standing) → y ≡ statusAt f k → Read D (withAll g y (g .basis) (g .document) (g .day)) (filledAt t 6 (cell (getD (statusTexts D) k [])))
   unfolding every factsBy standingOf
   status-filled e y hy =
-      filled-in standingOf (λ h x. withAll h x (h .basis) (h .document) (h .day)) 6 (omega arith) statusTexts refl (λ u x. refl) g k s t p e y (hy ∙ ap (λ (h : Facts). statusAt h k) (o .facts))
+      filled-in D (standingOf (forceOf D)) (λ h x. withAll h x (h .basis) (h .document) (h .day)) 6 (omega arith) (statusTexts D) (every-in short (forceOf D) refl) (λ u x. refl) g k s t p e y (hy ∙ ap (λ (h : Facts). statusAt h k) (o .facts))
 
-  pub basis-filled : textOf t 11 ≡ textOf s 11 → (y : Basis) → y ≡ basisAt f k → Read (withAll g (g .status) y (g .document) (g .day)) (filledAt t 11 (cell (getD basisTexts k [])))
+  pub basis-filled : textOf t 11 ≡ textOf s 11 → (y : Basis) → y ≡ basisAt f k → Read D (withAll g (g .status) y (g .document) (g .day)) (filledAt t 11 (cell (getD basisTexts k [])))
   unfolding every factsBy basisOf
   basis-filled e y hy =
-      filled-in basisOf (λ h x. withAll h (h .status) x (h .document) (h .day)) 11 (omega arith) basisTexts refl (λ u x. refl) g k s t p e y (hy ∙ ap (λ (h : Facts). basisAt h k) (o .facts))
+      filled-in D basisOf (λ h x. withAll h (h .status) x (h .document) (h .day)) 11 (omega arith) basisTexts refl (λ u x. refl) g k s t p e y (hy ∙ ap (λ (h : Facts). basisAt h k) (o .facts))
 
-  pub document-filled : textOf t 13 ≡ textOf s 13 → (y : Document) → y ≡ documentAt f k → Read (withAll g (g .status) (g .basis) y (g .day)) (filledAt t 13 (cell (getD zeroTexts k [])))
+  pub document-filled : textOf t 13 ≡ textOf s 13 → (y : Document) → y ≡ documentAt f k → Read D (withAll g (g .status) (g .basis) y (g .day)) (filledAt t 13 (cell (getD zeroTexts k [])))
   unfolding every factsBy documentOf
   document-filled e y hy =
-      filled-in documentOf (λ h x. withAll h (h .status) (h .basis) x (h .day)) 13 (omega arith) zeroTexts refl (λ u x. refl) g k s t p e y (hy ∙ ap (λ (h : Facts). documentAt h k) (o .facts))
+      filled-in D documentOf (λ h x. withAll h (h .status) (h .basis) x (h .day)) 13 (omega arith) zeroTexts refl (λ u x. refl) g k s t p e y (hy ∙ ap (λ (h : Facts). documentAt h k) (o .facts))
 
-  pub day-filled : textOf t 14 ≡ textOf s 14 → (y : Day) → y ≡ dayAt f k → Read (withAll g (g .status) (g .basis) (g .document) y) (filledAt t 14 (cell (getD zeroTexts k [])))
+  pub day-filled : textOf t 14 ≡ textOf s 14 → (y : Day) → y ≡ dayAt f k → Read D (withAll g (g .status) (g .basis) (g .document) y) (filledAt t 14 (cell (getD zeroTexts k [])))
   unfolding every factsBy dayOf
   day-filled e y hy =
-      filled-in dayOf (λ h x. withAll h (h .status) (h .basis) (h .document) x) 14 (omega arith) zeroTexts refl (λ u x. refl) g k s t p e y (hy ∙ ap (λ (h : Facts). dayAt h k) (o .facts))
+      filled-in D dayOf (λ h x. withAll h (h .status) (h .basis) (h .document) x) 14 (omega arith) zeroTexts refl (λ u x. refl) g k s t p e y (hy ∙ ap (λ (h : Facts). dayAt h k) (o .facts))

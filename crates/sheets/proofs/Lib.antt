@@ -1,3 +1,6 @@
+pub mod InForce
+pub mod Sets
+pub mod Cells
 pub mod Windows
 pub mod Sheets
 pub mod Ways

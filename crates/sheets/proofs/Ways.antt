@@ -1,12 +1,12 @@
 -- What the ways through the functions come to: facts of plain values, of which `search` finds the premises. Assumes nothing.
 use mathlib.Core.Path.{_≡_, refl, ap, sym, _∙_}
-use mathlib.Core.Bool.{Bool, true, false, not, cond, _&&_, _||_, and-comm}
+use mathlib.Core.Bool.{Bool, true, false, not, cond, _&&_, _||_, and-comm, and-true}
 use mathlib.Core.List.{List, [], _∷_}
 use mathlib.Core.Logic.{inl, inr}
 use Prim.Native.Nat.{ℕ, _-_, _%_, _≤_, _<_}
 use native.Mathlib.Decide.{ℕ-discrete, decLt}
 use native.Mathlib.Omega.{arith}
-use borrow.Author.Tests.{eq-eqb, ne-eqb, lt-ltb, le-ltb, le-leb, lt-leb, not-true, not-false}
+use borrow.Author.Tests.{eqb-true, eq-eqb, ne-eqb, lt-ltb, le-ltb, le-leb, lt-leb, not-true, not-false}
 use lib.Dec.{eqb, leb, ltb}
 use lib.ListN.{length, getD}
 use Rattle.texts.specs.Quoted.{Text}
@@ -15,10 +15,15 @@ use Rattle.texts.proofs.Bools.{both}
 use Rattle.texts.proofs.Codes.{same-true, is-one-of}
 use Rattle.texts.proofs.Arms.{AnyOf, arm, outside}
 use Rattle.sheets.specs.Sheet.{sheetSize, textOf}
-use Rattle.sheets.specs.Forms.{weights10, checkDigit, inn10, digits10, digitOrCapital, kpp, document, snilsBound, snilsCheck, snils, pension, monthDays, gregorian, date}
-use Rattle.sheets.specs.Lists.{statuses, customsGroup, treasuryGroup, courtsGroup, personalGroup, banksB, numbersOf, zeroTexts}
-use Rattle.sheets.specs.Working.Facts.{isB, groupsBy, groupsOf, standingBy, standingOf, wantedBy, basisOf, documentOf, dayOf, factsBy, factsOf, Read}
+use Rattle.sheets.specs.Forms.{weights10, checkDigit, inn10, digits10, digitOrCapital, kpp, document, snilsBound, snilsCheck, snils, pension, leap, monthDays, gregorian, date}
+use Rattle.sheets.specs.Lists.{customsGroup, treasuryGroup, courtsGroup, personalGroup, banksB, numbersOf, zeroTexts}
+use Rattle.sheets.specs.Working.Facts.{isB, inSet, allowedBy, groupsBy, groupsOf, standingBy, standingOf, wantedBy, basisOf, documentOf, dayOf, factsBy, factsOf, Read}
 use Rattle.sheets.specs.declared.forms.Wanted.the-variants.{Any, Ten}
+use Rattle.sheets.specs.Dates.{dayNumber, datesFit, forceOf, textsIn, listed}
+use Rattle.sheets.specs.declared.dates.Dates.{Dates}
+use Rattle.sheets.specs.declared.dates.Force.{Force}
+use Rattle.sheets.proofs.InForce.{listed-by}
+use Rattle.sheets.proofs.Sets.{all-set}
 use Rattle.sheets.specs.declared.facts.Standing.{Standing}
 use Rattle.sheets.specs.declared.facts.Basis.{Basis}
 use Rattle.sheets.specs.declared.facts.Document.{Document}
@@ -87,6 +92,34 @@ pub month-31 : (m y : ℕ) → (AnyOf m 4 (6 ∷ 9 ∷ 11 ∷ []) → ⊥) → (
 unfolding monthDays
 month-31 m y a e = simp (outside m 4 (6 ∷ 9 ∷ 11 ∷ []) a, ne-eqb m 2 e)
 
+-- is_gregorian
+month-least : (m y : ℕ) → 28 ≤ monthDays m y
+unfolding monthDays
+month-least m y = go (among m (4 ∷ 6 ∷ 9 ∷ 11 ∷ [])) (eqb m 2) (leap y)
+  where
+    go : (a b c : Bool) → 28 ≤ cond a 30 (cond b (cond c 29 28) 31)
+    go true b c = omega arith
+    go false true true = omega arith
+    go false true false = omega arith
+    go false false c = omega arith
+
+pub gregorian-early : (d m y : ℕ) → d ≤ 28 → (((leb 1900 y && leb y 2099) && (leb 1 m && leb m 12)) && leb 1 d) ≡ gregorian d m y
+unfolding gregorian
+gregorian-early d m y h = sym (simp (le-leb d (monthDays m y) (omega (arith, month-least m y)), and-true))
+
+pub gregorian-late : (d m y n : ℕ) → 28 < d → n ≡ monthDays m y → (((leb 1900 y && leb y 2099) && (leb 1 m && leb m 12)) && leb d n) ≡ gregorian d m y
+unfolding gregorian
+gregorian-late d m y n h e = rw e (sym (simp (le-leb 1 d (omega arith))))
+
+-- are_fit
+pub fit-given : (D : Dates) (a : Bool) → (eqb (D .first32 .0) 20231001 && (eqb (D .first33 .0) 20240101 && eqb (D .last02 .0) 20231231)) ≡ true → a ≡ dayNumber (D .order .0) → (a && leb 20230925 (D .order .0)) ≡ datesFit D
+unfolding datesFit dayNumber gregorian monthDays leap among any are
+fit-given D a h e =
+    let p = both (eqb (D .first32 .0) 20231001) _ h in
+    let q = both (eqb (D .first33 .0) 20240101) _ (p .1) in
+    rw (eqb-true (D .first32 .0) 20231001 (p .0), eqb-true (D .first33 .0) 20240101 (q .0), eqb-true (D .last02 .0) 20231231 (q .1), e)
+    (sym (and-true _))
+
 -- is_date
 pub date-these : (t u v w x z : Text) (d m y : ℕ) (p q g : Bool) → length t ≡ 10 → u ≡ between t 2 3 → p ≡ same u (46 ∷ [])
     → v ≡ between t 5 6 → q ≡ same v (46 ∷ []) → w ≡ between t 0 2 → d ≡ number 2 w → x ≡ between t 3 5 → m ≡ number 2 x
@@ -117,9 +150,12 @@ groups-are t =
       is-one-of 2 t "31" refl,
     )
 
-pub standing-is : (t : Text) (n : ℕ) (r : Standing) → n ≡ number 2 t → r ≡ standingBy n (eqb (length t) 0) → r ≡ standingOf t
-unfolding standingBy standingOf every number value valueOf
-standing-is t n r e f = cc (is-one-of 2 t statuses refl, groups-are t)
+pub standing-is : (F : Force) (t : Text) (n : ℕ) (l : Bool) (r : Standing) → n ≡ number 2 t → l ≡ listed t (textsIn F) → r ≡ standingBy n (eqb (length t) 0) l → r ≡ standingOf F t
+unfolding standingBy standingOf
+standing-is F t n l r e el f = cc (groups-are t)
+
+pub standing-read : (F : Force) (t : Text) (n : ℕ) (a b : Bool) (r : Standing) → n ≡ number 2 t → a ≡ inSet 17072628222 n → b ≡ allowedBy F n → r ≡ standingBy n (eqb (length t) 0) (a && b) → r ≡ standingOf F t
+standing-read F t n a b r e ea eb f = standing-is F t n (a && b) r e (cc (all-set n, listed-by F t)) f
 
 -- is_b: the least account of class B is 40204
 pub b-low : (bank account : ℕ) (four : Bool) → account < 40204 → false ≡ isB bank account four
@@ -133,20 +169,20 @@ pub document-zero : (t : Text) (b : Bool) (r : Document) → b ≡ same t (48 �
 document-zero t b r e h er = er ∙ ap documentOf (sym (same-true t (48 ∷ []) (sym e ∙ h)))
 
 -- facts_of
-pub facts-other : (s : List ℕ) (r : Facts) → (length s ≡ sheetSize → ⊥) → length s ≡ sheetSize → Read r s
-facts-other s r l e = absurd (l e)
+pub facts-other : (D : Dates) (s : List ℕ) (r : Facts) → (length s ≡ sheetSize → ⊥) → length s ≡ sheetSize → Read D r s
+facts-other D s r l e = absurd (l e)
 
-pub facts-is : (s : List ℕ) (h : Banking) (d : Parties) (r : Classifiers) (a : Standing) (b : Basis) (c : Document) (y : Day) (t u v w : Text)
-    → h ≡ factsOf s .banking → d ≡ factsOf s .parties → r ≡ factsOf s .classifiers → t ≡ textOf s 6 → a ≡ standingOf t → u ≡ textOf s 11 → b ≡ basisOf u
+pub facts-is : (D : Dates) (s : List ℕ) (h : Banking) (d : Parties) (r : Classifiers) (F : Force) (a : Standing) (b : Basis) (c : Document) (y : Day) (t u v w : Text)
+    → ((E : Dates) → h ≡ factsOf E s .banking) → ((E : Dates) → d ≡ factsOf E s .parties) → ((E : Dates) → r ≡ factsOf E s .classifiers) → F ≡ forceOf D → t ≡ textOf s 6 → a ≡ standingOf F t → u ≡ textOf s 11 → b ≡ basisOf u
     → v ≡ textOf s 13 → c ≡ documentOf v → w ≡ textOf s 14 → y ≡ dayOf w
-    → length s ≡ sheetSize → Read (record { banking = h; parties = d; classifiers = r; status = a; basis = b; document = c; day = y }) s
+    → length s ≡ sheetSize → Read D (record { banking = h; parties = d; classifiers = r; force = F; status = a; basis = b; document = c; day = y }) s
 unfolding factsBy
-facts-is s h d r a b c y t u v w eh ed er et ea eu eb ev ec ew ey l =
-    let fa : a ≡ standingOf (textOf s 6) = ea ∙ ap standingOf et in
+facts-is D s h d r F a b c y t u v w eh ed er eF et ea eu eb ev ec ew ey l =
+    let fa : a ≡ standingOf (forceOf D) (textOf s 6) = ea ∙ (λ i. standingOf (eF i) (et i)) in
     let fb : b ≡ basisOf (textOf s 11) = eb ∙ ap basisOf eu in
     let fc : c ≡ documentOf (textOf s 13) = ec ∙ ap documentOf ev in
     let fy : y ≡ dayOf (textOf s 14) = ey ∙ ap dayOf ew in
-    record { size = l; facts = λ i. record { banking = eh i; parties = ed i; classifiers = er i; status = fa i; basis = fb i; document = fc i; day = fy i } }
+    record { size = l; facts = λ i. record { banking = eh D i; parties = ed D i; classifiers = er D i; force = eF i; status = fa i; basis = fb i; document = fc i; day = fy i } }
 
 -- has_ten
 pub inn-ten : (t : Text) (b : Bool) → b ≡ inn10 t → b ≡ true → true ≡ digits10 t

@@ -30,16 +30,16 @@ account03100 = "03100"
 abbrev pub account03212 : String
 account03212 = "03212"
 
--- rule 10's statuses, in its order
+-- all statuses, ascending: rule 10's list is those of them that the date allows (R-7: Dates)
 abbrev pub statuses : String
-statuses = "01 03 04 05 06 07 08 13 15 16 17 19 20 23 24 27 28 29 30 31 32 33"
+statuses = "01 02 03 04 05 06 07 08 13 15 16 17 19 20 23 24 27 28 29 30 31 32 33"
 
 -- the statuses of "the customs group"; of rule 19; of rules 21 and 26; of rule 25
 abbrev pub customsGroup : String
 customsGroup = "06 07 16 17 28 30 32"
 
 abbrev pub treasuryGroup : String
-treasuryGroup = "01 04 06 07 13 16 17 28 30 32"
+treasuryGroup = "01 02 04 06 07 13 16 17 28 30 32"
 
 abbrev pub courtsGroup : String
 courtsGroup = "31 33"
@@ -72,10 +72,7 @@ personTypes = "01 02 03 04 05 06 07 08 09 10 11 12 13 14 22 24 25 26 28 29 30"
 abbrev pub numbersOf : ℕ → String → List ℕ
 numbersOf n q = map (number n) (words q)
 
--- completion's lists: "101: rule 10's order. 106: rule 15's order. 108 and 109: "0", "00""
-abbrev pub statusTexts : List Text
-statusTexts = words statuses
-
+-- completion's lists: "106: rule 15's order. 108 and 109: "0", "00""; that of 101 is in Dates
 abbrev pub zeroTexts : List Text
 zeroTexts = words "0 00"
 
@@ -83,9 +80,6 @@ abbrev pub basisTexts : List Text
 basisTexts = zeroTexts ++ words letterPairs
 
 -- how many entries each list has
-abbrev pub statusCount : ℕ
-statusCount = length statusTexts
-
 abbrev pub basisCount : ℕ
 basisCount = length basisTexts
 

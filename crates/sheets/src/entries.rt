@@ -1,23 +1,30 @@
 // Entries of 101, 106, 108 and 109, as cells begin, and the facts of a sheet with one put into a blank field.
 ghost use mathlib.Core.Path.{_≡_};
+ghost use mathlib.Core.Bool.{cond};
 ghost use mathlib.Core.List.{[]};
+ghost use Prim.Native.Nat.{_<_, _≤_};
 ghost use lib.ListN.{getD};
-ghost use Rattle.texts.specs.Texts.{blank};
+ghost use Rattle.texts.specs.Texts.{blank, number};
 ghost use Rattle.sheets.specs.Sheet.{Sheet, cell, textOf};
 ghost use Rattle.sheets.specs.Working.Facts.{standingOf, basisOf, documentOf, dayOf, Read};
-ghost use Rattle.sheets.specs.Lists.{statusTexts, basisTexts, zeroTexts};
-ghost use Rattle.sheets.specs.Working.Entries.{rowOf, filledAt, statusAt, basisAt, documentAt, dayAt};
+ghost use Rattle.sheets.specs.Lists.{basisTexts, zeroTexts};
+ghost use Rattle.sheets.specs.Dates.{textsIn, statusTexts, statusCount};
+ghost use Rattle.sheets.specs.declared.dates.Dates.{Dates};
+ghost use Rattle.sheets.specs.Working.Entries.{rowOf, filledAt, countIn, statusAt, basisAt, documentAt, dayAt};
+use crate::dates::Dates;
+use crate::dates::Force;
+use crate::dates::force_of;
 use crate::facts::Basis;
 use crate::facts::Day;
 use crate::facts::Document;
 use crate::facts::Facts;
-use crate::facts::STATUS_COUNT;
 use crate::facts::STATUSES;
 use crate::facts::Standing;
 use crate::facts::standing_by;
 use crate::forms::LETTER_PAIR_COUNT;
 use crate::forms::LETTER_PAIRS;
 use crate::forms::Status;
+use texts::parts::at;
 
 // "108 and 109: "0", "00""; the list of 106 begins with these.
 pub const ZERO_COUNT: usize = 2;
@@ -26,14 +33,38 @@ const ZEROS: [[u8; 3]; ZERO_COUNT] = [[1, 48, 0], [2, 48, 48]];
 
 pub const BASIS_COUNT: usize = ZERO_COUNT + LETTER_PAIR_COUNT;
 
-// An entry of a list as a cell begins, the length and two bytes; the blank past its end.
-pub fn status_row(k: usize) -> [u8; 3]
-    ensures { λ r. ⌜ r ≡ rowOf (getD statusTexts k []) ⌝ }
+fn one_if(b: bool) -> usize
+    ensures { λ r. ⌜ (r ≡ cond b 1 0) × (r ≤ 1) ⌝ }
 {
-    if STATUS_COUNT <= k {
+    if b { 1 } else { 0 }
+}
+
+// How many statuses are in force.
+fn count_in(force: Force) -> usize
+    ensures { λ r. ⌜ r ≡ countIn force ⌝ }
+{
+    20 + one_if(force.s02) + one_if(force.s32) + one_if(force.s33)
+}
+
+// The number of status k of those in force: it stands past 02 and 32 where these are not.
+fn number_in(force: Force, k: usize) -> u8
+    requires { ⌜ k < countIn force ⌝ }
+    ensures { λ r. ⌜ r ≡ number 2 (getD (textsIn force) k []) ⌝ }
+{
+    let a = k + one_if((1 <= k) & !force.s02);
+    let b = a + one_if((21 <= a) & !force.s32);
+    at(&STATUSES, b)
+}
+
+// An entry of a list as a cell begins, the length and two bytes; the blank past its end.
+pub fn status_row(dates: Dates, k: usize) -> [u8; 3]
+    ensures { λ r. ⌜ r ≡ rowOf (getD (statusTexts dates) k []) ⌝ }
+{
+    let force = force_of(dates);
+    if count_in(force) <= k {
         return [0, 0, 0];
     }
-    let n = STATUSES[k];
+    let n = number_in(force, k);
     [2, 48 + n / 10 % 10, 48 + n % 10]
 }
 
@@ -61,13 +92,13 @@ pub fn basis_row(k: usize) -> [u8; 3]
 
 // The facts of an entry, which the search asks for again and again: by the status's number; "0", "00" and, for 106, the letter pairs by
 // the place in the list; the blank past the end.
-fn status_entry(k: usize) -> Standing
-    ensures { λ r. ⌜ r ≡ standingOf (getD statusTexts k []) ⌝ }
+fn status_entry(force: Force, k: usize) -> Standing
+    ensures { λ r. ⌜ r ≡ standingOf force (getD (textsIn force) k []) ⌝ }
 {
-    if STATUS_COUNT <= k {
-        return standing_by(Status(100), true);
+    if count_in(force) <= k {
+        return standing_by(Status(100), true, false);
     }
-    standing_by(Status(STATUSES[k]), false)
+    standing_by(Status(number_in(force, k)), false, true)
 }
 
 fn basis_entry(k: usize) -> Basis
@@ -109,7 +140,7 @@ fn status_at(f: Facts, k: usize) -> Standing
     ensures { λ r. ⌜ r ≡ statusAt f k ⌝ }
 {
     if f.status.blank {
-        return status_entry(k);
+        return status_entry(f.force, k);
     }
     f.status
 }
@@ -143,32 +174,38 @@ fn day_at(f: Facts, k: usize) -> Day
 
 // What a crate above needs of facts, in words of sheets: whether a field that can vary is blank, and the facts of the sheet with
 // entry k of its list put in; of a sheet g that has in that field what f has.
+pub fn status_count(f: Facts) -> usize
+    ensures { λ r. ⌜ ((D : Dates) (s : Sheet) → Read D f s → r ≡ statusCount D) × ((20 ≤ r) × (r ≤ 23)) ⌝ }
+{
+    count_in(f.force)
+}
+
 pub fn blank_status(f: Facts) -> bool
-    ensures { λ r. ⌜ ((s : Sheet) → Read f s → r ≡ blank (textOf s 6)) ⌝ }
+    ensures { λ r. ⌜ ((D : Dates) (s : Sheet) → Read D f s → r ≡ blank (textOf s 6)) ⌝ }
 {
     f.status.blank
 }
 
 pub fn blank_basis(f: Facts) -> bool
-    ensures { λ r. ⌜ ((s : Sheet) → Read f s → r ≡ blank (textOf s 11)) ⌝ }
+    ensures { λ r. ⌜ ((D : Dates) (s : Sheet) → Read D f s → r ≡ blank (textOf s 11)) ⌝ }
 {
     f.basis.blank
 }
 
 pub fn blank_document(f: Facts) -> bool
-    ensures { λ r. ⌜ ((s : Sheet) → Read f s → r ≡ blank (textOf s 13)) ⌝ }
+    ensures { λ r. ⌜ ((D : Dates) (s : Sheet) → Read D f s → r ≡ blank (textOf s 13)) ⌝ }
 {
     f.document.blank
 }
 
 pub fn blank_day(f: Facts) -> bool
-    ensures { λ r. ⌜ ((s : Sheet) → Read f s → r ≡ blank (textOf s 14)) ⌝ }
+    ensures { λ r. ⌜ ((D : Dates) (s : Sheet) → Read D f s → r ≡ blank (textOf s 14)) ⌝ }
 {
     f.day.blank
 }
 
 pub fn fill_status(f: Facts, k: usize) -> Facts
-    ensures { λ r. ⌜ ((s : Sheet) → Read f s → Read r (filledAt s 6 (cell (getD statusTexts k [])))) ⌝ }
+    ensures { λ r. ⌜ ((D : Dates) (s : Sheet) → Read D f s → Read D r (filledAt s 6 (cell (getD (statusTexts D) k [])))) ⌝ }
 {
     let x = status_at(f, k);
     let mut h = f;
@@ -177,7 +214,7 @@ pub fn fill_status(f: Facts, k: usize) -> Facts
 }
 
 pub fn fill_basis(g: Facts, f: Facts, k: usize) -> Facts
-    ensures { λ r. ⌜ ((s t : Sheet) → Read f s → Read g t → textOf t 11 ≡ textOf s 11 → Read r (filledAt t 11 (cell (getD basisTexts k [])))) ⌝ }
+    ensures { λ r. ⌜ ((D : Dates) (s t : Sheet) → Read D f s → Read D g t → textOf t 11 ≡ textOf s 11 → Read D r (filledAt t 11 (cell (getD basisTexts k [])))) ⌝ }
 {
     let x = basis_at(f, k);
     let mut h = g;
@@ -186,7 +223,7 @@ pub fn fill_basis(g: Facts, f: Facts, k: usize) -> Facts
 }
 
 pub fn fill_document(g: Facts, f: Facts, k: usize) -> Facts
-    ensures { λ r. ⌜ ((s t : Sheet) → Read f s → Read g t → textOf t 13 ≡ textOf s 13 → Read r (filledAt t 13 (cell (getD zeroTexts k [])))) ⌝ }
+    ensures { λ r. ⌜ ((D : Dates) (s t : Sheet) → Read D f s → Read D g t → textOf t 13 ≡ textOf s 13 → Read D r (filledAt t 13 (cell (getD zeroTexts k [])))) ⌝ }
 {
     let x = document_at(f, k);
     let mut h = g;
@@ -195,7 +232,7 @@ pub fn fill_document(g: Facts, f: Facts, k: usize) -> Facts
 }
 
 pub fn fill_day(g: Facts, f: Facts, k: usize) -> Facts
-    ensures { λ r. ⌜ ((s t : Sheet) → Read f s → Read g t → textOf t 14 ≡ textOf s 14 → Read r (filledAt t 14 (cell (getD zeroTexts k [])))) ⌝ }
+    ensures { λ r. ⌜ ((D : Dates) (s t : Sheet) → Read D f s → Read D g t → textOf t 14 ≡ textOf s 14 → Read D r (filledAt t 14 (cell (getD zeroTexts k [])))) ⌝ }
 {
     let x = day_at(f, k);
     let mut h = g;

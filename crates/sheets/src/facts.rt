@@ -6,7 +6,11 @@ ghost use lib.ListN.{length};
 ghost use Rattle.texts.specs.Texts.{every, between, blank, number, _is_};
 ghost use Rattle.sheets.specs.Sheet.{sheetSize, given, textOf};
 ghost use Rattle.sheets.specs.Forms.{inn10, digits10};
-ghost use Rattle.sheets.specs.Working.Facts.{generalOf, isA, isB, accountOf, codeOf, payerOf, formOf, groupsBy, standingBy, standingOf, basisOf, documentOf, dayOf, fixed, factsOf, Read};
+ghost use Rattle.sheets.specs.Working.Facts.{generalOf, isA, isB, accountOf, codeOf, payerOf, formOf, inSet, groupsBy, allowedBy, standingBy, standingOf, basisOf, documentOf, dayOf, fixed, factsOf, Read};
+ghost use Rattle.sheets.specs.declared.dates.Dates.{Dates};
+use crate::dates::Dates;
+use crate::dates::Force;
+use crate::dates::force_of;
 use crate::entries::document_entry;
 use crate::forms::Status;
 use crate::forms::Wanted;
@@ -149,11 +153,12 @@ pub struct Classifiers {
     pub office: Form,
 }
 
-// The last four are those that a filling can vary.
+// The last four are those that a filling can vary; the dates' part in it is what they allow.
 pub struct Facts {
     pub banking: Banking,
     pub parties: Parties,
     pub classifiers: Classifiers,
+    pub force: Force,
     pub status: Standing,
     pub basis: Basis,
     pub document: Document,
@@ -179,11 +184,10 @@ const ACCOUNTS_B: [u32; 3] = [40503, 40603, 40703];
 
 const BANKS_B: [u32; 6] = [000, 001, 002, 003, 004, 005];
 
-// Rule 10's list, which completion goes through as well.
-pub const STATUS_COUNT: usize = 22;
-
-pub(crate) const STATUSES: [u8; STATUS_COUNT] = [
+// All statuses; rule 10's list, which completion goes through as well, is those of them that the date allows.
+pub(crate) const STATUSES: [u8; 23] = [
     01,
+    02,
     03,
     04,
     05,
@@ -207,13 +211,16 @@ pub(crate) const STATUSES: [u8; STATUS_COUNT] = [
     33,
 ];
 
-const CUSTOMS: [u8; 7] = [06, 07, 16, 17, 28, 30, 32];
+// Sets of statuses, bit n for status n: all, and the groups that rules name.
+const ALL_SET: u64 = 17072628222;
 
-const TREASURY: [u8; 10] = [01, 04, 06, 07, 13, 16, 17, 28, 30, 32];
+const CUSTOMS: u64 = 5637341376;
 
-const COURTS: [u8; 2] = [31, 33];
+const TREASURY: u64 = 5637349590;
 
-const PERSONAL: [u8; 4] = [03, 19, 20, 24];
+const COURTS: u64 = 10737418240;
+
+const PERSONAL: u64 = 18350088;
 
 fn general_of<'a>(bik: &'a [u8], bank: &'a [u8], account: &'a [u8]) -> General
     ensures { λ r. ⌜ r ≡ generalOf (now (bik .entry)) (now (bank .entry)) (now (account .entry)) ⌝ }
@@ -302,40 +309,57 @@ fn form_of(t: &[u8], full: bool) -> Form
     }
 }
 
+// A number below 64 is in a set of such numbers.
+fn is_in(n: u8, set: u64) -> bool
+    ensures { λ r. ⌜ r ≡ inSet set n ⌝ }
+{
+    if n < 64 { (set >> n) % 2 == 1 } else { false }
+}
+
 fn groups_of(status: Status) -> Groups
     ensures { λ r. ⌜ r ≡ groupsBy (status .0) ⌝ }
 {
     let n = status.0;
     Groups {
-        customs: is_among(n, &CUSTOMS),
-        treasury: is_among(n, &TREASURY),
-        courts: is_among(n, &COURTS),
-        personal: is_among(n, &PERSONAL),
+        customs: is_in(n, CUSTOMS),
+        treasury: is_in(n, TREASURY),
+        courts: is_in(n, COURTS),
+        personal: is_in(n, PERSONAL),
         is01: is_among(n, &[01]),
         is13: is_among(n, &[13]),
         is31: is_among(n, &[31]),
     }
 }
 
-// 101 by its number, which is 100 where it is not two digits.
-pub(crate) fn standing_by(status: Status, blank: bool) -> Standing
-    ensures { λ r. ⌜ r ≡ standingBy (status .0) blank ⌝ }
+// The date allows a status, by its number.
+fn is_allowed(status: Status, force: Force) -> bool
+    ensures { λ r. ⌜ r ≡ allowedBy force (status .0) ⌝ }
+{
+    let n = status.0;
+    (!(2 == n) | force.s02) & ((!(32 == n) | force.s32) & (!(33 == n) | force.s33))
+}
+
+// 101 by its number, which is 100 where it is not two digits, and whether it is in rule 10's list.
+pub(crate) fn standing_by(status: Status, blank: bool, listed: bool) -> Standing
+    ensures { λ r. ⌜ r ≡ standingBy (status .0) blank listed ⌝ }
 {
     let n = status.0;
     let groups = groups_of(Status(n));
     let wanted = wanted_by(Status(n));
     Standing {
         blank: blank,
-        listed: is_among(n, &STATUSES),
+        listed: listed,
         groups: groups,
         wanted: wanted,
     }
 }
 
-fn standing_of(t: &[u8]) -> Standing
-    ensures { λ r. ⌜ r ≡ standingOf (now (t .entry)) ⌝ }
+fn standing_of(t: &[u8], force: Force) -> Standing
+    ensures { λ r. ⌜ r ≡ standingOf force (now (t .entry)) ⌝ }
 {
-    standing_by(Status(number_2(t)), t.len() == 0)
+    let n = number_2(t);
+    let listed = is_in(n, ALL_SET) & is_allowed(Status(n), force);
+    standing_by(Status(n), t.len() == 0, listed)
 }
 
 fn basis_of(t: &[u8]) -> Basis
@@ -396,7 +420,7 @@ fn all_given(sheet: &[u8]) -> bool
 }
 
 fn banking_of(sheet: &[u8]) -> Banking
-    ensures { λ r. ⌜ r ≡ factsOf (now (sheet .entry)) .banking ⌝ }
+    ensures { λ r. ⌜ ((D : Dates) → r ≡ factsOf D (now (sheet .entry)) .banking) ⌝ }
 {
     let bik = text(sheet, 0);
     let bank = text(sheet, 1);
@@ -412,7 +436,7 @@ fn banking_of(sheet: &[u8]) -> Banking
 }
 
 fn parties_of(sheet: &[u8]) -> Parties
-    ensures { λ r. ⌜ r ≡ factsOf (now (sheet .entry)) .parties ⌝ }
+    ensures { λ r. ⌜ ((D : Dates) → r ≡ factsOf D (now (sheet .entry)) .parties) ⌝ }
 {
     let code = code_of(text(sheet, 3));
     let payer = payer_of(text(sheet, 4));
@@ -430,7 +454,7 @@ fn parties_of(sheet: &[u8]) -> Parties
 }
 
 fn classifiers_of(sheet: &[u8]) -> Classifiers
-    ensures { λ r. ⌜ r ≡ factsOf (now (sheet .entry)) .classifiers ⌝ }
+    ensures { λ r. ⌜ ((D : Dates) → r ≡ factsOf D (now (sheet .entry)) .classifiers) ⌝ }
 {
     let kbk = text(sheet, 9);
     let oktmo = text(sheet, 10);
@@ -443,22 +467,23 @@ fn classifiers_of(sheet: &[u8]) -> Classifiers
 }
 
 // A function of its own: the compiler makes an array at the head of the function that has it.
-fn empty_facts() -> Facts {
-    facts_of(&[0u8; SHEET_SIZE])
+fn empty_facts(dates: Dates) -> Facts {
+    facts_of(&[0u8; SHEET_SIZE], dates)
 }
 
 // The test of the size tells the compiler where every field stands. Of a sheet that has another size nothing is promised: the
 // facts are those of an empty one.
-pub fn facts_of(sheet: &[u8]) -> Facts
-    ensures { λ r. ⌜ (length (now (sheet .entry)) ≡ sheetSize → Read r (now (sheet .entry))) ⌝ }
+pub fn facts_of(sheet: &[u8], dates: Dates) -> Facts
+    ensures { λ r. ⌜ (length (now (sheet .entry)) ≡ sheetSize → Read dates r (now (sheet .entry))) ⌝ }
 {
     if sheet.len() != SHEET_SIZE {
-        return empty_facts();
+        return empty_facts(dates);
     }
     let banking = banking_of(sheet);
     let parties = parties_of(sheet);
     let classifiers = classifiers_of(sheet);
-    let status = standing_of(text(sheet, 6));
+    let force = force_of(dates);
+    let status = standing_of(text(sheet, 6), force);
     let basis = basis_of(text(sheet, 11));
     let document = document_of(text(sheet, 13));
     let day = day_of(text(sheet, 14));
@@ -466,6 +491,7 @@ pub fn facts_of(sheet: &[u8]) -> Facts
         banking: banking,
         parties: parties,
         classifiers: classifiers,
+        force: force,
         status: status,
         basis: basis,
         document: document,

@@ -293,10 +293,15 @@ fn month_days(m: u8, y: usize) -> u8
     }
 }
 
-fn is_gregorian(d: u8, m: u8, y: usize) -> bool
+// No month has fewer than 28 days.
+pub(crate) fn is_gregorian(d: u8, m: u8, y: usize) -> bool
     ensures { λ r. ⌜ r ≡ gregorian d m y ⌝ }
 {
-    (((1900 <= y) & (y <= 2099)) & ((1 <= m) & (m <= 12))) & ((1 <= d) & (d <= month_days(m, y)))
+    let usual = ((1900 <= y) & (y <= 2099)) & ((1 <= m) & (m <= 12));
+    if d <= 28 {
+        return usual & (1 <= d);
+    }
+    usual & (d <= month_days(m, y))
 }
 
 pub(crate) fn is_date(t: &[u8]) -> bool

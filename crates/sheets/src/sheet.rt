@@ -1,8 +1,9 @@
 // Fields, and a sheet's texts and form.
 ghost use mathlib.Core.Path.{_≡_};
-ghost use Prim.Native.Nat.{_+_};
+ghost use Prim.Native.Nat.{_+_, _≤_};
 ghost use Rattle.texts.specs.Texts.{every, are, between};
-ghost use Rattle.sheets.specs.Sheet.{slotOf, fieldIn, cellSize, cellText, cellOk, cellOf, textOf, slotOk, wellFormed};
+ghost use Rattle.sheets.specs.Sheet.{slotCount, slotOf, fieldIn, cellSize, cellText, cellOk, cellOf, textOf, wellFormed};
+ghost use Rattle.sheets.specs.Working.Cells.{cellAt, cellsAt};
 use texts::comparisons::all_are;
 use texts::parts::at;
 use texts::parts::part;
@@ -21,10 +22,10 @@ pub const SLOT_COUNT: u8 = FIELD_COUNT as u8;
 // "A sheet has 390 bytes, slot i at 26 × i".
 pub const SHEET_SIZE: usize = FIELD_COUNT * CELL_SIZE;
 
+const CELL_STEP: u8 = CELL_SIZE as u8;
+
 // The number of a field of the order.
 pub struct Field(pub u8);
-
-const SLOTS: [u8; FIELD_COUNT] = [0, 1, 2, 3, 4, 5, 6, 7, 8, 9, 10, 11, 12, 13, 14];
 
 const FIELDS: [u8; FIELD_COUNT] = [
     14,
@@ -135,27 +136,37 @@ fn is_padded(c: &[u8], n: usize) -> bool
 }
 
 // A cell has a length of at most 25, and zero bytes after its text.
-pub fn cell_ok(c: &[u8]) -> bool
+fn cell_ok(c: &[u8]) -> bool
     ensures { λ r. ⌜ r ≡ cellOk (now (c .entry)) ⌝ }
 {
     let n = wide(at(c, 0));
     (n <= TEXT_MAX) & is_padded(c, 1 + n)
 }
 
-fn slot_ok(sheet: &[u8], slot: u8) -> bool
-    ensures { λ r. ⌜ r ≡ slotOk (now (sheet .entry)) slot ⌝ }
+// A cell stands whole at a place, and is so.
+fn is_cell(t: &[u8], place: usize) -> bool
+    requires { ⌜ place ≤ 4096 ⌝ }
+    ensures { λ r. ⌜ r ≡ cellAt (now (t .entry)) place ⌝ }
 {
-    cell_ok(cell(sheet, slot))
+    if place + CELL_SIZE <= t.len() {
+        cell_ok(&t[place..place + CELL_SIZE])
+    } else {
+        false
+    }
 }
 
-fn slots_ok(sheet: &[u8], slots: &[u8]) -> bool
-    ensures { λ r. ⌜ r ≡ every (slotOk (now (sheet .entry))) (now (slots .entry)) ⌝ }
+// Fifteen cells are so, the first at a place and each next a step further: a sheet's, or those in a draft. One loop tests both, so
+// that `cell_ok` is called from one place and compiled into it.
+pub fn cells_ok(t: &[u8], first: u8, step: u8) -> bool
+    ensures { λ r. ⌜ r ≡ cellsAt step slotCount (now (t .entry)) first ⌝ }
 {
     let mut good = true;
-    let mut i = 0;
-    while i < slots.len() {
-        good = good & slot_ok(sheet, slots[i]);
-        i += 1;
+    let mut place = wide(first);
+    let mut slot: u8 = 0;
+    while slot < SLOT_COUNT {
+        good = good & is_cell(t, place);
+        place += wide(step);
+        slot += 1;
     }
     good
 }
@@ -167,5 +178,5 @@ pub fn well_formed(sheet: &[u8]) -> bool
     if sheet.len() != SHEET_SIZE {
         return false;
     }
-    slots_ok(sheet, &SLOTS)
+    cells_ok(sheet, 0, CELL_STEP)
 }

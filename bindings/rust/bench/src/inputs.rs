@@ -84,6 +84,36 @@ fn draft(texts: &Texts) -> Draft {
     texts.draft(|_| 1)
 }
 
+/// The drafts that are tested and completed.
+pub struct Drafts {
+    /// Nothing blank.
+    pub full: Vec<Draft>,
+    /// Completed at count 97.
+    pub count_97: Vec<Draft>,
+    /// None of 1,056 fillings, by rule 22.
+    pub hopeless: Vec<Draft>,
+    /// Nothing blank, and hopeless from the start, in turn.
+    pub full_or_hopeless: Vec<Draft>,
+    /// None of 1,056 fillings, by rule 28.
+    pub hopeless_from_the_start: Vec<Draft>,
+    /// None of 1,056 fillings, and not caught by the test.
+    pub uncaught: Vec<Draft>,
+}
+
+/// All of them; those that came later have random numbers of their own, so that the others
+/// stay as they were.
+pub fn drafts(random: &mut Random) -> Drafts {
+    let other = &mut self::random();
+    Drafts {
+        full: full(random),
+        count_97: count_97(random),
+        hopeless: hopeless(random),
+        full_or_hopeless: full_or_hopeless(other),
+        hopeless_from_the_start: hopeless_from_the_start(other),
+        uncaught: uncaught(other),
+    }
+}
+
 /// Drafts with nothing blank, to be accepted.
 pub fn full(random: &mut Random) -> Vec<Draft> {
     many(random, |random| draft(&like_s(random)))
@@ -115,7 +145,7 @@ fn hopeless_texts(random: &mut Random) -> Texts {
 
 /// Drafts to an account that wants a KBK, with "0" in 104: hopeless from the start,
 /// with none of 1,056 fillings.
-pub fn hopeless_from_the_start(random: &mut Random) -> Vec<Draft> {
+fn hopeless_from_the_start(random: &mut Random) -> Vec<Draft> {
     many(random, |random| {
         let texts = like_s(random).with(104, b"0");
         draft(&texts.without(&BLANKS))
@@ -124,7 +154,7 @@ pub fn hopeless_from_the_start(random: &mut Random) -> Vec<Draft> {
 
 /// Drafts with nothing blank, to be accepted, and drafts hopeless from the start, in
 /// turn.
-pub fn full_or_hopeless(random: &mut Random) -> Vec<Draft> {
+fn full_or_hopeless(random: &mut Random) -> Vec<Draft> {
     let pairs = full(random)
         .into_iter()
         .zip(hopeless_from_the_start(random));
@@ -133,7 +163,7 @@ pub fn full_or_hopeless(random: &mut Random) -> Vec<Draft> {
 }
 
 /// Drafts that are not caught by the test, with none of 1,056 fillings.
-pub fn uncaught(random: &mut Random) -> Vec<Draft> {
+fn uncaught(random: &mut Random) -> Vec<Draft> {
     many(random, |random| {
         draft(&uncaught_texts(random).without(&VARYING))
     })
@@ -291,15 +321,19 @@ fn entry(random: &mut Random) -> Draft {
 #[cfg(test)]
 mod tests {
     use super::*;
+    use crate::dates::{ANOTHER, GIVEN};
     use reference::{Broken, Refusal};
 
     type Answer = (Result<Option<Broken>, Refusal>, Result<u32, Refusal>);
 
-    /// What the pretest answers, and the count of the completion.
+    /// What the pretest answers, and the count of the completion: with both records.
     fn answer(draft: &Draft) -> Answer {
-        let completed = reference::complete(draft, &mut [0; 390]);
-        let count = completed.map(|completed| completed.count);
-        (reference::pretest(draft), count)
+        let [given, another] = [GIVEN, ANOTHER].map(|dated| {
+            let completed = dated.complete_by_second(draft, &mut [0; 390]);
+            completed.map(|completed| completed.count)
+        });
+        assert_eq!(given, another);
+        (reference::pretest(draft), given)
     }
 
     const fn named(field: u8, rule: u8) -> Answer {

@@ -6,6 +6,7 @@
 #![deny(unsafe_code)]
 
 mod book;
+mod dates;
 mod inputs;
 mod measure;
 mod report;
@@ -20,8 +21,9 @@ use std::io::{self, ErrorKind};
 use std::path::Path;
 use std::process::{Command, ExitCode};
 
-use cases::{Charge, Draft, Parting, Pooling, Random, Sharing, Sheet, POOL_SIZE};
-use inputs::Waiting;
+use cases::{Charge, Draft, Parting, Pooling, Sharing, Sheet, POOL_SIZE};
+use dates::{Dated, ANOTHER, GIVEN};
+use inputs::{Drafts, Waiting};
 use measure::{Goal, Row, NO_SLOWER};
 use report::Report;
 
@@ -43,21 +45,16 @@ fn main() -> ExitCode {
 
 fn measure_all() -> Report {
     let mut random = inputs::random();
-    let mut rows = vec![
-        check(
-            "check, an accepted sheet",
-            0.7,
-            inputs::accepted(&mut random),
-        ),
-        check(
-            "check, a late broken rule (34)",
-            0.7,
-            inputs::late(&mut random),
-        ),
-        check("check, mixed sheets", 0.7, inputs::mixed(&mut random)),
-        post(inputs::messages(&mut random)),
+    let sheets = [
+        ("check, an accepted sheet", inputs::accepted(&mut random)),
+        ("check, a late broken rule (34)", inputs::late(&mut random)),
+        ("check, mixed sheets", inputs::mixed(&mut random)),
     ];
-    rows.extend(completions(&mut random));
+    let mut rows = checks(&sheets, GIVEN);
+    rows.push(post(inputs::messages(&mut random)));
+    let drafts = inputs::drafts(&mut random);
+    rows.push(pretest(&drafts.full_or_hopeless));
+    rows.extend(completions(&drafts, GIVEN));
     // Random numbers of their own, so that the inputs of the other rows stay as they
     // were.
     let mut other = inputs::random();
@@ -78,6 +75,8 @@ fn measure_all() -> Report {
         inputs::registers(&mut inputs::random(), 500, 500),
     ));
     rows.push(leave(inputs::payments(&mut inputs::random())));
+    rows.extend(checks(&sheets, ANOTHER));
+    rows.extend(completions(&drafts, ANOTHER));
     Report {
         rows,
         pools: pools(),
@@ -89,33 +88,38 @@ fn measure_all() -> Report {
     }
 }
 
-/// The rows of completion, and of the test ahead of it.
-fn completions(random: &mut Random) -> [Row; 6] {
-    let full = complete("complete, nothing blank", NO_SLOWER, inputs::full(random));
+/// The rows of checks.
+fn checks(sheets: &[(&str, Vec<Sheet>)], dated: Dated) -> Vec<Row> {
+    let row = |(name, sheets): &(&str, Vec<Sheet>)| check(name, 0.7, sheets, dated);
+    sheets.iter().map(row).collect()
+}
+
+/// The rows of completions.
+fn completions(drafts: &Drafts, dated: Dated) -> [Row; 5] {
+    let row = |name, goal, drafts: &[Draft]| complete(name, goal, drafts, dated);
+    let full = row("complete, nothing blank", NO_SLOWER, &drafts.full);
     let as_full = Goal::OfOwn {
         part: 1.2,
         name: "nothing blank",
         library: full.library,
     };
-    let other = &mut inputs::random();
     [
         full,
-        complete("complete, count 97", NO_SLOWER, inputs::count_97(random)),
-        complete(
+        row("complete, count 97", NO_SLOWER, &drafts.count_97),
+        row(
             "complete, hopeless, 1,056 fillings",
             Goal::OfSecond(0.2),
-            inputs::hopeless(random),
+            &drafts.hopeless,
         ),
-        pretest(inputs::full_or_hopeless(other)),
-        complete(
+        row(
             "complete, hopeless from the start, 1,056 fillings",
             as_full,
-            inputs::hopeless_from_the_start(other),
+            &drafts.hopeless_from_the_start,
         ),
-        complete(
+        row(
             "complete, hopeless, not caught by the test",
             Goal::OfSecond(0.2),
-            inputs::uncaught(other),
+            &drafts.uncaught,
         ),
     ]
 }
@@ -126,19 +130,19 @@ type Growth = Vec<(usize, Vec<Draft>)>;
 fn growth(caught: Growth, uncaught: Growth) -> Vec<(usize, Row, Row)> {
     let both = caught.into_iter().zip(uncaught);
     both.map(|((fillings, caught), (_, uncaught))| {
-        let row = |drafts| complete("", NO_SLOWER, drafts);
-        (fillings, row(caught), row(uncaught))
+        let row = |drafts: &[Draft]| complete("", NO_SLOWER, drafts, GIVEN);
+        (fillings, row(&caught), row(&uncaught))
     })
     .collect()
 }
 
-fn check(name: &'static str, goal: f64, sheets: Vec<Sheet>) -> Row {
+fn check(name: &str, goal: f64, sheets: &[Sheet], dated: Dated) -> Row {
     Row::measure(
-        name,
+        format!("{name}{}", dated.name),
         Goal::OfSecond(goal),
-        &sheets,
-        |sheet| kieselbrot::check(sheet),
-        |sheet| reference::check(sheet),
+        sheets,
+        |sheet| dated.check(sheet),
+        |sheet| dated.check_by_second(sheet),
     )
 }
 
@@ -164,29 +168,29 @@ fn post(lists: Vec<Vec<Vec<u8>>>) -> Row {
     )
 }
 
-fn pretest(drafts: Vec<Draft>) -> Row {
+fn pretest(drafts: &[Draft]) -> Row {
     Row::measure(
         "pretest, hopeless from the start or nothing blank",
         NO_SLOWER,
-        &drafts,
+        drafts,
         |draft| kieselbrot::pretest(draft),
         |draft| reference::pretest(draft),
     )
 }
 
-fn complete(name: &'static str, goal: Goal, drafts: Vec<Draft>) -> Row {
+fn complete(name: &str, goal: Goal, drafts: &[Draft], dated: Dated) -> Row {
     Row::measure(
-        name,
+        format!("{name}{}", dated.name),
         goal,
-        &drafts,
+        drafts,
         |draft| {
             let mut sheet = [0; 390];
-            let answer = kieselbrot::complete(draft, &mut sheet);
+            let answer = dated.complete(draft, &mut sheet);
             (answer, sheet)
         },
         |draft| {
             let mut sheet = [0; 390];
-            let answer = reference::complete(draft, &mut sheet);
+            let answer = dated.complete_by_second(draft, &mut sheet);
             (answer, sheet)
         },
     )

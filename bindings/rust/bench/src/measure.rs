@@ -46,7 +46,7 @@ impl fmt::Display for Goal {
 #[derive(Clone, Debug)]
 pub struct Row {
     /// What was measured.
-    pub name: &'static str,
+    pub name: String,
     /// The library.
     pub library: f64,
     /// The second implementation.
@@ -58,7 +58,7 @@ pub struct Row {
 impl Row {
     /// Measures both on the same inputs, batch after batch in turn.
     pub fn measure<T, A, B>(
-        name: &'static str,
+        name: impl Into<String>,
         goal: Goal,
         inputs: &[T],
         library: impl Fn(&T) -> A,
@@ -73,7 +73,7 @@ impl Row {
         }
         let [library, reference] = least;
         Self {
-            name,
+            name: name.into(),
             library,
             reference,
             goal,

@@ -105,8 +105,12 @@ pretest names a rule: rule 28 in the row that says so, rule 22 in the row \"comp
 hopeless, 1,056 fillings\". It is not caught by the test if the pretest names none;
 those in the table have 1,056 fillings, too. The book of which half is hopeless from
 the start has 100,000 drafts and is completed on one core. A goal that is a part of
-\"nothing blank\" is a part of the library's own time in that row; that ratio stands
-right of it.
+\"nothing blank\" is a part of the library's own time in that row with the same record;
+that ratio stands right of it.
+
+Checks and completions are at the date 20240101 with the given record, and in the rows
+with another record at 20240115 with 20231002, 20240102 and 20231230, on the same
+inputs; both records allow the same 22 statuses.
 ";
 
 const GROWTH: &str = "

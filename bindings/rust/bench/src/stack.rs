@@ -8,6 +8,7 @@ use std::thread;
 
 use cases::{Draft, Pooling, Random};
 
+use crate::dates::GIVEN;
 use crate::inputs;
 
 /// How much of the stack is painted: far more than a call uses.
@@ -30,8 +31,8 @@ pub fn rows(random: &mut Random) -> Vec<Stack> {
     let sheet = inputs::accepted(random)[0];
     let mut rows = vec![Stack {
         name: "check, an accepted sheet",
-        library: used(&|| keep(kieselbrot::check(black_box(&sheet)))),
-        reference: used(&|| keep(reference::check(black_box(&sheet)))),
+        library: used(&|| keep(GIVEN.check(black_box(&sheet)))),
+        reference: used(&|| keep(GIVEN.check_by_second(black_box(&sheet)))),
     }];
     let drafts = [
         ("complete, nothing blank", inputs::full(random)[0]),
@@ -55,8 +56,8 @@ pub fn rows(random: &mut Random) -> Vec<Stack> {
 fn completion(name: &'static str, draft: &Draft) -> Stack {
     Stack {
         name,
-        library: writing(390, &|sheet| kieselbrot::complete(draft, sheet).is_ok()),
-        reference: writing(390, &|sheet| reference::complete(draft, sheet).is_ok()),
+        library: writing(390, &|sheet| GIVEN.complete(draft, sheet).is_ok()),
+        reference: writing(390, &|sheet| GIVEN.complete_by_second(draft, sheet).is_ok()),
     }
 }
 

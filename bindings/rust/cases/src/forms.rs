@@ -1,13 +1,8 @@
 //! Texts of one field: those that a form allows, and those beside it.
 
+use crate::dates::Dates;
 use crate::random::Random;
 use crate::texts::Text;
-
-/// Rule 10's statuses.
-pub const STATUSES: [&str; 22] = [
-    "01", "03", "04", "05", "06", "07", "08", "13", "15", "16", "17", "19", "20", "23", "24", "27",
-    "28", "29", "30", "31", "32", "33",
-];
 
 /// Rule 15's texts.
 pub const BASES: [&[u8]; 12] = [
@@ -43,9 +38,15 @@ const PERSONS: [&str; 21] = [
 /// A field's list in completion; empty if it has none.
 #[must_use]
 pub fn list(field: u8) -> Vec<&'static [u8]> {
+    list_at(field, Dates::PROGRAM)
+}
+
+/// The same at other dates.
+#[must_use]
+pub fn list_at(field: u8, dates: Dates) -> Vec<&'static [u8]> {
     match field {
         22 | 60 | 102 | 104 | 105 | 107 => vec![b"0"],
-        101 => STATUSES.map(str::as_bytes).to_vec(),
+        101 => dates.statuses().into_iter().map(str::as_bytes).collect(),
         106 => BASES.to_vec(),
         108 | 109 => vec![b"0", b"00"],
         _ => vec![],
@@ -414,8 +415,8 @@ fn near_document(random: &mut Random) -> Text {
     }
 }
 
-/// A text that might stand in this field.
-pub fn text_for(random: &mut Random, field: u8) -> Text {
+/// A text that might stand in this field at these dates.
+pub fn text_for(random: &mut Random, field: u8, dates: Dates) -> Text {
     if has_zero(field) && random.percent(25) {
         return Text::new(random.pick(&[&b"0"[..], b"0", b"00", b"000"]));
     }
@@ -440,7 +441,7 @@ pub fn text_for(random: &mut Random, field: u8) -> Text {
             near_inn(random, width)
         }
         61 => near_inn(random, 10),
-        101 if random.percent(80) => Text::new(random.pick(&STATUSES).as_bytes()),
+        101 if random.percent(80) => Text::new(random.pick(&dates.statuses()).as_bytes()),
         101 => {
             let width = random.pick(&[2, 2, 2, 3]);
             near_digits(random, width)

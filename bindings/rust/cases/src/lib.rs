@@ -1,12 +1,16 @@
 //! Sheets, drafts and messages to try the library with, laid out byte by byte from
-//! document 01, arguments of a charge, of a part of a year and of shares, registers, and
-//! payments: without code of the library or of the second implementation.
+//! document 01, dates, arguments of a charge, of a part of a year and of shares, registers,
+//! and payments: without code of the library or of the second implementation.
+//!
+//! What depends on the order's date takes [`Dates`] where its name ends in `_at`, and is
+//! otherwise at those of the program.
 
 #![forbid(unsafe_code)]
 #![warn(missing_docs)]
 
 mod charges;
 mod damage;
+mod dates;
 mod fillings;
 mod forms;
 mod orders;
@@ -20,10 +24,13 @@ mod texts;
 
 pub use charges::{charge, charge_in_range, Charge, KOPECKS_MAX, RATE_MAX};
 pub use damage::{damaged_draft, damaged_message, damaged_sheet, size_near};
-pub use fillings::{filled_set, fillings};
-pub use forms::{inn_remainder, inn_weights, list, snils_remainder};
-pub use forms::{BASES, CLASS_A, CLASS_B, SNILS_BOUND, STATUSES};
-pub use orders::{accepted, blanked, budget, class_a, class_b, disturb, with_forms};
+pub use dates::{day_after, day_before, fit_dates, is_day, refused_dates, Dates};
+pub use dates::{ALL_STATUSES, LISTS, NO_DAYS, ORDER_DATE_MIN, STATUSES};
+pub use fillings::{filled_set, fillings, fillings_at};
+pub use forms::{inn_remainder, inn_weights, list, list_at, snils_remainder};
+pub use forms::{BASES, CLASS_A, CLASS_B, SNILS_BOUND};
+pub use orders::{accepted, accepted_at, blanked, budget, budget_at, class_a, with_forms};
+pub use orders::{disturb, disturb_at};
 pub use orders::{Account, Basis, Code, Date, Document, Forms, Payer};
 pub use parts::{parting, parting_in_range, sharing, sharing_in_range, sharing_of};
 pub use parts::{Parting, Sharing, SHARE_PLACES, YEARS};
@@ -31,6 +38,6 @@ pub use payments::{queue, queue_of, Payment, Queue, BALANCE_MAX, PAYMENT_PLACES}
 pub use random::Random;
 pub use registers::{inn_of, pool_size, pooling, register_of, Inn, Line, Pooling};
 pub use registers::{LINES_MAX, LINE_SIZE, ORDER_MAX, POOL_SIZE};
-pub use streams::{draft_after, messages};
+pub use streams::{draft_after, messages, messages_at};
 pub use table::{sheets, Case};
 pub use texts::{message, slot_of, Draft, Sheet, Text, Texts, BLANKS, FIELDS, FILLABLE};

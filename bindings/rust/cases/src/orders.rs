@@ -1,6 +1,7 @@
 //! Whole orders: accepted ones by construction, and those near them.
 
-use crate::forms::{self, CLASS_A, CLASS_B, STATUSES};
+use crate::dates::Dates;
+use crate::forms::{self, CLASS_A, CLASS_B};
 use crate::random::Random;
 use crate::texts::{Text, Texts, FIELDS, FILLABLE};
 
@@ -215,27 +216,39 @@ fn date(random: &mut Random, form: Date) -> Text {
 
 /// An order that keeps the rules, of any class.
 pub fn accepted(random: &mut Random) -> Texts {
+    accepted_at(random, Dates::PROGRAM)
+}
+
+/// The same at other dates.
+pub fn accepted_at(random: &mut Random, dates: Dates) -> Texts {
     if random.percent(6) {
-        ordinary(random)
+        ordinary(random, dates)
     } else {
-        budget(random)
+        budget_at(random, dates)
     }
 }
 
 /// An order of class A or B that keeps the rules.
 pub fn budget(random: &mut Random) -> Texts {
-    if random.percent(65) {
-        class_a(random)
-    } else {
-        class_b(random)
-    }
+    budget_at(random, Dates::PROGRAM)
 }
 
-/// An order of class A that keeps the rules.
-pub fn class_a(random: &mut Random) -> Texts {
-    let status = random.pick(&STATUSES);
+/// The same at other dates.
+pub fn budget_at(random: &mut Random, dates: Dates) -> Texts {
+    let class = match random.percent(65) {
+        true => class_a,
+        false => class_b,
+    };
+    let status = random.pick(&dates.statuses());
+    class(random, status)
+}
+
+/// An order of class A with this status that keeps the rules where the date allows it.
+pub fn class_a(random: &mut Random, status: &'static str) -> Texts {
     let account = match status {
-        "01" | "04" | "06" | "07" | "13" | "16" | "17" | "28" | "30" | "32" => Account::Treasury,
+        "01" | "02" | "04" | "06" | "07" | "13" | "16" | "17" | "28" | "30" | "32" => {
+            Account::Treasury
+        }
         "31" => Account::Institution,
         _ => random.pick(&[Account::Treasury, Account::Institution, Account::OtherA]),
     };
@@ -243,9 +256,8 @@ pub fn class_a(random: &mut Random) -> Texts {
     with_forms(random, &forms)
 }
 
-/// An order of class B that keeps the rules.
-pub fn class_b(random: &mut Random) -> Texts {
-    let status = random.pick(&STATUSES);
+/// The same of class B.
+fn class_b(random: &mut Random, status: &'static str) -> Texts {
     let forms = kept_forms(random, Account::B, status);
     with_forms(random, &forms)
 }
@@ -321,8 +333,9 @@ fn kept_document(
 }
 
 /// An order of class O that keeps the rules.
-fn ordinary(random: &mut Random) -> Texts {
-    let mut texts = class_a(random).without(&[101]);
+fn ordinary(random: &mut Random, dates: Dates) -> Texts {
+    let status = random.pick(&dates.statuses());
+    let mut texts = class_a(random, status).without(&[101]);
     match random.below(3) {
         0 => texts.set(15, Text::BLANK),
         1 => texts.set(15, forms::digits_after(random, "40103", 20)),
@@ -337,6 +350,11 @@ const MANY_FORMS: [u8; 8] = [17, 22, 60, 101, 106, 108, 108, 109];
 /// Changes one text: to one that might stand there, to a blank, in a byte, or in
 /// its length.
 pub fn disturb(random: &mut Random, texts: &mut Texts) {
+    disturb_at(random, texts, Dates::PROGRAM);
+}
+
+/// The same at other dates.
+pub fn disturb_at(random: &mut Random, texts: &mut Texts, dates: Dates) {
     let field = match random.percent(60) {
         true => random.pick(&FIELDS),
         false => random.pick(&MANY_FORMS),
@@ -348,7 +366,7 @@ pub fn disturb(random: &mut Random, texts: &mut Texts) {
         2 => text.push(random.pick(b"0 9\0")),
         3 => text.pop(),
         4 => text = texts.get(random.pick(&FIELDS)),
-        _ => text = forms::text_for(random, field),
+        _ => text = forms::text_for(random, field, dates),
     }
     texts.set(field, text);
 }

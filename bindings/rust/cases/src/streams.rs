@@ -1,17 +1,23 @@
 //! Lists of messages.
 
 use crate::damage::damaged_message;
-use crate::orders::{accepted, blanked, budget};
+use crate::dates::Dates;
+use crate::orders::{accepted_at, blanked, budget_at};
 use crate::random::Random;
 use crate::texts::{message, Draft, Text, FIELDS};
 
 /// An order's messages with others among them, in any order: corrections, repeated
 /// and clashing ones, unreadable ones.
 pub fn messages(random: &mut Random) -> Vec<Vec<u8>> {
+    messages_at(random, Dates::PROGRAM)
+}
+
+/// The same at other dates.
+pub fn messages_at(random: &mut Random, dates: Dates) -> Vec<Vec<u8>> {
     let texts = if random.percent(50) {
-        blanked(budget(random), random.below(1024))
+        blanked(budget_at(random, dates), random.below(1024))
     } else {
-        accepted(random)
+        accepted_at(random, dates)
     };
     let mut list: Vec<Vec<u8>> = FIELDS
         .into_iter()

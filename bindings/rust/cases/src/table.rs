@@ -82,7 +82,8 @@ fn verdict_line(verdict: &str) -> String {
 #[cfg(test)]
 mod tests {
     use super::*;
-    use crate::forms::{BASES, CLASS_A, CLASS_B, STATUSES};
+    use crate::dates::STATUSES;
+    use crate::forms::{BASES, CLASS_A, CLASS_B};
 
     #[test]
     fn the_table_is_read_whole() {

@@ -3,7 +3,7 @@
 use std::fmt::{self, Debug, Write as _};
 use std::hint::black_box;
 
-use cases::{Charge, Parting, Pooling, Queue, Sharing, FIELDS};
+use cases::{Charge, Dates, Parting, Pooling, Queue, Sharing, FIELDS};
 use cases::{PAYMENT_PLACES, SHARE_PLACES};
 use kieselbrot::{Class, Completed, Message, Posted, Refusal};
 
@@ -155,12 +155,12 @@ impl<'a, L: Library> Comparison<'a, L> {
         self.library
     }
 
-    /// Checks a sheet.
-    pub fn check(&mut self, sheet: &[u8]) -> Outcome<Result<Class, Refusal>> {
-        let input = || format!("sheet {}", shown_sheet(sheet));
-        let answer = self.library.check(sheet);
-        same("check", answer, Reference.check(sheet), input)?;
-        self.reached.check(sheet, answer);
+    /// Checks a sheet at these dates.
+    pub fn check(&mut self, sheet: &[u8], dates: Dates) -> Outcome<Result<Class, Refusal>> {
+        let input = || format!("sheet {}, {dates:?}", shown_sheet(sheet));
+        let answer = self.library.check(sheet, dates);
+        same("check", answer, Reference.check(sheet, dates), input)?;
+        self.reached.check(sheet, dates, answer);
         Ok(answer)
     }
 
@@ -249,23 +249,27 @@ impl<'a, L: Library> Comparison<'a, L> {
         Ok(answer)
     }
 
-    /// Tests a draft and completes it; the sheet is given back. What the test
-    /// answers must fit.
+    /// Tests a draft and completes it at these dates; the sheet is given back. What the
+    /// test answers must fit.
     pub fn complete(
         &mut self,
         draft: &[u8],
         before: Lent,
+        dates: Dates,
     ) -> Outcome<(Result<Completed, Refusal>, Lent)> {
-        let input = || format!("draft {}, sheet of {}", shown_draft(draft), before.size);
+        let input = || {
+            let (draft, size) = (shown_draft(draft), before.size);
+            format!("draft {draft}, sheet of {size}, {dates:?}")
+        };
         let tested = self.pretest(draft)?;
         let (answer, sheet) = lend_to_read("complete", draft, input, |draft| {
             self.lend("complete", &before, input, |library, sheet| {
-                library.complete(draft, sheet)
+                library.complete(draft, sheet, dates)
             })
         })?;
-        fits_completion(draft, tested, answer)?;
-        self.reached.complete(answer);
-        self.reached.pretest(tested, answer);
+        fits_completion(draft, dates, tested, answer)?;
+        self.reached
+            .complete(draft, dates, tested, answer, sheet.bytes());
         Ok((answer, sheet))
     }
 

@@ -1,9 +1,10 @@
 //! Cases that are gone through one and all.
 
 use cases::{blanked, with_forms, Account, Basis, Code, Date, Document, Forms, Payer};
-use cases::{budget, message, sheets, Random, Text, Texts, FIELDS, STATUSES};
+use cases::{budget_at, class_a, is_day, message, sheets, Random, Sheet, Text, Texts};
 use cases::{inn_of, Inn, Line, Pooling, LINES_MAX, LINE_SIZE, ORDER_MAX, POOL_SIZE};
 use cases::{Charge, Parting, Payment, Queue, Sharing};
+use cases::{Dates, ALL_STATUSES, BLANKS, FIELDS, LISTS, ORDER_DATE_MIN};
 use cases::{BALANCE_MAX, KOPECKS_MAX, PAYMENT_PLACES, RATE_MAX, SHARE_PLACES, YEARS};
 use kieselbrot::{Class, Refusal};
 
@@ -14,16 +15,19 @@ use crate::pretest::VARYING;
 
 type Outcome = Result<(), Difference>;
 
-/// The table `sheets.txt` against its verdicts; completed as it is, and with the
-/// fields blank that vary the count of fillings.
+/// The table `sheets.txt` against its verdicts, which are at the program's dates;
+/// completed as it is, and with the fields blank that vary the count of fillings, at these
+/// dates and with one of the eight lists.
 pub fn table<L: Library>(comparison: &mut Comparison<'_, L>) -> Outcome {
-    for case in sheets() {
-        let answer = match check_and_complete(comparison, &case.texts)? {
+    for (case, list) in sheets().into_iter().zip(LISTS.into_iter().cycle()) {
+        let answer = match check_and_complete(comparison, &case.texts, Dates::PROGRAM)? {
             Ok(class) => format!("ok {class:?}"),
             Err(refusal) => refusal.to_string(),
         };
         same("check", answer, case.verdict, || case.name.to_owned())?;
-        by_list(comparison, &case.texts.without(&VARYING))?;
+        let open = case.texts.without(&VARYING);
+        by_list(comparison, &open, Dates::PROGRAM)?;
+        by_list(comparison, &open, Dates::PROGRAM.allowing(list))?;
     }
     Ok(())
 }
@@ -34,12 +38,12 @@ fn first_revision(text: Text) -> u32 {
 }
 
 /// Completes by the list of all fillings.
-fn by_list<L: Library>(comparison: &mut Comparison<'_, L>, texts: &Texts) -> Outcome {
-    fillings::complete(comparison, texts, &texts.draft(first_revision))
+fn by_list<L: Library>(comparison: &mut Comparison<'_, L>, texts: &Texts, dates: Dates) -> Outcome {
+    fillings::complete(comparison, texts, &texts.draft(first_revision), dates)
 }
 
-/// Every set of blanks, on orders of which one is accepted with all of them. A
-/// part has 64 of the 1024 sets.
+/// Every set of blanks, on orders of which one is accepted with all of them, with any of
+/// the eight lists. A part has 64 of the 1024 sets.
 pub fn blanks<L: Library>(
     comparison: &mut Comparison<'_, L>,
     random: &mut Random,
@@ -54,10 +58,12 @@ pub fn blanks<L: Library>(
         .with(102, b"0")
         .with(104, b"0");
     for set in 64 * part..64 * (part + 1) {
-        by_list(comparison, &blanked(fillable, set))?;
-        by_list(comparison, &blanked(fillable.without(&[61]), set))?;
-        by_list(comparison, &blanked(Texts::s(), set))?;
-        by_list(comparison, &blanked(budget(random), set))?;
+        for order in [Some(fillable), Some(fillable.without(&[61])), None] {
+            let dates = Dates::PROGRAM.allowing(random.pick(&LISTS));
+            let order = order.unwrap_or_else(|| budget_at(random, dates));
+            by_list(comparison, &blanked(order, set), dates)?;
+        }
+        by_list(comparison, &blanked(Texts::s(), set), Dates::PROGRAM)?;
     }
     Ok(())
 }
@@ -97,7 +103,8 @@ const DATES: [Option<Date>; 4] = [
 ];
 
 /// Every combination of the fields' forms, blanks of 101, 106, 108 and 109 among
-/// them: checked and completed.
+/// them: checked and completed, a blank 101 with each of the eight lists, a status that
+/// has a date with it and without it in the list.
 pub fn forms<L: Library>(
     comparison: &mut Comparison<'_, L>,
     random: &mut Random,
@@ -106,8 +113,8 @@ pub fn forms<L: Library>(
     let account = ACCOUNTS[part % 4];
     let code = CODES[part / 4 % 3];
     let payer = PAYERS[part / 12];
-    let statuses = STATUSES.map(Some);
-    for status in statuses.into_iter().chain([None]) {
+    for (status, list) in statuses_and_lists(random) {
+        let dates = Dates::PROGRAM.allowing(list);
         for basis in BASES {
             for document in DOCUMENTS {
                 for date in DATES {
@@ -125,7 +132,8 @@ pub fn forms<L: Library>(
                             document,
                             date,
                         };
-                        let _ = check_and_complete(comparison, &with_forms(random, &forms))?;
+                        let texts = with_forms(random, &forms);
+                        let _ = check_and_complete(comparison, &texts, dates)?;
                     }
                 }
             }
@@ -134,17 +142,34 @@ pub fn forms<L: Library>(
     Ok(())
 }
 
+/// A blank 101 with all lists, a status that has a date with two of them, any other with
+/// one.
+fn statuses_and_lists(random: &mut Random) -> Vec<(Option<&'static str>, [bool; 3])> {
+    let mut all: Vec<_> = LISTS.map(|list| (None, list)).to_vec();
+    for status in ALL_STATUSES {
+        let mut list = random.pick(&LISTS);
+        all.push((Some(status), list));
+        let place = ["02", "32", "33"].iter().position(|dated| *dated == status);
+        if let Some(place) = place {
+            list[place] = !list[place];
+            all.push((Some(status), list));
+        }
+    }
+    all
+}
+
 fn check_and_complete<L: Library>(
     comparison: &mut Comparison<'_, L>,
     texts: &Texts,
+    dates: Dates,
 ) -> Result<Result<Class, Refusal>, Difference> {
-    let verdict = comparison.check(&texts.sheet())?;
+    let verdict = comparison.check(&texts.sheet(), dates)?;
     let draft = texts.draft(first_revision);
-    let (answer, sheet) = comparison.complete(&draft, Lent::filled(390, 0xEE))?;
+    let (answer, sheet) = comparison.complete(&draft, Lent::filled(390, 0xEE), dates)?;
     // A completed sheet is accepted; a budget payment accepted as it is needs no
     // filling.
     if answer.is_ok() {
-        let accepted = comparison.check(sheet.bytes())?.is_ok();
+        let accepted = comparison.check(sheet.bytes(), dates)?.is_ok();
         same("check", accepted, true, || "a completed sheet".to_owned())?;
     }
     if let Ok(class) = verdict {
@@ -160,6 +185,9 @@ fn check_and_complete<L: Library>(
     Ok(verdict)
 }
 
+/// Dates that 12 does not refuse, and dates that it does.
+const TAKEN_AND_REFUSED: [Dates; 2] = [Dates::PROGRAM, Dates::given(0)];
+
 /// Every size up to twice the right one, for each buffer of each function.
 pub fn sizes<L: Library>(comparison: &mut Comparison<'_, L>) -> Outcome {
     let sheet = Texts::s().sheet();
@@ -171,13 +199,15 @@ pub fn sizes<L: Library>(comparison: &mut Comparison<'_, L>) -> Outcome {
             bytes.resize(size, 0);
             Lent::new(&bytes)
         };
-        let _ = comparison.check(sized(&sheet).bytes())?;
+        for dates in TAKEN_AND_REFUSED {
+            let _ = comparison.check(sized(&sheet).bytes(), dates)?;
+            let _ = comparison.complete(sized(&draft).bytes(), Lent::new(&sheet), dates)?;
+            let _ = comparison.complete(&draft, sized(&sheet), dates)?;
+        }
         let mut other = comparison.fresh(sized(&draft))?;
         let _ = comparison.post(&mut other, &message)?;
         comparison.copy(sized(&draft).bytes(), Lent::new(&sheet))?;
         comparison.copy(&draft, sized(&sheet))?;
-        let _ = comparison.complete(sized(&draft).bytes(), Lent::new(&sheet))?;
-        let _ = comparison.complete(&draft, sized(&sheet))?;
         let _ = comparison.read(sized(&message).bytes())?;
     }
     Ok(())
@@ -196,17 +226,94 @@ pub fn places<L: Library>(comparison: &mut Comparison<'_, L>) -> Outcome {
     };
     for byte in BYTES {
         for place in 0..390 {
-            let _ = comparison.check(&changed(&texts.sheet(), place, byte))?;
+            for dates in TAKEN_AND_REFUSED {
+                let _ = comparison.check(&changed(&texts.sheet(), place, byte), dates)?;
+            }
         }
         for place in 0..450 {
             let draft = changed(&texts.draft(first_revision), place, byte);
-            let _ = comparison.complete(&draft, Lent::filled(390, 0xEE))?;
+            for dates in TAKEN_AND_REFUSED {
+                let _ = comparison.complete(&draft, Lent::filled(390, 0xEE), dates)?;
+            }
             comparison.copy(&draft, Lent::filled(390, 0xEE))?;
             let message = message(FIELDS[place / 30], 1, b"08");
             let _ = comparison.post(&mut Lent::new(&draft), &message)?;
         }
     }
     Ok(())
+}
+
+/// Numbers that matter as a date: the ends of the years, of the given record and of an
+/// order's date, with a day off; 29 February; what is no date.
+const NUMBERS: [u32; 17] = [
+    0,
+    18991231,
+    19000101,
+    19000229,
+    20000229,
+    20230229,
+    ORDER_DATE_MIN - 1,
+    ORDER_DATE_MIN,
+    20230930,
+    20231001,
+    20231231,
+    20240101,
+    20240102,
+    20991231,
+    21000101,
+    1 << 31,
+    u32::MAX,
+];
+
+/// Dates: every number from the first of September 2023 to the last of February 2024 as
+/// the order's date, with the given record, for each status and for completion; as each
+/// entry of the record, for its status; every combination of the numbers that matter.
+pub fn dates<L: Library>(comparison: &mut Comparison<'_, L>, random: &mut Random) -> Outcome {
+    let sheets: Vec<Sheet> = ALL_STATUSES
+        .into_iter()
+        .chain(["32", "33", "02"])
+        .map(|status| class_a(random, status).sheet())
+        .collect();
+    // The last three have an entry of the record, in its order.
+    let (of_all, of_three) = sheets.split_at(ALL_STATUSES.len());
+    let open = Texts::s().without(&BLANKS).with(60, b"0").with(102, b"0");
+    let hopeless = open.with(104, b"0");
+    for number in 20230901..=20240229 {
+        let dates = Dates::given(number);
+        for sheet in of_all {
+            let _ = comparison.check(sheet, dates)?;
+        }
+        complete(comparison, &open, dates)?;
+        if is_day(number) {
+            complete(comparison, &hopeless, dates)?;
+        }
+        for order in [ORDER_DATE_MIN, 20231015, 20240101] {
+            for (entry, sheet) in of_three.iter().enumerate() {
+                let dates = Dates::given(order).with_entry(entry, number);
+                let _ = comparison.check(sheet, dates)?;
+                complete(comparison, &open, dates)?;
+            }
+        }
+    }
+    for place in 0..NUMBERS.len().pow(4) {
+        let number = |digit| NUMBERS[place / NUMBERS.len().pow(digit) % NUMBERS.len()];
+        let dates = Dates::given(number(0)).with_entries([1, 2, 3].map(number));
+        for sheet in of_three {
+            let _ = comparison.check(sheet, dates)?;
+        }
+        complete(comparison, &open, dates)?;
+    }
+    Ok(())
+}
+
+fn complete<L: Library>(
+    comparison: &mut Comparison<'_, L>,
+    texts: &Texts,
+    dates: Dates,
+) -> Outcome {
+    let draft = texts.draft(first_revision);
+    let before = Lent::filled(390, 0xEE);
+    comparison.complete(&draft, before, dates).map(drop)
 }
 
 /// Every byte of a message's head, and every length of text: read, posted, and

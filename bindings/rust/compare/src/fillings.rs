@@ -1,6 +1,6 @@
 //! Completion by going through the list of all fillings.
 
-use cases::{filled_set, fillings, Sheet, Texts};
+use cases::{filled_set, fillings_at, Dates, Sheet, Texts};
 use kieselbrot::{Completed, Refusal};
 
 use crate::comparison::{hex, same, Comparison, Difference, Lent};
@@ -10,10 +10,11 @@ use crate::pretest::fits_fillings;
 /// What completing a budget payment should answer, by trying every filling.
 fn search(
     library: &impl Library,
+    dates: Dates,
     given: &Texts,
     all: &[Texts],
 ) -> (Result<Completed, Refusal>, Option<Sheet>) {
-    let accepted = |filling: &Texts| library.check(&filling.sheet()).is_ok();
+    let accepted = |filling: &Texts| library.check(&filling.sheet(), dates).is_ok();
     let Some(place) = all.iter().position(accepted) else {
         let count = all.len();
         return (Err(Refusal::NoFilling { count }), None);
@@ -27,25 +28,26 @@ fn search(
     (Ok(completed), Some(all[place].sheet()))
 }
 
-/// Tests and completes a draft, and if it is one of class A or B holds the answers
-/// against the list of all fillings, judged by the library's own check.
+/// Tests and completes a draft at these dates, and if it is one of class A or B holds the
+/// answers against the list of all fillings, judged by the library's own check.
 pub fn complete<L: Library>(
     comparison: &mut Comparison<'_, L>,
     given: &Texts,
     draft: &[u8],
+    dates: Dates,
 ) -> Result<(), Difference> {
-    let (answer, sheet) = comparison.complete(draft, Lent::filled(390, 0xEE))?;
+    let (answer, sheet) = comparison.complete(draft, Lent::filled(390, 0xEE), dates)?;
     if matches!(
         answer,
-        Err(Refusal::Malformed | Refusal::Broken { .. } | Refusal::Ordinary)
+        Err(Refusal::Malformed | Refusal::Undated | Refusal::Broken { .. } | Refusal::Ordinary)
     ) {
         return Ok(());
     }
     let library = comparison.library();
-    let all = fillings(given);
-    fits_fillings(library, library.pretest(draft), &all)?;
-    let (expected, filling) = search(library, given, &all);
-    let input = || format!("draft {}, by all fillings", hex(draft));
+    let all = fillings_at(given, dates);
+    fits_fillings(library, dates, library.pretest(draft), &all)?;
+    let (expected, filling) = search(library, dates, given, &all);
+    let input = || format!("draft {}, {dates:?}, by all fillings", hex(draft));
     same("complete", answer, expected, input)?;
     let filling = filling.unwrap_or([0xEE; 390]);
     same("complete", sheet.bytes(), &filling[..], input)

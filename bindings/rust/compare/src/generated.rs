@@ -1,8 +1,10 @@
 //! Generated cases, one after another.
 
-use cases::{accepted, blanked, budget, disturb, message, size_near, Random, Text, Texts, FIELDS};
+use cases::{accepted_at, blanked, budget_at, disturb_at, message, size_near};
 use cases::{charge, parting, pool_size, pooling, queue, sharing};
 use cases::{damaged_draft, damaged_message, damaged_sheet, Draft, Pooling};
+use cases::{day_after, day_before, fit_dates, refused_dates, Dates};
+use cases::{Random, Text, Texts, FIELDS};
 
 use crate::comparison::{same, Comparison, Difference, Lent};
 use crate::library::Library;
@@ -21,7 +23,10 @@ pub fn case<L: Library>(comparison: &mut Comparison<'_, L>, random: &mut Random)
         147..159 => copy(comparison, random),
         159..189 => complete(comparison, random),
         189..191 => complete_by_list(comparison, random),
-        191..199 => streams::stream(comparison, random),
+        191..199 => {
+            let dates = any_dates(random);
+            streams::stream(comparison, random, dates)
+        }
         199 => streams::arrangements(comparison, random, 4),
         200..210 => comparison.charge(&charge(random)),
         210..216 => comparison.part(&parting(random)),
@@ -57,34 +62,58 @@ fn pool_output(random: &mut Random, pooling: &Pooling) -> Lent {
     Lent::new(&held)
 }
 
-/// An order that keeps the rules, or one with a few texts changed.
-fn order(random: &mut Random) -> Texts {
-    let mut texts = accepted(random);
+/// Dates, mostly such as 12 does not refuse.
+fn any_dates(random: &mut Random) -> Dates {
+    match random.percent(10) {
+        true => refused_dates(random),
+        false => fit_dates(random),
+    }
+}
+
+/// The dates to ask at, of an order that was made at these: mostly the same, or a day off.
+fn asked(random: &mut Random, dates: Dates) -> Dates {
+    let order = dates.order;
+    match random.below(10) {
+        0 | 1 => any_dates(random),
+        2 => Dates {
+            order: random.pick(&[day_before, day_after])(order),
+            ..dates
+        },
+        _ => dates,
+    }
+}
+
+/// An order that keeps the rules at these dates, or one with a few texts changed.
+fn order(random: &mut Random, dates: Dates) -> Texts {
+    let mut texts = accepted_at(random, dates);
     for _ in 0..random.pick(&[0, 1, 1, 1, 2, 3]) {
-        disturb(random, &mut texts);
+        disturb_at(random, &mut texts, dates);
     }
     texts
 }
 
-/// An order to complete: blanks, and perhaps a text changed.
-fn open_order(random: &mut Random) -> Texts {
+/// An order to complete: blanks, and perhaps a text changed; and the dates to ask at.
+fn open_order(random: &mut Random) -> (Texts, Dates) {
+    let dates = fit_dates(random);
     let mut texts = if random.percent(8) {
-        accepted(random)
+        accepted_at(random, dates)
     } else {
-        blanked(budget(random), random.below(1024))
+        blanked(budget_at(random, dates), random.below(1024))
     };
     if random.percent(40) {
-        disturb(random, &mut texts);
+        disturb_at(random, &mut texts, dates);
     }
-    texts
+    (texts, asked(random, dates))
 }
 
 fn check<L: Library>(comparison: &mut Comparison<'_, L>, random: &mut Random) -> Outcome {
-    let sheet = order(random).sheet();
+    let dates = fit_dates(random);
+    let sheet = order(random, dates).sheet();
+    let dates = asked(random, dates);
     match random.below(20) {
-        0..3 => comparison.check(&damaged_sheet(random, sheet)),
-        3 => comparison.check(resized(random, &sheet).bytes()),
-        _ => comparison.check(&sheet),
+        0..3 => comparison.check(&damaged_sheet(random, sheet), dates),
+        3 => comparison.check(resized(random, &sheet).bytes(), dates),
+        _ => comparison.check(&sheet, dates),
     }
     .map(drop)
 }
@@ -210,7 +239,7 @@ fn message_for(random: &mut Random, draft: &[u8]) -> Vec<u8> {
 }
 
 fn post<L: Library>(comparison: &mut Comparison<'_, L>, random: &mut Random) -> Outcome {
-    let texts = order(random);
+    let texts = order(random, Dates::PROGRAM);
     let mut draft = any_draft(random, &texts);
     let message = match random.percent(70) {
         true => message_for(random, draft.bytes()),
@@ -230,27 +259,28 @@ fn output(random: &mut Random) -> Lent {
 }
 
 fn copy<L: Library>(comparison: &mut Comparison<'_, L>, random: &mut Random) -> Outcome {
-    let texts = order(random);
+    let texts = order(random, Dates::PROGRAM);
     let draft = any_draft(random, &texts);
     let before = output(random);
     comparison.copy(draft.bytes(), before).map(drop)
 }
 
 fn complete<L: Library>(comparison: &mut Comparison<'_, L>, random: &mut Random) -> Outcome {
-    let texts = open_order(random);
+    let (texts, dates) = open_order(random);
     let draft = any_draft(random, &texts);
     let before = output(random);
-    comparison.complete(draft.bytes(), before).map(drop)
+    comparison.complete(draft.bytes(), before, dates).map(drop)
 }
 
 fn complete_by_list<L: Library>(
     comparison: &mut Comparison<'_, L>,
     random: &mut Random,
 ) -> Outcome {
-    let texts = open_order(random);
+    let (texts, dates) = open_order(random);
     let draft = draft(random, &texts);
     if draft.chunks_exact(30).any(|slot| slot[4] > 25) {
-        return comparison.complete(&draft, Lent::filled(390, 0)).map(drop);
+        let before = Lent::filled(390, 0);
+        return comparison.complete(&draft, before, dates).map(drop);
     }
-    fillings::complete(comparison, &texts, &draft)
+    fillings::complete(comparison, &texts, &draft, dates)
 }

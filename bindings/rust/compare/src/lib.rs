@@ -9,6 +9,7 @@
 
 mod charges;
 mod comparison;
+mod dates;
 mod exhaustive;
 mod fillings;
 mod generated;

@@ -1,14 +1,14 @@
 //! The library and the second implementation under one trait.
 
-use cases::Queue;
+use cases::{Dates, Queue};
 use kieselbrot::{Broken, Class, Completed, Message, Paid, Part, Posted, Refusal};
 use kieselbrot::{PAYMENT_PLACES, SHARE_PLACES};
 
 /// The seven functions of document 01, the test ahead of completion, the bank's
 /// charge, part of a year, pooling a register, and which payments leave first.
 pub trait Library: Sync {
-    /// Checks a sheet.
-    fn check(&self, sheet: &[u8]) -> Result<Class, Refusal>;
+    /// Checks a sheet at these dates.
+    fn check(&self, sheet: &[u8], dates: Dates) -> Result<Class, Refusal>;
     /// Reads a message.
     fn read<'a>(&self, message: &'a [u8]) -> Result<Message<'a>, Refusal>;
     /// Writes a message.
@@ -27,8 +27,8 @@ pub trait Library: Sync {
     fn copy(&self, draft: &[u8], sheet: &mut [u8]) -> Result<(), Refusal>;
     /// Tests a draft ahead of completion.
     fn pretest(&self, draft: &[u8]) -> Result<Option<Broken>, Refusal>;
-    /// Completes a draft.
-    fn complete(&self, draft: &[u8], sheet: &mut [u8]) -> Result<Completed, Refusal>;
+    /// Completes a draft at these dates.
+    fn complete(&self, draft: &[u8], sheet: &mut [u8], dates: Dates) -> Result<Completed, Refusal>;
     /// The bank's charge for an amount.
     fn charge(&self, amount: u64, rate: u64, least: u64, greatest: u64) -> Result<u64, Refusal>;
     /// The part of a year's amount for so many days.
@@ -51,8 +51,9 @@ pub trait Library: Sync {
 pub struct Linked;
 
 impl Library for Linked {
-    fn check(&self, sheet: &[u8]) -> Result<Class, Refusal> {
-        kieselbrot::check(sheet)
+    fn check(&self, sheet: &[u8], dates: Dates) -> Result<Class, Refusal> {
+        let (date, record) = library_dates(dates);
+        kieselbrot::check(sheet, date, record)
     }
 
     fn read<'a>(&self, message: &'a [u8]) -> Result<Message<'a>, Refusal> {
@@ -85,8 +86,9 @@ impl Library for Linked {
         kieselbrot::pretest(draft)
     }
 
-    fn complete(&self, draft: &[u8], sheet: &mut [u8]) -> Result<Completed, Refusal> {
-        kieselbrot::complete(draft, sheet)
+    fn complete(&self, draft: &[u8], sheet: &mut [u8], dates: Dates) -> Result<Completed, Refusal> {
+        let (date, record) = library_dates(dates);
+        kieselbrot::complete(draft, sheet, date, record)
     }
 
     fn charge(&self, amount: u64, rate: u64, least: u64, greatest: u64) -> Result<u64, Refusal> {
@@ -126,8 +128,10 @@ impl Library for Linked {
 pub struct Reference;
 
 impl Library for Reference {
-    fn check(&self, sheet: &[u8]) -> Result<Class, Refusal> {
-        reference::check(sheet).map(class).map_err(refusal)
+    fn check(&self, sheet: &[u8], dates: Dates) -> Result<Class, Refusal> {
+        let (date, record) = reference_dates(dates);
+        let checked = reference::check(sheet, date, record);
+        checked.map(class).map_err(refusal)
     }
 
     fn read<'a>(&self, message: &'a [u8]) -> Result<Message<'a>, Refusal> {
@@ -170,9 +174,10 @@ impl Library for Reference {
         Ok(named.map(broken))
     }
 
-    fn complete(&self, draft: &[u8], sheet: &mut [u8]) -> Result<Completed, Refusal> {
+    fn complete(&self, draft: &[u8], sheet: &mut [u8], dates: Dates) -> Result<Completed, Refusal> {
+        let (date, record) = reference_dates(dates);
         let reference::Completed { count, set, ones } =
-            reference::complete(draft, sheet).map_err(refusal)?;
+            reference::complete(draft, sheet, date, record).map_err(refusal)?;
         Ok(Completed {
             count: count as usize,
             set,
@@ -230,6 +235,28 @@ impl Library for Reference {
     }
 }
 
+/// The order's date and the record, as the library takes them.
+fn library_dates(dates: Dates) -> (kieselbrot::Date, kieselbrot::Record) {
+    let [first32, first33, last02] = dates.entries().map(kieselbrot::Date);
+    let record = kieselbrot::Record {
+        first32,
+        first33,
+        last02,
+    };
+    (kieselbrot::Date(dates.order), record)
+}
+
+/// The same, as the second implementation takes them.
+fn reference_dates(dates: Dates) -> (reference::Date, reference::Record) {
+    let [first32, first33, last02] = dates.entries().map(reference::Date);
+    let record = reference::Record {
+        first32,
+        first33,
+        last02,
+    };
+    (reference::Date(dates.order), record)
+}
+
 const fn class(class: reference::Class) -> Class {
     match class {
         reference::Class::A => Class::A,
@@ -278,6 +305,7 @@ const fn refusal(refusal: reference::Refusal) -> Refusal {
         reference::Refusal::NoFilling { count } => Refusal::NoFilling {
             count: count as usize,
         },
+        reference::Refusal::Undated => Refusal::Undated,
         reference::Refusal::Tariff => Refusal::Tariff,
         reference::Refusal::YearPart => Refusal::YearPart,
         reference::Refusal::Register => Refusal::Register,

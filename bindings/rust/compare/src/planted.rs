@@ -1,5 +1,6 @@
 //! Differences planted on purpose: each must be found.
 
+use cases::{day_after, day_before, is_day, Dates, ORDER_DATE_MIN};
 use cases::{inn_remainder, slot_of, snils_remainder, Text, Texts};
 use cases::{Line, Payment, Pooling, Queue};
 use cases::{KOPECKS_MAX, LINE_SIZE, POOL_SIZE, RATE_MAX, YEARS};
@@ -7,6 +8,7 @@ use kieselbrot::{Broken, Class, Completed, Message, Paid, Part, Posted, Refusal}
 use kieselbrot::{PAYMENT_PLACES, SHARE_PLACES};
 
 use crate::library::{Library, Reference};
+use crate::pretest::is_blank;
 
 /// The second implementation with one thing changed.
 #[derive(Clone, Copy, Debug, PartialEq, Eq)]
@@ -61,6 +63,28 @@ pub enum Planted {
     Named27,
     /// The pretest names rule 6 without its field.
     Fieldless6,
+    /// 32 is not allowed on its first date.
+    First32,
+    /// 33 is not allowed on its first date.
+    First33,
+    /// 02 is not allowed on its last date.
+    Last02,
+    /// The record's dates for 32 and 33 are taken for one another.
+    Swapped,
+    /// An order of the earliest date is refused.
+    Earliest,
+    /// The record's entries need not be dates.
+    AnyRecord,
+    /// 12 is tested after 8.
+    Late12,
+    /// 12 is not asked of class O.
+    Ordinary12,
+    /// 02 is the last in the completion list.
+    End02,
+    /// 02 is not in the completion list.
+    Never02,
+    /// Rule 19 does not know 02.
+    Rule19Without02,
     /// A charge is rounded down.
     RoundedDown,
     /// Half a kopeck goes downward.
@@ -136,7 +160,7 @@ pub enum Planted {
 }
 
 /// All of them.
-pub const PLANTS: [Planted; 61] = [
+pub const PLANTS: [Planted; 72] = [
     Planted::Century,
     Planted::Status01,
     Planted::Without03252,
@@ -162,6 +186,17 @@ pub const PLANTS: [Planted; 61] = [
     Planted::LastNamed,
     Planted::Named27,
     Planted::Fieldless6,
+    Planted::First32,
+    Planted::First33,
+    Planted::Last02,
+    Planted::Swapped,
+    Planted::Earliest,
+    Planted::AnyRecord,
+    Planted::Late12,
+    Planted::Ordinary12,
+    Planted::End02,
+    Planted::Never02,
+    Planted::Rule19Without02,
     Planted::RoundedDown,
     Planted::HalvesDownward,
     Planted::Rate10001,
@@ -315,6 +350,35 @@ fn breaks_27(draft: &[u8]) -> bool {
 }
 
 impl Planted {
+    /// The dates that a changed library sees in place of these.
+    fn seen_dates(self, dates: Dates) -> Dates {
+        let order = dates.order;
+        let mut seen = dates;
+        match self {
+            _ if !is_day(order) => {}
+            Self::First32 if order == dates.first32 => seen.first32 = day_after(order),
+            Self::First33 if order == dates.first33 => seen.first33 = day_after(order),
+            Self::Last02 if order == dates.last02 => seen.last02 = day_before(order),
+            Self::Swapped => (seen.first32, seen.first33) = (dates.first33, dates.first32),
+            Self::Earliest if order == ORDER_DATE_MIN => seen.order = day_before(order),
+            // What is no date is before the order's date or after it, too.
+            Self::AnyRecord => seen = dates.allowing(dates.allowed()),
+            _ => {}
+        }
+        seen
+    }
+
+    /// What a changed check says of a sheet that is refused with 12.
+    fn undated(self, sheet: &[u8]) -> Result<Class, Refusal> {
+        match (self, Reference.check(sheet, Dates::PROGRAM)) {
+            (Self::Late12, broken @ Err(Refusal::Broken { .. })) => broken,
+            (Self::Ordinary12, ordinary @ Ok(Class::O)) => ordinary,
+            _ => Err(Refusal::Undated),
+        }
+    }
+}
+
+impl Planted {
     /// The periods that changed shares see in place of these.
     fn seen_periods(self, year: u32, periods: &[u32]) -> Vec<u32> {
         let mut seen = periods.to_vec();
@@ -425,10 +489,20 @@ impl Planted {
 }
 
 impl Library for Planted {
-    fn check(&self, sheet: &[u8]) -> Result<Class, Refusal> {
-        let answer = Reference.check(&self.seen(sheet));
+    fn check(&self, sheet: &[u8], dates: Dates) -> Result<Class, Refusal> {
+        let dates = self.seen_dates(dates);
+        let answer = Reference.check(&self.seen(sheet), dates);
         let inn = text(sheet, 60).len() == 10 && text(sheet, 102) == b"0";
         match answer {
+            Err(Refusal::Undated) => self.undated(sheet),
+            // The other rules are for 02 as for 08.
+            Err(Refusal::Broken { rule: 19, .. })
+                if *self == Self::Rule19Without02 && text(sheet, 101) == b"02" =>
+            {
+                let mut other = sheet.to_vec();
+                other[26 * slot_of(101) + 2] = b'8';
+                Reference.check(&other, dates)
+            }
             Err(Refusal::Broken { field, rule: 22 })
                 if *self == Self::Early21 && matches!(text(sheet, 101), b"31" | b"33") =>
             {
@@ -516,9 +590,27 @@ impl Library for Planted {
         }
     }
 
-    fn complete(&self, draft: &[u8], sheet: &mut [u8]) -> Result<Completed, Refusal> {
-        let answer = Reference.complete(draft, sheet);
+    fn complete(&self, draft: &[u8], sheet: &mut [u8], dates: Dates) -> Result<Completed, Refusal> {
+        let dates = self.seen_dates(dates);
+        let answer = Reference.complete(draft, sheet, dates);
         match (self, answer) {
+            (Self::Late12, Err(Refusal::Undated)) => {
+                match Reference.complete(draft, &mut sheet.to_vec(), Dates::PROGRAM) {
+                    broken @ Err(Refusal::Broken { .. }) => broken,
+                    _ => answer,
+                }
+            }
+            // A draft that 02 completes is completed by 08, too.
+            (Self::End02 | Self::Never02, Ok(_) | Err(Refusal::NoFilling { .. }))
+                if is_blank(draft, 101) && dates.allowed()[0] =>
+            {
+                let last02 = day_before(dates.order);
+                let without = Reference.complete(draft, sheet, Dates { last02, ..dates });
+                match self {
+                    Self::End02 => without.or(answer),
+                    _ => without,
+                }
+            }
             (Self::CountAnew, Ok(completed)) => Ok(Completed {
                 count: (completed.count - 1) % 48 + 1,
                 ..completed

@@ -1,6 +1,6 @@
 //! What must hold between the test ahead of completion and other answers.
 
-use cases::{list, slot_of, Texts};
+use cases::{list_at, slot_of, Dates, Texts};
 use kieselbrot::{Broken, Completed, Refusal};
 
 use crate::comparison::{hex, same, Difference};
@@ -35,27 +35,34 @@ const fn named(rule: u8, field: u8) -> Broken {
 /// The fields that vary the count of fillings.
 pub const VARYING: [u8; 4] = [101, 106, 108, 109];
 
+/// Whether a field of a well-formed draft is blank.
+pub fn is_blank(draft: &[u8], field: u8) -> bool {
+    draft[30 * slot_of(field) + 4] == 0
+}
+
 /// The count of all fillings of a well-formed draft.
-fn all_fillings(draft: &[u8]) -> usize {
-    let blank = |field: &u8| draft[30 * slot_of(*field) + 4] == 0;
-    let entries = |field| list(field).len();
+fn all_fillings(draft: &[u8], dates: Dates) -> usize {
+    let blank = |field: &u8| is_blank(draft, *field);
+    let entries = |field| list_at(field, dates).len();
     VARYING.into_iter().filter(blank).map(entries).product()
 }
 
 /// Completion refuses as the test does; where a rule is named, no filling keeps the
-/// rules; where none is, the fillings are searched. A sheet of another size says
-/// nothing.
+/// rules; where none is, the fillings are searched. Completion asks for the sheet's size
+/// and for the dates besides; where it refuses these, it says nothing of the test.
 pub fn fits_completion(
     draft: &[u8],
+    dates: Dates,
     tested: Tested,
     completed: Result<Completed, Refusal>,
 ) -> Outcome {
-    let input = || format!("draft {}, tested as {tested:?}", hex(draft));
+    let input = || format!("draft {}, {dates:?}, tested as {tested:?}", hex(draft));
     let refusal = match tested {
         _ if completed == Err(Refusal::Output) => return Ok(()),
+        _ if completed == Err(Refusal::Undated) && !dates.fit() => return Ok(()),
         Err(refusal) => refusal,
         Ok(Some(_)) => Refusal::NoFilling {
-            count: all_fillings(draft),
+            count: all_fillings(draft, dates),
         },
         Ok(None) => {
             let searched = matches!(completed, Ok(_) | Err(Refusal::NoFilling { .. }));
@@ -67,10 +74,15 @@ pub fn fits_completion(
 
 /// A check of any filling names no other of the twelve rules than the test, and
 /// accepts none where the test names one.
-pub fn fits_fillings(library: &impl Library, tested: Tested, fillings: &[Texts]) -> Outcome {
+pub fn fits_fillings(
+    library: &impl Library,
+    dates: Dates,
+    tested: Tested,
+    fillings: &[Texts],
+) -> Outcome {
     for filling in fillings {
         let sheet = filling.sheet();
-        let expected = match library.check(&sheet) {
+        let expected = match library.check(&sheet, dates) {
             Ok(_) => None,
             Err(Refusal::Broken { field, rule })
                 if NAMED.iter().any(|named| named.rule == rule) =>
@@ -101,7 +113,9 @@ mod tests {
     #[test]
     fn a_completion_that_does_not_fit_is_found() {
         let draft = Texts::s().without(&[101, 104, 108]).draft(|_| 1);
-        let found = |tested, completed| fits_completion(&draft, tested, completed).is_err();
+        let found_at =
+            |dates, tested, completed| fits_completion(&draft, dates, tested, completed).is_err();
+        let found = |tested, completed| found_at(Dates::PROGRAM, tested, completed);
         let completed = Completed {
             count: 1,
             set: 0,
@@ -118,12 +132,19 @@ mod tests {
         assert!(found(ordinary, Err(Refusal::Malformed)));
         assert!(found(ordinary, none_of(44)));
         assert!(!found(ordinary, Err(Refusal::Output)));
+        let early = Dates::given(20230924);
+        assert!(!found_at(early, BROKEN, Err(Refusal::Undated)));
+        assert!(found(BROKEN, Err(Refusal::Undated)));
+        let all = Dates::PROGRAM.allowing([true; 3]);
+        assert!(!found_at(all, BROKEN, none_of(46)));
+        assert!(found_at(all, BROKEN, none_of(44)));
     }
 
     #[test]
     fn a_filling_that_does_not_fit_is_found() {
         let found = |tested, texts: Texts| {
-            fits_fillings(&Reference, tested, &fillings(&texts.without(&VARYING))).is_err()
+            let all = fillings(&texts.without(&VARYING));
+            fits_fillings(&Reference, Dates::PROGRAM, tested, &all).is_err()
         };
         let hopeless = Texts::s().without(&[104]);
         assert!(!found(BROKEN, hopeless));

@@ -3,11 +3,12 @@
 use std::collections::BTreeMap;
 use std::fmt;
 
-use cases::{Charge, Parting, Pooling, Queue, Sharing};
-use cases::{BASES, CLASS_A, CLASS_B, PAYMENT_PLACES, SHARE_PLACES, STATUSES};
+use cases::{Charge, Dates, Parting, Pooling, Queue, Sharing};
+use cases::{ALL_STATUSES, BASES, CLASS_A, CLASS_B, PAYMENT_PLACES, SHARE_PLACES};
 use kieselbrot::{Class, Completed, Paid, Part, Posted, Refusal};
 
 use crate::charges::{self, Charged};
+use crate::dates::{self, Dated};
 use crate::parts::{self, Parted};
 use crate::pools::{self, Pooled};
 use crate::pretest::{Tested, NAMED};
@@ -31,6 +32,7 @@ pub struct Reached {
     letters: BTreeMap<(u8, Letters, bool), u64>,
     inns: BTreeMap<(u8, usize, Inn), u64>,
     codes: BTreeMap<(Caught, u8), u64>,
+    dates: BTreeMap<Dated, u64>,
     named: BTreeMap<(u8, u8), u64>,
     unnamed: BTreeMap<u8, u64>,
     charges: BTreeMap<Charged, u64>,
@@ -133,14 +135,14 @@ enum Accepted {
 
 /// The numbers that each function returns.
 const ANSWERS: [(&str, &[u8]); 13] = [
-    ("check", &[0, 1, 8]),
+    ("check", &[0, 1, 12, 8]),
     ("read", &[0, 2, 3, 4, 5]),
     ("write", &[0, 2, 4, 5, 7]),
     ("fresh", &[0, 1]),
     ("post", &[0, 1, 2, 3, 4, 5, 6]),
     ("copy", &[0, 1, 7]),
     ("pretest", &[0, 1, 8, 9]),
-    ("complete", &[0, 1, 7, 8, 9, 10]),
+    ("complete", &[0, 1, 7, 12, 8, 9, 10]),
     ("charge", &[0, 14]),
     ("part", &[0, 15]),
     ("shares", &[0, 15]),
@@ -158,14 +160,21 @@ const FIELD_OF_RULE: [u8; 35] = [
 const FIELDS_OF_RULE_6: [u8; 12] = [22, 60, 61, 101, 102, 103, 104, 105, 106, 107, 108, 109];
 
 /// Every count that a completion can return with a sheet: those that all
-/// combinations of forms give.
-const COUNTS: [usize; 28] = [
-    1, 2, 3, 4, 5, 7, 9, 10, 13, 17, 19, 20, 25, 37, 39, 40, 49, 50, 73, 97, 100, 109, 110, 145,
-    193, 217, 220, 433,
+/// combinations of forms give with the eight lists.
+const COUNTS: [usize; 46] = [
+    1, 2, 3, 4, 5, 6, 7, 9, 10, 11, 12, 13, 17, 19, 20, 21, 22, 23, 24, 25, 37, 39, 40, 41, 43, 44,
+    49, 50, 61, 62, 73, 97, 100, 109, 110, 121, 122, 124, 145, 193, 217, 220, 241, 244, 433, 481,
 ];
 
-/// Every count of all fillings.
-const ALL_FILLINGS: [usize; 12] = [1, 2, 4, 12, 22, 24, 44, 48, 88, 264, 528, 1056];
+/// Every count of all fillings: what the entries for 106, 108 and 109 make, and where 101
+/// is blank as many times that as a list has statuses.
+fn all_fillings() -> impl Iterator<Item = usize> {
+    let others = [1, 2, 4, 12, 24, 48];
+    let lists = [1, 20, 21, 22, 23];
+    lists
+        .into_iter()
+        .flat_map(move |statuses| others.map(|count| statuses * count))
+}
 
 impl Reached {
     /// An answer of a function.
@@ -180,8 +189,9 @@ impl Reached {
     }
 
     /// A verdict.
-    pub fn check(&mut self, sheet: &[u8], answer: Result<Class, Refusal>) {
+    pub fn check(&mut self, sheet: &[u8], dates: Dates, answer: Result<Class, Refusal>) {
         self.answer("check", answer);
+        self.dates(dates::checked(sheet, dates, answer));
         self.pension(sheet, answer);
         self.letters(sheet, answer);
         self.inn(sheet, answer);
@@ -308,7 +318,7 @@ impl Reached {
             &CLASS_B
         };
         let found = [
-            place(&STATUSES, text(101)).map(Accepted::Status),
+            place(&ALL_STATUSES, text(101)).map(Accepted::Status),
             BASES
                 .iter()
                 .position(|&basis| basis == text(106))
@@ -329,9 +339,18 @@ impl Reached {
         }
     }
 
-    /// A completion.
-    pub fn complete(&mut self, answer: Result<Completed, Refusal>) {
+    /// A completion, by what the test ahead of it answered and the sheet afterwards.
+    pub fn complete(
+        &mut self,
+        draft: &[u8],
+        dates: Dates,
+        tested: Tested,
+        answer: Result<Completed, Refusal>,
+        sheet: &[u8],
+    ) {
         self.answer("complete", answer);
+        self.pretest(tested, answer);
+        self.dates(dates::completed(draft, dates, tested, answer, sheet));
         match answer {
             Ok(Completed { count, set, .. }) => {
                 *self.counts.entry(count).or_default() += 1;
@@ -344,7 +363,7 @@ impl Reached {
 
     /// What the test of a draft named, or where it named nothing what its
     /// completion answered.
-    pub fn pretest(&mut self, tested: Tested, completed: Result<Completed, Refusal>) {
+    fn pretest(&mut self, tested: Tested, completed: Result<Completed, Refusal>) {
         match tested {
             Ok(Some(broken)) => {
                 let reached = self.named.entry((broken.rule, broken.field));
@@ -355,6 +374,13 @@ impl Reached {
                 *self.unnamed.entry(number).or_default() += 1;
             }
             Err(_) => {}
+        }
+    }
+
+    /// The dates of a check or a completion.
+    fn dates(&mut self, reached: Vec<Dated>) {
+        for what in reached {
+            *self.dates.entry(what).or_default() += 1;
         }
     }
 
@@ -427,6 +453,7 @@ impl Reached {
         add(&mut self.letters, &other.letters);
         add(&mut self.inns, &other.inns);
         add(&mut self.codes, &other.codes);
+        add(&mut self.dates, &other.dates);
         add(&mut self.named, &other.named);
         add(&mut self.unnamed, &other.unnamed);
         add(&mut self.charges, &other.charges);
@@ -483,11 +510,14 @@ impl Reached {
         for count in COUNTS {
             list.push((format!("count {count}"), get(&self.counts, count)));
         }
-        for count in ALL_FILLINGS {
+        for count in all_fillings() {
             list.push((format!("none of {count}"), get(&self.hopeless, count)));
         }
         let sets = self.sets.len() as u64;
         list.push((format!("{sets} of 1024 sets of blanks"), sets / 1024));
+        for what in dates::all() {
+            list.push((format!("dates: {what}"), get(&self.dates, what)));
+        }
         for what in charges::all() {
             list.push((format!("a charge: {what}"), get(&self.charges, what)));
         }
@@ -542,7 +572,7 @@ impl Reached {
                 let name = format!("{name} in class {class:?}");
                 list.push((name, get(&self.accepted, (class, what))));
             };
-            for (place, status) in STATUSES.iter().enumerate() {
+            for (place, status) in ALL_STATUSES.iter().enumerate() {
                 add(format!("status {status}"), Accepted::Status(place));
             }
             for place in 0..BASES.len() {
@@ -598,7 +628,7 @@ fn check_digits(text: &[u8]) -> Option<Inn> {
 }
 
 /// The text of a field of a well-formed sheet.
-fn text_of(sheet: &[u8], field: u8) -> &[u8] {
+pub fn text_of(sheet: &[u8], field: u8) -> &[u8] {
     let slot = &sheet[26 * cases::slot_of(field)..];
     &slot[1..][..usize::from(slot[0])]
 }

@@ -105,6 +105,7 @@ enum Piece {
     Sizes,
     Places,
     Messages,
+    Dates,
     Charges,
     Parts,
     Shares,
@@ -163,7 +164,7 @@ impl Run {
         if self.exhaustive {
             pieces.extend([Piece::Table, Piece::Sizes, Piece::Places, Piece::Messages]);
             pieces.extend([Piece::Charges, Piece::Parts, Piece::Shares, Piece::Pools]);
-            pieces.extend([Piece::Queues, Piece::Arrangements]);
+            pieces.extend([Piece::Queues, Piece::Dates, Piece::Arrangements]);
             pieces.extend(generated.by_ref().take(10));
             pieces.extend((0..exhaustive::BLANK_PARTS).map(Piece::Blanks));
             pieces.extend((0..exhaustive::FORM_PARTS).map(Piece::Forms));
@@ -183,6 +184,7 @@ impl Run {
             Piece::Sizes => exhaustive::sizes(comparison),
             Piece::Places => exhaustive::places(comparison),
             Piece::Messages => exhaustive::messages(comparison),
+            Piece::Dates => exhaustive::dates(comparison, &mut random(0)),
             Piece::Charges => exhaustive::charges(comparison),
             Piece::Parts => exhaustive::parts(comparison),
             Piece::Shares => exhaustive::shares(comparison),

@@ -1,6 +1,6 @@
 //! Lists of messages, and the draft that posting them ends in.
 
-use cases::{draft_after, message, messages, Draft, Random, FIELDS};
+use cases::{draft_after, message, messages_at, Dates, Draft, Random, FIELDS};
 
 use crate::comparison::{hex, same, Comparison, Difference, Lent};
 use crate::library::Library;
@@ -30,15 +30,19 @@ fn post_all<'m, L: Library>(
 }
 
 /// Posts a list of any messages, some unreadable, repeated and clashing, then
-/// copies and completes the draft.
-pub fn stream<L: Library>(comparison: &mut Comparison<'_, L>, random: &mut Random) -> Outcome<()> {
-    let list = messages(random);
+/// copies the draft and completes it at these dates.
+pub fn stream<L: Library>(
+    comparison: &mut Comparison<'_, L>,
+    random: &mut Random,
+    dates: Dates,
+) -> Outcome<()> {
+    let list = messages_at(random, dates);
     let draft = post_all(comparison, &list)?;
     let expected = outcome(comparison, &list)?;
     same_end(&draft, &expected, &list)?;
     comparison.copy(draft.bytes(), Lent::filled(390, 0xEE))?;
     let before = Lent::filled(390, 0xEE);
-    comparison.complete(draft.bytes(), before).map(drop)
+    comparison.complete(draft.bytes(), before, dates).map(drop)
 }
 
 fn same_end(draft: &Lent, expected: &[u8], list: &[Vec<u8>]) -> Outcome<()> {

@@ -133,6 +133,10 @@ pub enum Refusal {
         /// The count of all fillings.
         count: usize,
     },
+    /// 12: for [`check`](crate::check) and [`complete`](crate::complete), the order's
+    /// date or an entry of the record is no Gregorian date of the years 1900 to 2099, or
+    /// the order's date is before 20230925; tested just before 8.
+    Undated,
     /// 14: for [`charge`](crate::charge()), an argument is out of range or the least
     /// is above the greatest.
     Tariff,
@@ -178,6 +182,7 @@ impl Refusal {
             Self::Broken { .. } => 8,
             Self::Ordinary => 9,
             Self::NoFilling { .. } => 10,
+            Self::Undated => 12,
             Self::Tariff => 14,
             Self::YearPart => 15,
             Self::Register => 16,
@@ -199,6 +204,7 @@ impl Refusal {
             6 => Self::Clash,
             7 => Self::Output,
             9 => Self::Ordinary,
+            12 => Self::Undated,
             14 => Self::Tariff,
             15 => Self::YearPart,
             16 => Self::Register,
@@ -408,11 +414,11 @@ mod tests {
 
     #[test]
     fn numbers_are_those_of_the_table() {
-        for number in (1..=7).chain([9, 14, 15, 16, 18, 19]) {
+        for number in (1..=7).chain([9, 12, 14, 15, 16, 18, 19]) {
             assert_eq!(Refusal::plain(number).number(), number);
             assert!(!matches!(Refusal::plain(number), Refusal::Unknown { .. }));
         }
-        for number in [0, 8, 10, 11, 12, 13, 17, 20, 255] {
+        for number in [0, 8, 10, 11, 13, 17, 20, 255] {
             assert_eq!(Refusal::plain(number), Refusal::Unknown { number });
         }
         let broken = Refusal::Broken {
@@ -425,6 +431,7 @@ mod tests {
         );
         let none = Refusal::NoFilling { count: 1056 };
         assert_eq!((none.number(), none.to_string().as_str()), (10, "10 1056"));
+        assert_eq!(Refusal::Undated.to_string(), "12");
         assert_eq!(Refusal::Tariff.to_string(), "14");
         assert_eq!(Refusal::YearPart.to_string(), "15");
         assert_eq!(Refusal::Register.to_string(), "16");
@@ -611,6 +618,8 @@ mod tests {
         assert_eq!(check(0, 14, 1, b'A'), Err(Refusal::Unknown { number: 0 }));
         assert_eq!(check(1, 14, 0, 0), Err(Refusal::Unknown { number: 1 }));
         assert_eq!(check(0, 0, 0, 0), Err(Refusal::Unknown { number: 0 }));
+        assert_eq!(check(12, 0, 0, b'A'), Err(Refusal::Unknown { number: 12 }));
+        assert_eq!(check(12, 0, 0, 0), Err(Refusal::Undated));
         let posted: Result<Posted, Refusal> = ffi::Post {
             number: 6,
             standing: b'n',

@@ -3,7 +3,7 @@
 //! The functions are total: a slice of any length may be lent, and no byte
 //! outside it is touched.
 
-use crate::{PAYMENT_PLACES, SHARE_PLACES};
+use crate::{Date, Record, PAYMENT_PLACES, SHARE_PLACES};
 
 /// The answer of a check.
 #[repr(C)]
@@ -101,6 +101,8 @@ pub struct Leave {
 }
 
 // The sizes that bindings/c/kieselbrot.h has.
+const _: () = assert!(size_of::<Date>() == 4);
+const _: () = assert!(size_of::<Record>() == 12);
 const _: () = assert!(size_of::<Check>() == 4);
 const _: () = assert!(size_of::<Read>() == 24);
 const _: () = assert!(size_of::<Write>() == 16);
@@ -113,7 +115,7 @@ const _: () = assert!(size_of::<Pool>() == 24);
 const _: () = assert!(size_of::<Leave>() == 32);
 
 extern "C" {
-    fn kieselbrot_check(sheet: *const u8, sheet_len: usize) -> Check;
+    fn kieselbrot_check(sheet: *const u8, sheet_len: usize, date: Date, record: Record) -> Check;
     fn kieselbrot_read(message: *const u8, message_len: usize) -> Read;
     fn kieselbrot_write(
         field: u8,
@@ -137,6 +139,8 @@ extern "C" {
         draft_len: usize,
         sheet: *mut u8,
         sheet_len: usize,
+        date: Date,
+        record: Record,
     ) -> Complete;
     fn kieselbrot_charge(amount: u64, rate: u64, least: u64, greatest: u64) -> Charge;
     fn kieselbrot_part(amount: u64, days: u32, year: u32) -> Part;
@@ -172,8 +176,8 @@ extern "C" {
 // places for shares, and those for arrival numbers, are an array of as many as the
 // library writes. A number may be any.
 
-pub fn check(sheet: &[u8]) -> Check {
-    unsafe { kieselbrot_check(sheet.as_ptr(), sheet.len()) }
+pub fn check(sheet: &[u8], date: Date, record: Record) -> Check {
+    unsafe { kieselbrot_check(sheet.as_ptr(), sheet.len(), date, record) }
 }
 
 pub fn read(message: &[u8]) -> Read {
@@ -216,8 +220,17 @@ pub fn pretest(draft: &[u8]) -> Pretest {
     unsafe { kieselbrot_pretest(draft.as_ptr(), draft.len()) }
 }
 
-pub fn complete(draft: &[u8], sheet: &mut [u8]) -> Complete {
-    unsafe { kieselbrot_complete(draft.as_ptr(), draft.len(), sheet.as_mut_ptr(), sheet.len()) }
+pub fn complete(draft: &[u8], sheet: &mut [u8], date: Date, record: Record) -> Complete {
+    unsafe {
+        kieselbrot_complete(
+            draft.as_ptr(),
+            draft.len(),
+            sheet.as_mut_ptr(),
+            sheet.len(),
+            date,
+            record,
+        )
+    }
 }
 
 pub fn charge(amount: u64, rate: u64, least: u64, greatest: u64) -> Charge {

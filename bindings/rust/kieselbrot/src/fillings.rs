@@ -6,19 +6,10 @@ use crate::{FIELDS, SHEET_SIZE, SHEET_SLOT_SIZE};
 pub type Sheet = [u8; SHEET_SIZE];
 
 /// The texts that a field may be filled with.
-type List = &'static [&'static [u8]];
-
-const ZERO: List = &[b"0"];
-const ZEROS: List = &[b"0", b"00"];
-
-/// Rule 10's statuses, in its order.
-pub const STATUSES: List = &[
-    b"01", b"03", b"04", b"05", b"06", b"07", b"08", b"13", b"15", b"16", b"17", b"19", b"20",
-    b"23", b"24", b"27", b"28", b"29", b"30", b"31", b"32", b"33",
-];
+type List = Vec<&'static [u8]>;
 
 /// Rule 15's texts, in its order: "0", "00", УВ, ИЛ, ПБ, ТГ, ТБ, ТД, ПВ, ИН, ПК, КЭ.
-const BASES: List = &[
+const BASES: [&[u8]; 12] = [
     b"0",
     b"00",
     b"\xD3\xC2",
@@ -33,14 +24,15 @@ const BASES: List = &[
     b"\xCA\xDD",
 ];
 
-/// A field's list in completion; empty if it has none.
-const fn list(field: u8) -> List {
+/// A field's list in completion, the statuses being those that the date allows; empty if
+/// it has none.
+fn list(field: u8, statuses: &[&'static str]) -> List {
     match field {
-        22 | 60 | 102 | 104 | 105 | 107 => ZERO,
-        101 => STATUSES,
-        106 => BASES,
-        108 | 109 => ZEROS,
-        _ => &[],
+        22 | 60 | 102 | 104 | 105 | 107 => vec![b"0"],
+        101 => statuses.iter().map(|status| status.as_bytes()).collect(),
+        106 => BASES.into(),
+        108 | 109 => vec![b"0", b"00"],
+        _ => vec![],
     }
 }
 
@@ -69,22 +61,26 @@ pub fn with(sheet: &Sheet, field: u8, text: &[u8]) -> Sheet {
 }
 
 /// The lists of the fields that are to be filled, with their fields.
-fn to_fill(given: &Sheet) -> impl Iterator<Item = (u8, List)> + '_ {
+fn to_fill<'a>(
+    given: &'a Sheet,
+    statuses: &'a [&'static str],
+) -> impl Iterator<Item = (u8, List)> + 'a {
     FIELDS
         .into_iter()
         .filter(|&field| text(given, field).is_empty())
-        .map(|field| (field, list(field)))
+        .map(|field| (field, list(field, statuses)))
         .filter(|(_, list)| !list.is_empty())
 }
 
-/// How many fillings there are.
-pub fn count(given: &Sheet) -> usize {
-    to_fill(given).map(|(_, list)| list.len()).product()
+/// How many fillings there are with these statuses.
+pub fn count(given: &Sheet, statuses: &[&'static str]) -> usize {
+    let lists = to_fill(given, statuses);
+    lists.map(|(_, list)| list.len()).product()
 }
 
-/// All fillings in their order: 101 varies slowest, then 106, 108, 109.
-pub fn fillings(given: &Sheet) -> Vec<Sheet> {
-    to_fill(given).fold(vec![*given], |fillings, (field, list)| {
+/// All fillings with these statuses, in their order: 101 varies slowest, then 106, 108, 109.
+pub fn fillings(given: &Sheet, statuses: &[&'static str]) -> Vec<Sheet> {
+    to_fill(given, statuses).fold(vec![*given], |fillings, (field, list)| {
         let filled = |filling: &Sheet| {
             list.iter()
                 .map(|entry| with(filling, field, entry))

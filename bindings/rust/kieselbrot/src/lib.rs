@@ -10,15 +10,17 @@
 //! Field, status and rule numbers are those of the form and of document 01.
 //! Texts are bytes of Windows-1251, 0 to 25 of them; the empty text is a blank. The
 //! constants have the sizes of a sheet, a draft, a message and a register's line, and
-//! say how they are laid out. Amounts are in kopecks. The module [`words`] says in English what a rule
-//! wants and why an order can't be completed.
+//! say how they are laid out. Amounts are in kopecks. The order's [`Date`] and a
+//! [`Record`] of three dates say which statuses are allowed. The module [`words`] says in
+//! English what a rule wants and why an order can't be completed.
 //!
 //! # Example
 //!
 //! An order arrives in messages, in any order, and is completed:
 //!
 //! ```
-//! use kieselbrot::{check, complete, post, pretest, write, Class, Posted, Refusal};
+//! use kieselbrot::{check, complete, post, pretest, write};
+//! use kieselbrot::{Class, Date, Posted, Record, Refusal};
 //!
 //! # fn main() -> Result<(), Refusal> {
 //! let order: [(u8, &[u8]); 8] = [
@@ -41,9 +43,24 @@
 //!
 //! assert_eq!(pretest(&draft)?, None);
 //! let mut sheet = [0; kieselbrot::SHEET_SIZE];
-//! let completed = complete(&draft, &mut sheet)?;
+//! let date = Date(20240115);
+//! let completed = complete(&draft, &mut sheet, date, Record::GIVEN)?;
 //! assert_eq!((completed.count, completed.ones), (1, 7));
-//! assert_eq!(check(&sheet)?, Class::A);
+//! assert_eq!(check(&sheet, date, Record::GIVEN)?, Class::A);
+//!
+//! // Corrected, and dated back to when status 02 was allowed.
+//! for field in [60, 102] {
+//!     let mut message = [0; kieselbrot::MESSAGE_MAX];
+//!     let length = write(field, 2, b"0", &mut message)?;
+//!     post(&mut draft, &message[..length])?;
+//! }
+//! let back = Date(20231015);
+//! assert_eq!(complete(&draft, &mut sheet, back, Record::GIVEN)?.count, 49);
+//! // Field 101 has slot 6.
+//! assert_eq!(sheet[6 * kieselbrot::SHEET_SLOT_SIZE..][1..3], *b"02");
+//! let (field, rule) = (101, 10);
+//! let broken = Refusal::Broken { field, rule };
+//! assert_eq!(check(&sheet, date, Record::GIVEN), Err(broken));
 //! # Ok(())
 //! # }
 //! ```
@@ -52,6 +69,7 @@
 #![warn(missing_docs)]
 
 mod answers;
+mod dates;
 #[allow(unsafe_code)]
 mod ffi;
 mod fillings;
@@ -59,6 +77,7 @@ pub mod words;
 
 pub use answers::Refusal;
 pub use answers::{Broken, Class, Completed, Leaving, Message, Paid, Part, Payment, Posted};
+pub use dates::{Date, Record};
 
 /// The numbers of the fifteen fields, in the order of their slots.
 pub const FIELDS: [u8; 15] = [
@@ -89,6 +108,9 @@ pub const MESSAGE_HEAD_SIZE: usize = 8;
 
 /// The size of the longest message; a buffer of it is long enough for any.
 pub const MESSAGE_MAX: usize = 33;
+
+/// The earliest date of an order.
+pub const ORDER_DATE_MIN: Date = Date(20230925);
 
 /// The greatest amount, and the greatest limit of a charge, in kopecks.
 pub const KOPECKS_MAX: u64 = 1_000_000_000_000;
@@ -124,14 +146,34 @@ const _: () = assert!(DRAFT_SIZE == FIELDS.len() * DRAFT_SLOT_SIZE);
 const _: () = assert!(MESSAGE_MAX == MESSAGE_HEAD_SIZE + TEXT_MAX);
 const _: () = assert!(POOL_SIZE == LINES_MAX * LINE_SIZE);
 
-/// Checks a sheet against the rules and tells its class.
+/// Checks the sheet of an order with this date against the rules and tells its class.
+///
+/// Rule 10 lists the statuses that the date allows by the record: 02 up to its last date,
+/// 32 and 33 from their first, the other twenty at every date.
 ///
 /// # Errors
 ///
-/// [`Refusal::Malformed`], or [`Refusal::Broken`] with the first broken rule.
+/// In this order: [`Refusal::Malformed`], [`Refusal::Undated`], [`Refusal::Broken`] with
+/// the first broken rule.
+///
+/// # Examples
+///
+/// A blank sheet breaks rule 1, whatever the date; dates are tested before:
+///
+/// ```
+/// use kieselbrot::{check, Date, Record, Refusal, SHEET_SIZE};
+///
+/// let sheet = [0; SHEET_SIZE];
+/// let check_at = |date| check(&sheet, Date(date), Record::GIVEN);
+/// let (field, rule) = (14, 1);
+/// assert_eq!(check_at(20230925), Err(Refusal::Broken { field, rule }));
+/// // A day too early, and a day that is none.
+/// assert_eq!(check_at(20230924), Err(Refusal::Undated));
+/// assert_eq!(check_at(20231131), Err(Refusal::Undated));
+/// ```
 #[inline]
-pub fn check(sheet: &[u8]) -> Result<Class, Refusal> {
-    ffi::check(sheet).into()
+pub fn check(sheet: &[u8], date: Date, record: Record) -> Result<Class, Refusal> {
+    ffi::check(sheet, date, record).into()
 }
 
 /// Reads a message. Its text is a part of the bytes that were lent.
@@ -197,8 +239,9 @@ pub fn copy(draft: &[u8], sheet: &mut [u8]) -> Result<(), Refusal> {
 /// none.
 ///
 /// Where it names a rule, completing the draft into a sheet of the right size is
-/// refused with [`Refusal::NoFilling`] and the count of all fillings. It names none
-/// exactly when every filling keeps all twelve rules.
+/// refused with [`Refusal::NoFilling`] and the count of all fillings, at every date and
+/// record that [`Refusal::Undated`] does not refuse. It names none exactly when every
+/// filling keeps all twelve rules.
 ///
 /// # Errors
 ///
@@ -209,17 +252,25 @@ pub fn pretest(draft: &[u8]) -> Result<Option<Broken>, Refusal> {
     ffi::pretest(draft).into()
 }
 
-/// Completes a draft: writes the first filling that keeps all rules to the sheet,
-/// whatever that held.
+/// Completes the draft of an order with this date: writes the first filling that keeps all
+/// rules to the sheet, whatever that held.
+///
+/// A blank 101 is filled with the statuses that the date allows, as in [`check`], in
+/// ascending order. They are 20 to 23, so that there are at most 960 to 1,104 fillings.
 ///
 /// # Errors
 ///
 /// In this order: [`Refusal::Malformed`] for the draft, [`Refusal::Output`] for
-/// the sheet's size, [`Refusal::Broken`] for rules 1 to 3, [`Refusal::Ordinary`],
-/// [`Refusal::NoFilling`].
+/// the sheet's size, [`Refusal::Undated`], [`Refusal::Broken`] for rules 1 to 3,
+/// [`Refusal::Ordinary`], [`Refusal::NoFilling`].
 #[inline]
-pub fn complete(draft: &[u8], sheet: &mut [u8]) -> Result<Completed, Refusal> {
-    ffi::complete(draft, sheet).into()
+pub fn complete(
+    draft: &[u8],
+    sheet: &mut [u8],
+    date: Date,
+    record: Record,
+) -> Result<Completed, Refusal> {
+    ffi::complete(draft, sheet, date, record).into()
 }
 
 /// The bank's charge for an amount, in kopecks: amount times rate over 10,000, halves

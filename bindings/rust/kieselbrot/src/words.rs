@@ -3,10 +3,12 @@
 //! The library decides; this module says it in English. It is not proved. Unlike
 //! the functions of the library it allocates.
 
-use crate::fillings::{self, Sheet, STATUSES};
-use crate::{check, complete, copy, pretest, Broken, Completed, Refusal, FIELDS, SHEET_SIZE};
+use crate::fillings::{self, Sheet};
+use crate::{check, complete, copy, pretest, FIELDS, SHEET_SIZE};
+use crate::{Broken, Completed, Date, Record, Refusal};
 
-/// What the rules want, rule 1 first.
+/// What the rules want, rule 1 first. Where [`LIST`] stands, the statuses follow that the
+/// date allows: in rule 10 all of them, in rule 19 those of [`TREASURY`].
 const RULES: [&str; 35] = [
     "the BIK (14) must be nine digits",
     "the bank account (15) must be blank or 20 digits",
@@ -20,8 +22,7 @@ const RULES: [&str; 35] = [
      or 12 digits that do not begin 00, with right check digits)",
     "the recipient's INN (61) must be an INN of 10 digits that do not begin 00, with a right check \
      digit",
-    "the status (101) must be one of 01, 03, 04, 05, 06, 07, 08, 13, 15, 16, 17, 19, 20, 23, 24, \
-     27, 28, 29, 30, 31, 32, 33",
+    "the status (101) must be one of {}",
     "the payer's KPP (102) must be \"0\", or a KPP (nine digits that do not begin 00; the fifth \
      and the sixth may be letters A to Z)",
     "the recipient's KPP (103) must be a KPP (nine digits that do not begin 00; the fifth and the \
@@ -35,8 +36,7 @@ const RULES: [&str; 35] = [
      identifier (two digits of 01 to 14, 22, 24, 25, 26, 28, 29, 30, then \";\" and at least one \
      character)",
     "the date (109) must be \"0\", \"00\", or a date DD.MM.YYYY of the years 1900 to 2099",
-    "with status 01, 04, 06, 07, 13, 16, 17, 28, 30 or 32, a recipient account (17) at the treasury \
-     must begin 03100",
+    "with status {}, a recipient account (17) at the treasury must begin 03100",
     "with status 31, a recipient account (17) at the treasury must begin 03212",
     "with status 31 or 33, the code (22) must be a UIN (20 or 25 digits, not all zero)",
     "if the recipient account (17) begins 03212, the code (22) must not be \"0\"",
@@ -60,11 +60,18 @@ const RULES: [&str; 35] = [
      11 digits, the last two of them right check digits if the first nine are above 001001998",
 ];
 
-/// What a rule wants, 1 to 35: a sentence without its full stop.
+const LIST: &str = "{}";
+
+/// Rule 19's statuses.
+const TREASURY: [&str; 11] = [
+    "01", "02", "04", "06", "07", "13", "16", "17", "28", "30", "32",
+];
+
+/// What a rule wants, 1 to 35, of an order with this date: a sentence without its full
+/// stop. Rules 10 and 19 name the statuses that the date allows.
 #[must_use]
-pub fn rule(number: u8) -> Option<&'static str> {
-    let place = usize::from(number).checked_sub(1)?;
-    RULES.get(place).copied()
+pub fn rule(number: u8, date: Date, record: Record) -> Option<String> {
+    Wording::new(date, record).rule(number)
 }
 
 /// The name of a listed field.
@@ -90,89 +97,177 @@ pub const fn field(number: u8) -> Option<&'static str> {
     })
 }
 
-/// What completing a draft answers, and why: lines parted by `\n`, none at the end.
+/// What completing the draft of an order with this date answers, and why: lines parted by
+/// `\n`, none at the end.
 ///
 /// If no filling keeps the rules, it names the rule that [`pretest`] finds. If that
 /// finds none, it names for each status (or for the given one) the rule that stops
 /// the filling that gets furthest: the one whose first broken rule comes last in the
 /// order of testing.
 #[must_use]
-pub fn explanation(draft: &[u8]) -> String {
+pub fn explanation(draft: &[u8], date: Date, record: Record) -> String {
+    let wording = Wording::new(date, record);
     let mut given = [0; SHEET_SIZE];
     let answer = copy(draft, &mut given);
-    match answer.and_then(|()| complete(draft, &mut [0; SHEET_SIZE])) {
-        Ok(completed) => found(&given, completed),
+    match answer.and_then(|()| complete(draft, &mut [0; SHEET_SIZE], date, record)) {
+        Ok(completed) => wording.found(&given, completed),
         Err(Refusal::NoFilling { count }) => match pretest(draft) {
-            Ok(broken) => none_found(&given, count, broken),
-            Err(refusal) => refused(refusal),
+            Ok(broken) => wording.none_found(&given, count, broken),
+            Err(refusal) => wording.refused(refusal),
         },
-        Err(refusal) => refused(refusal),
+        Err(refusal) => wording.refused(refusal),
     }
 }
 
-/// A filling keeps the rules.
-fn found(given: &Sheet, completed: Completed) -> String {
-    let filling = match fillings::count(given) {
-        1 => "its only filling keeps the rules".to_owned(),
-        all => format!(
-            "filling {} of its {} is the first that keeps the rules",
-            thousands(completed.count),
-            thousands(all)
-        ),
-    };
-    let fields = match completed.ones {
-        0 => "It fills no field".to_owned(),
-        1 => format!("It fills 1 field: {}", slots(completed.set)),
-        ones => format!("It fills {ones} fields: {}", slots(completed.set)),
-    };
-    format!("This order can be completed: {filling}.\n{fields}.")
+/// What words are by: the order's date, the record, and the statuses that are allowed.
+struct Wording {
+    date: Date,
+    record: Record,
+    statuses: Vec<&'static str>,
 }
 
-/// No filling keeps the rules; all break this one, if there is one.
-fn none_found(given: &Sheet, count: usize, broken: Option<Broken>) -> String {
-    let (fillings, every) = match count {
-        1 => ("its only filling breaks the rules".to_owned(), "It"),
-        _ => (
-            format!("none of its {} fillings keeps the rules", thousands(count)),
-            "Every one",
-        ),
-    };
-    let why = match broken {
-        Some(broken) => format!("{every} breaks {}.", sentence(broken)),
-        None => by_status(given, count),
-    };
-    format!("This order can't be completed: {fillings}.\n{why}")
-}
+impl Wording {
+    fn new(date: Date, record: Record) -> Self {
+        let statuses = record.statuses(date);
+        Self {
+            date,
+            record,
+            statuses,
+        }
+    }
 
-/// For each status that may stand, a line with the rule that stops it.
-fn by_status(given: &Sheet, count: usize) -> String {
-    let status = fillings::text(given, 101);
-    let (statuses, head) = match (status, count) {
-        ([], _) => (
-            STATUSES,
-            "The rule that stops each status, in the filling that gets furthest:",
-        ),
-        (_, 1) => (&[status][..], "The rule that stops it:"),
-        _ => (
-            &[status][..],
-            "The rule that stops the filling that gets furthest:",
-        ),
-    };
-    let lines = statuses.iter().filter_map(|status| {
-        let broken = furthest(&fillings::with(given, 101, status))?;
-        Some(format!("\n{}: {}.", status_name(status), sentence(broken)))
-    });
-    head.to_owned() + &lines.collect::<String>()
-}
+    fn rule(&self, number: u8) -> Option<String> {
+        let place = usize::from(number).checked_sub(1)?;
+        let text = RULES.get(place)?;
+        Some(match number {
+            10 => text.replace(LIST, &self.statuses.join(", ")),
+            19 => text.replace(LIST, &self.treasury()),
+            _ => (*text).to_owned(),
+        })
+    }
 
-/// The first broken rule of the filling that gets furthest.
-fn furthest(given: &Sheet) -> Option<Broken> {
-    let fillings = fillings::fillings(given);
-    let broken = fillings.iter().filter_map(|filling| match check(filling) {
-        Err(Refusal::Broken { field, rule }) => Some(Broken { field, rule }),
-        _ => None,
-    });
-    broken.max_by_key(|broken| place(broken.rule))
+    /// Rule 19's statuses that are allowed.
+    fn treasury(&self) -> String {
+        let allowed = |status: &&str| self.statuses.contains(status);
+        let treasury: Vec<&str> = TREASURY.into_iter().filter(allowed).collect();
+        match treasury.split_last() {
+            Some((last, others)) => format!("{} or {last}", others.join(", ")),
+            None => String::new(),
+        }
+    }
+
+    /// A filling keeps the rules.
+    fn found(&self, given: &Sheet, completed: Completed) -> String {
+        let filling = match fillings::count(given, &self.statuses) {
+            1 => "its only filling keeps the rules".to_owned(),
+            all => format!(
+                "filling {} of its {} is the first that keeps the rules",
+                thousands(completed.count),
+                thousands(all)
+            ),
+        };
+        let fields = match completed.ones {
+            0 => "It fills no field".to_owned(),
+            1 => format!("It fills 1 field: {}", slots(completed.set)),
+            ones => format!("It fills {ones} fields: {}", slots(completed.set)),
+        };
+        format!("This order can be completed: {filling}.\n{fields}.")
+    }
+
+    /// No filling keeps the rules; all break this one, if there is one.
+    fn none_found(&self, given: &Sheet, count: usize, broken: Option<Broken>) -> String {
+        let (fillings, every) = match count {
+            1 => ("its only filling breaks the rules".to_owned(), "It"),
+            _ => (
+                format!("none of its {} fillings keeps the rules", thousands(count)),
+                "Every one",
+            ),
+        };
+        let why = match broken {
+            Some(broken) => format!("{every} breaks {}.", self.sentence(broken)),
+            None => self.by_status(given, count),
+        };
+        format!("This order can't be completed: {fillings}.\n{why}")
+    }
+
+    /// For each status that may stand, a line with the rule that stops it.
+    fn by_status(&self, given: &Sheet, count: usize) -> String {
+        let (statuses, head) = match (fillings::text(given, 101), count) {
+            ([], _) => (
+                self.statuses
+                    .iter()
+                    .map(|status| status.as_bytes())
+                    .collect(),
+                "The rule that stops each status, in the filling that gets furthest:",
+            ),
+            (status, 1) => (vec![status], "The rule that stops it:"),
+            (status, _) => (
+                vec![status],
+                "The rule that stops the filling that gets furthest:",
+            ),
+        };
+        let lines = statuses.iter().filter_map(|status| {
+            let broken = self.furthest(&fillings::with(given, 101, status))?;
+            let name = self.status_name(status);
+            Some(format!("\n{name}: {}.", self.sentence(broken)))
+        });
+        head.to_owned() + &lines.collect::<String>()
+    }
+
+    /// The first broken rule of the filling that gets furthest.
+    fn furthest(&self, given: &Sheet) -> Option<Broken> {
+        let fillings = fillings::fillings(given, &self.statuses);
+        let check = |filling| check(filling, self.date, self.record);
+        let broken = fillings.iter().filter_map(|filling| match check(filling) {
+            Err(Refusal::Broken { field, rule }) => Some(Broken { field, rule }),
+            _ => None,
+        });
+        broken.max_by_key(|broken| place(broken.rule))
+    }
+
+    /// A status of rule 10 by its digits; another text may have bytes that can't be shown.
+    fn status_name(&self, status: &[u8]) -> String {
+        match str::from_utf8(status) {
+            Ok(digits) if self.statuses.contains(&digits) => format!("Status {digits}"),
+            _ => "The status given".to_owned(),
+        }
+    }
+
+    /// The other refusals of a completion.
+    fn refused(&self, refusal: Refusal) -> String {
+        match refusal {
+            Refusal::Malformed => {
+                "This draft is malformed: it can't be read as an order.".to_owned()
+            }
+            Refusal::Undated => "These dates are refused: the order's date must not be before \
+                                 20230925, and it and the record's three must be dates YYYYMMDD \
+                                 of the years 1900 to 2099."
+                .to_owned(),
+            Refusal::Broken { field, rule } => format!(
+                "This order can't be completed yet: rule {rule} is broken in field {}: {}.",
+                with_name(field),
+                self.rule_text(rule)
+            ),
+            Refusal::Ordinary => {
+                "This is an ordinary order, not a budget payment: nothing is proposed.".to_owned()
+            }
+            _ => format!("The linked library is another one: completion never answers {refusal}."),
+        }
+    }
+
+    /// A broken rule with its field and what it wants.
+    fn sentence(&self, Broken { field, rule }: Broken) -> String {
+        format!(
+            "rule {rule} in field {}: {}",
+            with_name(field),
+            self.rule_text(rule)
+        )
+    }
+
+    fn rule_text(&self, number: u8) -> String {
+        let text = self.rule(number);
+        text.unwrap_or_else(|| "no rule has this number".to_owned())
+    }
 }
 
 /// The place of a rule in the order of testing: 22 is ahead of 21.
@@ -182,43 +277,6 @@ const fn place(rule: u8) -> u8 {
         22 => 21,
         _ => rule,
     }
-}
-
-/// A status of rule 10 by its digits; another text may have bytes that can't be shown.
-fn status_name(status: &[u8]) -> String {
-    match str::from_utf8(status) {
-        Ok(digits) if STATUSES.contains(&status) => format!("Status {digits}"),
-        _ => "The status given".to_owned(),
-    }
-}
-
-/// The other refusals of a completion.
-fn refused(refusal: Refusal) -> String {
-    match refusal {
-        Refusal::Malformed => "This draft is malformed: it can't be read as an order.".to_owned(),
-        Refusal::Broken { field, rule } => format!(
-            "This order can't be completed yet: rule {rule} is broken in field {}: {}.",
-            with_name(field),
-            rule_text(rule)
-        ),
-        Refusal::Ordinary => {
-            "This is an ordinary order, not a budget payment: nothing is proposed.".to_owned()
-        }
-        _ => format!("The linked library is another one: completion never answers {refusal}."),
-    }
-}
-
-/// A broken rule with its field and what it wants.
-fn sentence(Broken { field, rule }: Broken) -> String {
-    format!(
-        "rule {rule} in field {}: {}",
-        with_name(field),
-        rule_text(rule)
-    )
-}
-
-fn rule_text(number: u8) -> &'static str {
-    rule(number).unwrap_or("no rule has this number")
 }
 
 /// A field's number with its name.
@@ -255,10 +313,11 @@ mod tests {
 
     #[test]
     fn strange_answers_have_words() {
+        let wording = Wording::new(Date(20240101), Record::GIVEN);
         let refusal = Refusal::Unknown { number: 77 };
-        assert!(refused(refusal).ends_with("never answers 77."));
+        assert!(wording.refused(refusal).ends_with("never answers 77."));
         let broken = Broken { field: 1, rule: 36 };
         let expected = "rule 36 in field 1 (not listed): no rule has this number";
-        assert_eq!(sentence(broken), expected);
+        assert_eq!(wording.sentence(broken), expected);
     }
 }

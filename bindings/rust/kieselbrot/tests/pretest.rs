@@ -1,7 +1,7 @@
 //! The test ahead of completion on R-3's table: differences from the paper's sheet S, and what is named.
 
 use cases::Texts;
-use kieselbrot::{complete, pretest, Broken, Refusal, SHEET_SIZE};
+use kieselbrot::{complete, pretest, Broken, Date, Record, Refusal, SHEET_SIZE};
 
 const INSTITUTION: &[u8] = b"03212643000000014800";
 
@@ -16,7 +16,8 @@ fn draft(changes: &[Change]) -> Vec<u8> {
 }
 
 fn completed(draft: &[u8]) -> Result<usize, Refusal> {
-    complete(draft, &mut [0; SHEET_SIZE]).map(|completed| completed.count)
+    let answer = complete(draft, &mut [0; SHEET_SIZE], Date(20240101), Record::GIVEN);
+    answer.map(|completed| completed.count)
 }
 
 #[test]

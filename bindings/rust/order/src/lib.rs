@@ -11,10 +11,13 @@ mod windows1251;
 
 use std::fmt;
 
-use kieselbrot::{Refusal, DRAFT_SIZE, FIELDS, MESSAGE_MAX, TEXT_MAX};
+use kieselbrot::{Date, Refusal, DRAFT_SIZE, FIELDS, MESSAGE_MAX, TEXT_MAX};
 
 /// As many bytes of messages as the program budgetorder reads.
 pub const ORDER_MAX: usize = 32_768;
+
+/// The order's date that the program budgetorder uses, with the record that R-7 gives.
+pub const ORDER_DATE: Date = Date(20240101);
 
 /// What is wrong with a line.
 #[derive(Clone, Debug, PartialEq, Eq)]

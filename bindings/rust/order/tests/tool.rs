@@ -6,7 +6,7 @@ use std::io::Write;
 use std::path::{Path, PathBuf};
 use std::process::{Command, Output, Stdio};
 
-use kieselbrot::{Broken, Refusal};
+use kieselbrot::{Broken, Record, Refusal};
 
 /// A sample's file, with this ending.
 fn sample(name: &str, ending: &str) -> PathBuf {
@@ -45,7 +45,8 @@ fn messages(name: &str) -> Vec<u8> {
 }
 
 fn complete(draft: &[u8]) -> Result<kieselbrot::Completed, Refusal> {
-    kieselbrot::complete(draft, &mut [0; kieselbrot::SHEET_SIZE])
+    let sheet = &mut [0; kieselbrot::SHEET_SIZE];
+    kieselbrot::complete(draft, sheet, order::ORDER_DATE, Record::GIVEN)
 }
 
 #[test]

@@ -2,6 +2,7 @@
 
 use std::slice;
 
+use crate::dates::{Date, Dates, Record};
 use crate::draft::sheet_of;
 use crate::field::Field;
 use crate::refusal::Refusal;
@@ -25,19 +26,30 @@ pub struct Completed {
     pub ones: u32,
 }
 
-/// Completes a draft: writes "the first filling that keeps all rules" to the
-/// sheet, whatever that held.
+/// Completes a draft of an order with this date: writes "the first filling that
+/// keeps all rules" to the sheet, whatever that held.
 ///
 /// # Errors
 ///
 /// In this order: [`Refusal::Malformed`] for the draft, [`Refusal::Output`]
-/// for the sheet, [`Refusal::Broken`] for rules 1 to 3, [`Refusal::Ordinary`],
+/// for the sheet, [`Refusal::Undated`] ("it comes just before 8"),
+/// [`Refusal::Broken`] for rules 1 to 3, [`Refusal::Ordinary`],
 /// [`Refusal::NoFilling`].
-pub fn complete(draft: &[u8], sheet: &mut [u8]) -> Result<Completed, Refusal> {
+pub fn complete(
+    draft: &[u8],
+    sheet: &mut [u8],
+    date: Date,
+    record: Record,
+) -> Result<Completed, Refusal> {
     let given = sheet_of(draft)?;
     let output = sheet::output(sheet).ok_or(Refusal::Output)?;
+    let dates = Dates::new(date, record)?;
     budget_class(&given)?;
-    let (filling, count) = first_filling(&given, |filling| judge(filling).is_ok())?;
+    let (filling, count) = first_filling(
+        &given,
+        |status| dates.allow(status),
+        |filling| judge(filling, dates).is_ok(),
+    )?;
     filling.write_to(output);
     let set = filled(&given);
     Ok(Completed {
@@ -57,7 +69,8 @@ pub(crate) fn budget_class(given: &Sheet<'_>) -> Result<Class, Refusal> {
     }
 }
 
-/// A field's list. "Fields 14, 15, 17, 61, 103 have no list and stay as given."
+/// A field's list; of that of 101 the date allows all or a part. "Fields 14, 15,
+/// 17, 61, 103 have no list and stay as given."
 const fn list(field: Field) -> &'static [&'static [u8]] {
     match field {
         Field::Code
@@ -99,12 +112,27 @@ fn candidates<'a>(given: &'a Sheet<'a>, field: Field) -> &'a [&'a [u8]] {
     }
 }
 
+/// The statuses that 101 has in the fillings: those of its list that are allowed,
+/// or only what is given.
+fn status_candidates<'a>(
+    given: &'a Sheet<'a>,
+    allowed: impl Fn(&[u8]) -> bool,
+) -> impl Iterator<Item = &'a [u8]> {
+    let open = is_open(given, Field::Status);
+    candidates(given, Field::Status)
+        .iter()
+        .copied()
+        .filter(move |status| !open || allowed(status))
+}
+
 /// The first filling that passes and its place; refusal 10 with the count of
 /// all fillings if none does. No filling after it is looked at.
 ///
-/// "Order: 101 varies slowest, then 106, 108, 109."
+/// "Order: 101 varies slowest, then 106, 108, 109." A blank 101 gets the allowed
+/// statuses only.
 pub(crate) fn first_filling<'a>(
     given: &'a Sheet<'a>,
+    allowed: impl Fn(&[u8]) -> bool,
     mut passes: impl FnMut(&Sheet<'a>) -> bool,
 ) -> Result<(Sheet<'a>, u32), Refusal> {
     let mut filling = *given;
@@ -113,7 +141,7 @@ pub(crate) fn first_filling<'a>(
         filling[field] = candidates(given, field)[0];
     }
     let mut count = 0;
-    for status in candidates(given, Field::Status) {
+    for status in status_candidates(given, allowed) {
         filling[Field::Status] = status;
         for basis in candidates(given, Field::Basis) {
             filling[Field::Basis] = basis;

@@ -8,8 +8,9 @@
 //! code with the library. Doc comments quote the sentence of the paper or the request they
 //! follow. Of the requests it has R-1 (pension numbers), R-2 (letters in a KPP),
 //! R-3 (a test ahead of the search), R-4 (check digits of the INN), R-5 (rule
-//! 22 ahead of rule 21), R-10 (the bank's charge), R-11 (part of a year), R-12
-//! (status 15 with its register) and R-13 (which payments leave first).
+//! 22 ahead of rule 21), R-7 (the order's date chooses the rules), R-10 (the
+//! bank's charge), R-11 (part of a year), R-12 (status 15 with its register) and
+//! R-13 (which payments leave first).
 //!
 //! Every public function is total, and "Refusals change no buffer".
 
@@ -18,6 +19,7 @@
 
 mod charge;
 mod completion;
+mod dates;
 mod draft;
 mod field;
 mod leave;
@@ -32,6 +34,7 @@ mod sheet;
 
 pub use charge::charge;
 pub use completion::{complete, Completed};
+pub use dates::{Date, Record};
 pub use draft::{copy, fresh, post, Posted};
 pub use leave::{leave, Leaving, Payment};
 pub use message::{read, write, Message};
@@ -40,4 +43,4 @@ pub use pretest::pretest;
 pub use program::report;
 pub use refusal::{Broken, Refusal};
 pub use register::pool;
-pub use rules::{check, Class};
+pub use rules::{check, statuses, Class};

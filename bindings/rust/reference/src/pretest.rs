@@ -16,7 +16,7 @@ use crate::sheet::Sheet;
 ///
 /// "The test refuses with 1, 8 and 9 as completion does", in this order:
 /// [`Refusal::Malformed`] for the draft, [`Refusal::Broken`] for rules 1 to 3,
-/// [`Refusal::Ordinary`].
+/// [`Refusal::Ordinary`]. No date is taken, so [`Refusal::Undated`] never.
 pub fn pretest(draft: &[u8]) -> Result<Option<Broken>, Refusal> {
     let given = sheet_of(draft)?;
     let class = budget_class(&given)?;
@@ -30,10 +30,12 @@ pub fn pretest(draft: &[u8]) -> Result<Option<Broken>, Refusal> {
 ///
 /// The fillings have the draft's class, since "fields 14, 15, 17, 61, 103 have no
 /// list and stay as given", and they name one field: only rule 6 has a choice,
-/// and what is blank in one filling has no list and is blank in all.
+/// and what is blank in one filling has no list and is blank in all. None of the
+/// rules reads which status it is, so a blank 101 gets those of all dates.
 fn broken_by_all(given: &Sheet<'_>, class: Class, rule: LoneRule) -> Option<Broken> {
     let mut named = None;
-    let kept = first_filling(given, |filling| match rule(filling, class) {
+    let any_status = |_: &[u8]| true;
+    let kept = first_filling(given, any_status, |filling| match rule(filling, class) {
         Ok(()) => true,
         Err(broken) => {
             named = Some(broken);

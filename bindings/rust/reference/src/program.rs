@@ -1,6 +1,7 @@
 //! The program `budgetorder`, as a function of its standard input.
 
 use crate::completion::complete;
+use crate::dates::{Date, Record};
 use crate::draft::{post, Posted, DRAFT_SIZE};
 use crate::field::Field;
 use crate::refusal::Refusal;
@@ -8,6 +9,9 @@ use crate::sheet::{Sheet, SheetSlot};
 
 /// "Reads at most 32,768 bytes of standard input".
 const INPUT_MAX: usize = 32_768;
+
+/// "The program uses the order date 20240101 and the three dates given here".
+const ORDER_DATE: Date = Date(20_240_101);
 
 /// The whole standard output of `budgetorder` for this standard input.
 ///
@@ -62,7 +66,7 @@ fn answer(posted: Result<Posted, Refusal>) -> String {
 /// what it returns."
 fn end(draft: &[u8], output: &mut Vec<u8>) {
     let mut bytes = [0; size_of::<SheetSlot>() * Field::ALL.len()];
-    let completed = match complete(draft, &mut bytes) {
+    let completed = match complete(draft, &mut bytes, ORDER_DATE, Record::GIVEN) {
         Ok(completed) => completed,
         Err(refusal) => return line(output, &format!("end {refusal}")),
     };

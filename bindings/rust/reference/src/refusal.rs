@@ -19,7 +19,8 @@ impl From<Broken> for Refusal {
     }
 }
 
-/// An answer other than success. "Number order is test order."
+/// An answer other than success. "Number order is test order", but 12 "comes just
+/// before 8".
 #[derive(Clone, Copy, Debug, PartialEq, Eq, Hash)]
 pub enum Refusal {
     /// 1: "draft or sheet malformed; for fresh, size not 450".
@@ -52,6 +53,9 @@ pub enum Refusal {
         /// The "count of all fillings".
         count: u32,
     },
+    /// 12: "an order date or record entry that is no Gregorian date of the years
+    /// 1900 to 2099, or an order date before 20230925"; "it comes just before 8".
+    Undated,
     /// 14: "an argument out of range or a least above the greatest".
     Tariff,
     /// 15: "a year length other than 365 or 366, days outside 1 to that length, 0
@@ -87,6 +91,7 @@ impl Refusal {
             Self::Broken { .. } => 8,
             Self::Ordinary => 9,
             Self::NoFilling { .. } => 10,
+            Self::Undated => 12,
             Self::Tariff => 14,
             Self::YearPart => 15,
             Self::Register => 16,

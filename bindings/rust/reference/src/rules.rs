@@ -1,5 +1,6 @@
 //! The rules. "The rules are judged knowing sheets only, never drafts."
 
+use crate::dates::{is_gregorian, Date, Dates, Record};
 use crate::field::Field;
 use crate::refusal::{Broken, Refusal};
 use crate::sheet::Sheet;
@@ -43,10 +44,11 @@ const ZERO: &[u8] = b"0";
 /// The text "00".
 const DOUBLE_ZERO: &[u8] = b"00";
 
-/// Rule 10's statuses in its order.
-pub(crate) const STATUSES: [&[u8]; 22] = [
-    b"01", b"03", b"04", b"05", b"06", b"07", b"08", b"13", b"15", b"16", b"17", b"19", b"20",
-    b"23", b"24", b"27", b"28", b"29", b"30", b"31", b"32", b"33",
+/// The statuses that some date allows: those of the paper and 02, "in ascending
+/// order".
+pub(crate) const STATUSES: [&[u8]; 23] = [
+    b"01", b"02", b"03", b"04", b"05", b"06", b"07", b"08", b"13", b"15", b"16", b"17", b"19",
+    b"20", b"23", b"24", b"27", b"28", b"29", b"30", b"31", b"32", b"33",
 ];
 
 /// Rule 15's texts in its order: "0", "00", УВ, ИЛ, ПБ, ТГ, ТБ, ТД, ПВ, ИН,
@@ -86,22 +88,22 @@ const SNILS_WEIGHTS: [u32; 9] = [9, 8, 7, 6, 5, 4, 3, 2, 1];
 #[derive(Clone, Copy)]
 struct Rule(u8);
 
-/// The number of a status of rule 10.
+/// The number of a status of rule 10's list.
 #[derive(Clone, Copy, PartialEq, Eq)]
 struct Status(u8);
 
 impl Status {
-    /// Rule 10: one of the listed statuses.
-    fn parse(text: &[u8]) -> Option<Self> {
-        if !STATUSES.contains(&text) {
+    /// Rule 10: "A status is in rule 10's list … exactly when the date allows it."
+    fn parse(text: &[u8], dates: Dates) -> Option<Self> {
+        if !(STATUSES.contains(&text) && dates.allow(text)) {
             return None;
         }
         number(text).and_then(|n| n.try_into().ok()).map(Self)
     }
 
-    /// Rule 19's statuses.
+    /// Rule 19's statuses: "Status 02 joins rule 19."
     const fn is_treasury(self) -> bool {
-        matches!(self.0, 1 | 4 | 6 | 7 | 13 | 16 | 17 | 28 | 30 | 32)
+        matches!(self.0, 1 | 2 | 4 | 6 | 7 | 13 | 16 | 17 | 28 | 30 | 32)
     }
 
     /// "06 07 16 17 28 30 32 (the customs group, this paper's)".
@@ -266,13 +268,13 @@ fn is_snils(text: &[u8]) -> bool {
 
 /// The forms of field 109 (rule 18).
 #[derive(Clone, Copy, PartialEq, Eq)]
-enum Date {
+enum DocumentDate {
     Zero,
     DoubleZero,
     Day,
 }
 
-impl Date {
+impl DocumentDate {
     /// Rule 18: ""0", "00", or DD.MM.YYYY, a Gregorian date of the years 1900
     /// to 2099".
     fn parse(text: &[u8]) -> Option<Self> {
@@ -295,22 +297,7 @@ fn is_date(text: &[u8]) -> bool {
     ) else {
         return false;
     };
-    (1900..=2099).contains(&year) && (1..=month_length(month, year)).contains(&day)
-}
-
-/// The days of a Gregorian month; 0 if there is no such month.
-const fn month_length(month: u32, year: u32) -> u32 {
-    match month {
-        1 | 3 | 5 | 7 | 8 | 10 | 12 => 31,
-        4 | 6 | 9 | 11 => 30,
-        2 if is_leap(year) => 29,
-        2 => 28,
-        _ => 0,
-    }
-}
-
-const fn is_leap(year: u32) -> bool {
-    year.is_multiple_of(4) && (!year.is_multiple_of(100) || year.is_multiple_of(400))
+    is_gregorian(day, month, year)
 }
 
 /// A text of so many digits; "a digit is "0" to "9"".
@@ -407,28 +394,38 @@ fn require(kept: bool, field: Field, rule: Rule) -> Result<(), Broken> {
     }
 }
 
-/// Checks a sheet. The rules are "tested in number order; the first broken one
-/// is named with the field in brackets", but "22 is tested ahead of 21";
-/// "acceptance returns the class".
+/// The statuses "in rule 10's list, and in the completion list, in ascending order,
+/// exactly when the date allows" them.
+pub fn statuses(date: Date, record: Record) -> impl Iterator<Item = &'static [u8]> {
+    STATUSES
+        .into_iter()
+        .filter(move |status| record.allows(date, status))
+}
+
+/// Checks the sheet of an order with this date. The rules are "tested in number
+/// order; the first broken one is named with the field in brackets", but "22 is
+/// tested ahead of 21"; "acceptance returns the class".
 ///
 /// # Errors
 ///
-/// [`Refusal::Malformed`], or [`Refusal::Broken`] with the first broken rule:
-/// it "is counted in the new order".
-pub fn check(sheet: &[u8]) -> Result<Class, Refusal> {
+/// In this order: [`Refusal::Malformed`], [`Refusal::Undated`] ("it comes just
+/// before 8"), [`Refusal::Broken`] with the first broken rule: it "is counted in
+/// the new order".
+pub fn check(sheet: &[u8], date: Date, record: Record) -> Result<Class, Refusal> {
     let sheet = Sheet::parse(sheet).ok_or(Refusal::Malformed)?;
-    Ok(judge(&sheet)?)
+    let dates = Dates::new(date, record)?;
+    Ok(judge(&sheet, dates)?)
 }
 
 /// Rules 1 to 35: "Acceptance and completion count 35 among the rules".
-pub(crate) fn judge(sheet: &Sheet<'_>) -> Result<Class, Broken> {
+pub(crate) fn judge(sheet: &Sheet<'_>, dates: Dates) -> Result<Class, Broken> {
     let class = classify(sheet)?;
     if class == Class::O {
         // "A class O sheet that keeps 1 to 4 is accepted; the rest is for A
         // and B."
         require(sheet[Field::Status].is_empty(), Field::Status, Rule(4))?;
     } else {
-        Order::parse(sheet, class)?.relations()?;
+        Order::parse(sheet, class, dates)?.relations()?;
     }
     Ok(class)
 }
@@ -577,18 +574,19 @@ struct Order<'a> {
     status: Status,
     basis: Basis,
     document: Document<'a>,
-    date: Date,
+    date: DocumentDate,
 }
 
 impl<'a> Order<'a> {
     /// Rules 5 to 18: each field's own form.
-    fn parse(sheet: &'a Sheet<'a>, class: Class) -> Result<Self, Broken> {
+    fn parse(sheet: &'a Sheet<'a>, class: Class, dates: Dates) -> Result<Self, Broken> {
         rule_5(sheet, class)?;
         rule_6(sheet)?;
         let code = rule_7(sheet)?;
         let payer = rule_8(sheet)?;
         rule_9(sheet)?;
-        let status = Status::parse(sheet[Field::Status]).ok_or(broken(Field::Status, Rule(10)))?;
+        let status =
+            Status::parse(sheet[Field::Status], dates).ok_or(broken(Field::Status, Rule(10)))?;
         rule_11(sheet)?;
         rule_12(sheet)?;
         rule_13(sheet)?;
@@ -597,7 +595,7 @@ impl<'a> Order<'a> {
         rule_16(sheet)?;
         let document =
             Document::parse(sheet[Field::Document]).ok_or(broken(Field::Document, Rule(17)))?;
-        let date = Date::parse(sheet[Field::Date]).ok_or(broken(Field::Date, Rule(18)))?;
+        let date = DocumentDate::parse(sheet[Field::Date]).ok_or(broken(Field::Date, Rule(18)))?;
 
         Ok(Self {
             sheet,
@@ -662,7 +660,11 @@ impl<'a> Order<'a> {
             Field::CustomsOffice,
             Rule(30),
         )?;
-        require(customs || self.date == Date::Zero, Field::Date, Rule(31))?;
+        require(
+            customs || self.date == DocumentDate::Zero,
+            Field::Date,
+            Rule(31),
+        )?;
         require(
             self.basis != Basis::LetterPair || self.document != Document::Zero,
             Field::Document,
@@ -674,7 +676,7 @@ impl<'a> Order<'a> {
             Rule(33),
         )?;
         require(
-            (self.date == Date::DoubleZero) == (self.basis == Basis::DoubleZero),
+            (self.date == DocumentDate::DoubleZero) == (self.basis == Basis::DoubleZero),
             Field::Date,
             Rule(34),
         )?;

@@ -7,4 +7,4 @@ use Rattle.capi.proofs.kieselbrot_complete.Tie as tie
 
 pub kieselbrot-complete-spec : {M : Type 1} → statement M
 unfolding completeAnswer completeNumbers
-kieselbrot-complete-spec = tie.close (tie.spec (λ c κs. search needs) (λ c. search needs) (λ c. search needs) (λ c. search needs) (λ c. search needs) (λ c. search needs) (λ c. search (needs, completed-is)) (λ c. search needs) (λ c. search (needs, completed-is)) (λ c. search needs) (λ c. search (needs, completed-is)) (λ c. search needs) (λ c. search (needs, completed-is)))
+kieselbrot-complete-spec = tie.close (tie.spec (λ c κs. search needs) (λ c κs. search needs) (λ c. search needs) (λ c. search needs) (λ c. search needs) (λ c. search needs) (λ c. search needs) (λ c. search (needs, completed-is)) (λ c. search needs) (λ c. search (needs, completed-is)) (λ c. search needs) (λ c. search (needs, completed-is)) (λ c. search needs) (λ c. search (needs, completed-is)))

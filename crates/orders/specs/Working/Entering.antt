@@ -5,7 +5,9 @@ use Prim.Native.Nat.{ℕ}
 use lib.ListN.{getD, replicate}
 use Rattle.texts.specs.Quoted.{bytes}
 use Rattle.sheets.specs.Sheet.{cell}
-use Rattle.sheets.specs.Lists.{statusTexts, basisTexts, zeroTexts}
+use Rattle.sheets.specs.Lists.{basisTexts, zeroTexts}
+use Rattle.sheets.specs.Dates.{statusTexts}
+use Rattle.sheets.specs.declared.dates.Dates.{Dates}
 use Rattle.sheets.specs.Working.Entries.{filledAt}
 
 -- a table's row as a cell
@@ -31,20 +33,20 @@ unfoldable pub baseOf : List ℕ → List ℕ
 baseOf s = filledWith s zeroEntries
 
 -- the entries at four places in the lists of 101, 106, 108 and 109
-abbrev pub pickEntries : List ℕ → List Entry
-pickEntries p =
-    (6, cell (getD statusTexts (getD p 0 0) []))
+abbrev pub pickEntries : Dates → List ℕ → List Entry
+pickEntries D p =
+    (6, cell (getD (statusTexts D) (getD p 0 0) []))
     ∷ (11, cell (getD basisTexts (getD p 1 0) []))
     ∷ (13, cell (getD zeroTexts (getD p 2 0) []))
     ∷ (14, cell (getD zeroTexts (getD p 3 0) []))
     ∷ []
 
-unfoldable pub pickedOf : List ℕ → List ℕ → List ℕ
-pickedOf s p = filledWith s (pickEntries p)
+unfoldable pub pickedOf : Dates → List ℕ → List ℕ → List ℕ
+pickedOf D s p = filledWith s (pickEntries D p)
 
 -- the slots of some entries; those of 101, 106, 108 and 109, whatever is picked
 abbrev pub slotsOf : List Entry → List ℕ
 slotsOf es = map (λ (e : Entry). e .0) es
 
 abbrev pub varying : List ℕ
-varying = slotsOf (pickEntries [])
+varying = 6 ∷ 11 ∷ 13 ∷ 14 ∷ []

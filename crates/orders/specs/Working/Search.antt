@@ -6,7 +6,9 @@ use mathlib.Core.List.{List, [], _∷_}
 use Prim.Native.Nat.{ℕ, zero, suc}
 use Rattle.texts.specs.Texts.{blank, every}
 use Rattle.sheets.specs.Sheet.{Sheet, textOf}
-use Rattle.sheets.specs.Lists.{statusCount, basisCount, zeroCount}
+use Rattle.sheets.specs.Lists.{basisCount, zeroCount}
+use Rattle.sheets.specs.Dates.{statusCount}
+use Rattle.sheets.specs.declared.dates.Dates.{Dates}
 use Rattle.sheets.specs.Working.Facts.{Read}
 use Rattle.sheets.specs.declared.facts.Facts.{Facts}
 use Rattle.rules.specs.Rules.{budget, basic, keeps, keepsAll}
@@ -21,24 +23,24 @@ unfoldable pub places : ℕ → ℕ → List ℕ
 places zero i = []
 places (suc n) i = i ∷ places n (suc i)
 
-unfoldable pub picks : Sheet → List (List ℕ)
-picks s =
+unfoldable pub picks : Dates → Sheet → List (List ℕ)
+picks D s =
     product
-    (places (width (blank (textOf s 6)) statusCount) 0
+    (places (width (blank (textOf s 6)) (statusCount D)) 0
     ∷ places (width (blank (textOf s 11)) basisCount) 0
     ∷ places (width (blank (textOf s 13)) zeroCount) 0
     ∷ places (width (blank (textOf s 14)) zeroCount) 0
     ∷ [])
 
 -- the sheet with the entries at these four places keeps all rules
-unfoldable pub passesAt : Sheet → List ℕ → Bool
-passesAt s p = keepsAll (pickedOf s p)
+unfoldable pub passesAt : Dates → Sheet → List ℕ → Bool
+passesAt D s p = keepsAll D (pickedOf D s p)
 
-unfoldable pub firstPick : Sheet → Look (List ℕ)
-firstPick s = look (passesAt s) 0 (picks s)
+unfoldable pub firstPick : Dates → Sheet → Look (List ℕ)
+firstPick D s = look (passesAt D s) 0 (picks D s)
 
 -- f was read of s, a budget payment that keeps rules 1 to 3
-pub record Payment (f : Facts) (s : Sheet) : Type 0 where
-  pub read : Read f s
+pub record Payment (D : Dates) (f : Facts) (s : Sheet) : Type 0 where
+  pub read : Read D f s
   pub class : budget s ≡ true
-  pub basics : every (keeps s) basic ≡ true
+  pub basics : every (keeps D s) basic ≡ true

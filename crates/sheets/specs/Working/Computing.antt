@@ -2,7 +2,8 @@
 use Rattle.texts.specs.Working.Computing.{textsComputing}
 use Rattle.sheets.specs.Sheet.{slotOf, cell, cellText, cellOk, cellOf, textOf, slotOk, _⟨_⟩, given}
 use Rattle.sheets.specs.Forms.{checkDigit, person, document, snilsCheck, snils, pension, leap, monthDays, gregorian, date}
+use Rattle.sheets.specs.Dates.{dayNumber, datesFit, textsIn}
 
 unfoldable pub sheetsComputing : Unit {0}
-unfolding textsComputing slotOf cell cellText cellOk cellOf textOf slotOk _⟨_⟩ given checkDigit person document snilsCheck snils pension leap monthDays gregorian date
+unfolding textsComputing slotOf cell cellText cellOk cellOf textOf slotOk _⟨_⟩ given checkDigit person document snilsCheck snils pension leap monthDays gregorian date dayNumber datesFit textsIn
 sheetsComputing = tt

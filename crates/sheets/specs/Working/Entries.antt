@@ -1,15 +1,18 @@
 -- The entries that completion puts into the blank fields 101, 106, 108 and 109, a sheet with one put in, and the facts of such a sheet.
 -- Assumes nothing.
-use mathlib.Core.Bool.{Bool, cond}
+use mathlib.Core.Bool.{Bool, not, cond, _&&_}
 use mathlib.Core.List.{List, [], _∷_}
-use Prim.Native.Nat.{ℕ, _*_}
+use Prim.Native.Nat.{ℕ, _+_, _*_}
+use lib.Dec.{leb}
 use lib.ListN.{length, getD}
 use Rattle.texts.specs.Quoted.{Text}
 use Rattle.texts.specs.Texts.{blank}
 use Rattle.texts.specs.Buffers.{putAt}
 use Rattle.sheets.specs.Sheet.{Sheet, cellSize, textOf}
-use Rattle.sheets.specs.Lists.{statusTexts, zeroTexts, basisTexts}
+use Rattle.sheets.specs.Lists.{zeroTexts, basisTexts}
+use Rattle.sheets.specs.Dates.{textsIn}
 use Rattle.sheets.specs.Working.Facts.{standingOf, basisOf, documentOf, dayOf}
+use Rattle.sheets.specs.declared.dates.Force.{Force}
 use Rattle.sheets.specs.declared.facts.Standing.{Standing}
 use Rattle.sheets.specs.declared.facts.Basis.{Basis}
 use Rattle.sheets.specs.declared.facts.Document.{Document}
@@ -24,9 +27,19 @@ rowOf t = length t ∷ getD t 0 0 ∷ getD t 1 0 ∷ []
 unfoldable pub filledAt : Sheet → ℕ → List ℕ → Sheet
 filledAt s k x = cond (blank (textOf s k)) (putAt s (k * cellSize) x) s
 
+-- where entry k of the list in force stands among all statuses: 02 is the second of these, 32 and 33 are the last
+abbrev pub past02 : Force → ℕ → ℕ
+past02 F k = k + cond (leb 1 k && not (F .s02)) 1 0
+
+unfoldable pub placeIn : Force → ℕ → ℕ
+placeIn F k = past02 F k + cond (leb 21 (past02 F k) && not (F .s32)) 1 0
+
+unfoldable pub countIn : Force → ℕ
+countIn F = 20 + cond (F .s02) 1 0 + cond (F .s32) 1 0 + cond (F .s33) 1 0
+
 -- the facts of a field with entry k of its list, where the field is blank
 abbrev pub statusAt : Facts → ℕ → Standing
-statusAt f k = cond (f .status .blank) (standingOf (getD statusTexts k [])) (f .status)
+statusAt f k = cond (f .status .blank) (standingOf (f .force) (getD (textsIn (f .force)) k [])) (f .status)
 
 abbrev pub basisAt : Facts → ℕ → Basis
 basisAt f k = cond (f .basis .blank) (basisOf (getD basisTexts k [])) (f .basis)
@@ -38,4 +51,4 @@ abbrev pub dayAt : Facts → ℕ → Day
 dayAt f k = cond (f .day .blank) (dayOf (getD zeroTexts k [])) (f .day)
 
 abbrev pub withAll : Facts → Standing → Basis → Document → Day → Facts
-withAll f a b c d = record { banking = f .banking; parties = f .parties; classifiers = f .classifiers; status = a; basis = b; document = c; day = d }
+withAll f a b c d = record { banking = f .banking; parties = f .parties; classifiers = f .classifiers; force = f .force; status = a; basis = b; document = c; day = d }

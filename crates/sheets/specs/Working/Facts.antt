@@ -3,14 +3,17 @@
 use mathlib.Core.Path.{_≡_}
 use mathlib.Core.Bool.{Bool, not, cond, _&&_, _||_}
 use mathlib.Core.List.{List, [], _∷_}
-use Prim.Native.Nat.{ℕ}
-use lib.Dec.{eqb}
+use Prim.Native.Nat.{ℕ, _/_, _%_, _^_}
+use lib.Dec.{eqb, ltb}
 use lib.ListN.{length}
 use Rattle.texts.specs.Quoted.{Text, bytes}
 use Rattle.texts.specs.Texts.{every, among, blank, _is_, _isOneOf_, _begins_, number}
 use Rattle.sheets.specs.Sheet.{sheetSize, textOf, Sheet, given}
-use Rattle.sheets.specs.Forms.{bik, account, ofClassA, ofClassB, home, uin, code4, foreignCode, inn10, inn12, digits5, digits10, digits12, kpp, kbk, oktmo, office, letterPair, person, document, pension, date}
+use Rattle.sheets.specs.Forms.{_⇒_, bik, account, ofClassA, ofClassB, home, uin, code4, foreignCode, inn10, inn12, digits5, digits10, digits12, kpp, kbk, oktmo, office, letterPair, person, document, pension, date}
 use Rattle.sheets.specs.Lists.{accountsA, banksB, accountB, accountsB, account03100, account03212, statuses, customsGroup, treasuryGroup, courtsGroup, personalGroup, wantInn, wantTen, wantTwelve, wantZero, numbersOf}
+use Rattle.sheets.specs.Dates.{forceOf, textsIn, listed}
+use Rattle.sheets.specs.declared.dates.Dates.{Dates}
+use Rattle.sheets.specs.declared.dates.Force.{Force}
 use Rattle.sheets.specs.declared.forms.Wanted.{Wanted}
 use Rattle.sheets.specs.declared.forms.Wanted.the-variants.{Any, Inn, Ten, Twelve, Zero}
 use Rattle.sheets.specs.declared.facts.General.{General}
@@ -78,6 +81,10 @@ unfoldable pub wantedBy : ℕ → Wanted
 wantedBy n =
     cond (among n (numbersOf 2 wantInn)) Inn (cond (among n (numbersOf 2 wantTen)) Ten (cond (among n (numbersOf 2 wantTwelve)) Twelve (cond (among n (numbersOf 2 wantZero)) Zero Any)))
 
+-- a number below 64 is in a set: bit n for the number n
+unfoldable pub inSet : ℕ → ℕ → Bool
+inSet set n = ltb n 64 && eqb (set / 2 ^ n % 2) 1
+
 unfoldable pub groupsBy : ℕ → Groups
 groupsBy n =
     record {
@@ -102,12 +109,16 @@ groupsOf t =
       is31 = t isOneOf "31";
     }
 
-unfoldable pub standingBy : ℕ → Bool → Standing
-standingBy n blank = record { blank = blank; listed = among n (numbersOf 2 statuses); groups = groupsBy n; wanted = wantedBy n }
+-- the statuses that have a date, by their numbers
+unfoldable pub allowedBy : Force → ℕ → Bool
+allowedBy F n = (eqb 2 n ⇒ F .s02) && ((eqb 32 n ⇒ F .s32) && (eqb 33 n ⇒ F .s33))
 
-unfoldable pub standingOf : Text → Standing
-standingOf t =
-    record { blank = blank t; listed = t isOneOf statuses; groups = groupsOf t; wanted = wantedBy (number 2 t) }
+unfoldable pub standingBy : ℕ → Bool → Bool → Standing
+standingBy n blank listed = record { blank = blank; listed = listed; groups = groupsBy n; wanted = wantedBy n }
+
+unfoldable pub standingOf : Force → Text → Standing
+standingOf F t =
+    record { blank = blank t; listed = listed t (textsIn F); groups = groupsOf t; wanted = wantedBy (number 2 t) }
 
 -- 106, 108, 109
 unfoldable pub basisOf : Text → Basis
@@ -125,9 +136,9 @@ dayOf t = record { blank = blank t; zero = t is "0"; zeros = t is "00"; date = d
 abbrev pub fixed : List ℕ
 fixed = 3 ∷ 4 ∷ 5 ∷ 7 ∷ 8 ∷ 9 ∷ 10 ∷ 12 ∷ []
 
--- by the texts of the slots
-unfoldable pub factsBy : (ℕ → Text) → Facts
-factsBy T =
+-- by the dates and the texts of the slots
+unfoldable pub factsBy : Dates → (ℕ → Text) → Facts
+factsBy D T =
     record {
       banking =
           record {
@@ -149,16 +160,17 @@ factsBy T =
             oktmo = formOf (T 10) (oktmo (T 10));
             office = formOf (T 12) (office (T 12));
           };
-      status = standingOf (T 6);
+      force = forceOf D;
+      status = standingOf (forceOf D) (T 6);
       basis = basisOf (T 11);
       document = documentOf (T 13);
       day = dayOf (T 14);
     }
 
-abbrev pub factsOf : Sheet → Facts
-factsOf s = factsBy (textOf s)
+abbrev pub factsOf : Dates → Sheet → Facts
+factsOf D s = factsBy D (textOf s)
 
--- f is what was read of the sheet s. A crate above sees facts by this alone.
-pub record Read (f : Facts) (s : Sheet) : Type 0 where
+-- f is what was read of the sheet s at the dates D. A crate above sees facts by this alone.
+pub record Read (D : Dates) (f : Facts) (s : Sheet) : Type 0 where
   pub size : length s ≡ sheetSize
-  pub facts : f ≡ factsOf s
+  pub facts : f ≡ factsOf D s

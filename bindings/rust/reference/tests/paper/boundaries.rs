@@ -1,10 +1,10 @@
 //! Sizes, lengths, pads, versions, revisions and the order of refusals.
 
 use cases::{message, Text, FIELDS};
-use reference::{check, complete, copy, fresh, post, read, report, write};
+use reference::{copy, fresh, post, read, report, write};
 use reference::{Class, Message, Posted, Refusal};
 
-use crate::support::{broken, draft, sheet, Change};
+use crate::support::{broken, check, complete, draft, sheet, Change};
 
 /// The sheet's bytes, cut or extended with zeros to a size.
 fn resized(mut bytes: Vec<u8>, size: usize) -> Vec<u8> {

@@ -1,9 +1,9 @@
 //! Every example of the paper, starred or not.
 
 use cases::{message, Draft, Texts, BLANKS};
-use reference::{check, complete, copy, post, report, Class, Completed, Posted, Refusal};
+use reference::{copy, post, report, Class, Completed, Posted, Refusal};
 
-use crate::support::{broken, draft, sheet, texts, Change};
+use crate::support::{broken, check, complete, draft, sheet, texts, Change};
 
 #[test]
 fn sheet_s() {

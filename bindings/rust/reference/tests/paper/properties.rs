@@ -2,9 +2,9 @@
 //! restatements of its definitions.
 
 use cases::{draft_after, filled_set, fillings, messages, Random, Texts};
-use reference::{check, complete, copy, post, read, report, Completed, Refusal};
+use reference::{copy, post, read, report, Completed, Refusal};
 
-use crate::support::{texts, Change};
+use crate::support::{check, complete, texts, Change};
 
 /// Sheets near S: each change is made or not.
 fn random_changes(random: &mut Random) -> Vec<Change<'static>> {

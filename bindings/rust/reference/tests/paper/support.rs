@@ -1,7 +1,10 @@
 //! Sheets and drafts by their differences from the paper's sheet S.
 
 use cases::Texts;
-use reference::Refusal;
+use reference::{Class, Completed, Date, Record, Refusal};
+
+/// The program's order date.
+const ORDER_DATE: Date = Date(20_240_101);
 
 pub type Change<'a> = (u8, &'a [u8]);
 
@@ -23,4 +26,14 @@ pub fn draft(changes: &[Change<'_>]) -> Vec<u8> {
 
 pub fn broken(field: u8, rule: u8) -> Refusal {
     Refusal::Broken { field, rule }
+}
+
+/// Checks a sheet at the program's order date.
+pub fn check(sheet: &[u8]) -> Result<Class, Refusal> {
+    reference::check(sheet, ORDER_DATE, Record::GIVEN)
+}
+
+/// Completes a draft at the program's order date.
+pub fn complete(draft: &[u8], sheet: &mut [u8]) -> Result<Completed, Refusal> {
+    reference::complete(draft, sheet, ORDER_DATE, Record::GIVEN)
 }

@@ -1,6 +1,6 @@
 //! The table `cases/sheets.txt` against `check`.
 
-use reference::check;
+use crate::support::check;
 
 #[test]
 fn every_case_has_its_verdict() {

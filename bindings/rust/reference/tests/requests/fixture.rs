@@ -1,7 +1,11 @@
 //! Orders by their differences from the paper's sheet S, and what is asserted of them.
 
 use cases::{filled_set, Draft, Texts, BASES, BLANKS, FIELDS};
-use reference::{check, complete, fresh, post, pretest, write, Broken, Class, Completed, Refusal};
+use reference::{check, complete, fresh, post, pretest, write};
+use reference::{Broken, Class, Completed, Date, Record, Refusal};
+
+/// The program's order date, at which orders are checked and completed here.
+pub const ORDER_DATE: Date = Date(20_240_101);
 
 /// A class A account of rules 7, 20 and 22.
 pub const ENFORCEMENT: &str = "03212643000000014800";
@@ -79,7 +83,7 @@ pub trait Order {
     }
 
     fn check(&self) -> Result<Class, Refusal> {
-        check(&self.texts().sheet())
+        check(&self.texts().sheet(), ORDER_DATE, Record::GIVEN)
     }
 
     #[track_caller]
@@ -130,7 +134,7 @@ pub trait Order {
         let ones = set.count_ones();
         for draft in self.drafts() {
             let mut sheet = [0xFF; 390];
-            let completed = complete(&draft, &mut sheet);
+            let completed = complete(&draft, &mut sheet, ORDER_DATE, Record::GIVEN);
             assert_eq!(completed, Ok(Completed { count, set, ones }));
             assert_eq!(sheet, filling.sheet());
         }
@@ -143,7 +147,8 @@ pub trait Order {
         for draft in self.drafts() {
             let mut sheet = [0xFF; 390];
             let refused = Err(Refusal::NoFilling { count });
-            assert_eq!(complete(&draft, &mut sheet), refused, "{}", self.shown());
+            let completed = complete(&draft, &mut sheet, ORDER_DATE, Record::GIVEN);
+            assert_eq!(completed, refused, "{}", self.shown());
             assert_eq!(sheet, [0xFF; 390]);
         }
     }

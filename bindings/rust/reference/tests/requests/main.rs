@@ -9,3 +9,4 @@ mod r1_r2;
 mod r3;
 mod r4;
 mod r5;
+mod r7;

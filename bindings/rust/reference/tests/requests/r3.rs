@@ -2,9 +2,9 @@
 //! 5 to 9, 11 to 14, 16, 22 and 28 that all fillings break, or says none."
 
 use cases::{fillings, Texts, FIELDS};
-use reference::{complete, fresh, pretest, Broken, Refusal};
+use reference::{complete, fresh, pretest, Broken, Record, Refusal};
 
-use crate::fixture::{broken, open, s, Change, Order, ENFORCEMENT, UIN};
+use crate::fixture::{broken, open, s, Change, Order, ENFORCEMENT, ORDER_DATE, UIN};
 
 /// The twelve rules in the order of testing.
 const TWELVE: [u8; 12] = [5, 6, 7, 8, 9, 11, 12, 13, 14, 16, 22, 28];
@@ -112,7 +112,8 @@ fn it_refuses_as_completion_does() {
     ];
     for (draft, refusal) in refused {
         assert_eq!(pretest(draft), Err(refusal));
-        assert_eq!(complete(draft, &mut [0; 390]), Err(refusal));
+        let completed = complete(draft, &mut [0; 390], ORDER_DATE, Record::GIVEN);
+        assert_eq!(completed, Err(refusal));
     }
 }
 

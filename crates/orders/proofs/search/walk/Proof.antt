@@ -8,7 +8,8 @@ use Prim.Native.Nat.{ℕ, _+_, _-_, _*_, _≤_}
 use native.Mathlib.Omega.{arith}
 use borrow.Author.Needs.{needs}
 use Rattle.sheets.specs.Sheet.{Sheet}
-use Rattle.sheets.specs.Lists.{statusCount, basisCount, zeroCount}
+use Rattle.sheets.specs.Lists.{basisCount, zeroCount}
+use Rattle.sheets.specs.declared.dates.Dates.{Dates}
 use Rattle.sheets.specs.declared.facts.Facts.{Facts}
 use Rattle.orders.specs.Fillings.{look}
 use Rattle.orders.specs.Working.Search.{passesAt, width, firstPick, Payment}
@@ -20,7 +21,7 @@ use Rattle.orders.proofs.search.walk.Statement.{statement}
 use Rattle.orders.proofs.search.walk.Tie as tie
 
 abbrev Lefts : Facts → (List ℕ → List ℕ) → Picks → ℕ → ℕ → ℕ → ℕ → Type 0
-Lefts f h R N n₀ k n = (u : Sheet) → Payment f u → Left (passesAt u) h R N n₀ k n
+Lefts f h R N n₀ k n = (D : Dates) (u : Sheet) → Payment D f u → Left (passesAt D u) h R N n₀ k n
 
 abbrev Inv-days : tie.InvT-days
 Inv-days f count₀ pick₀ found₀ kept n101 n106 n108 n109 a f1 kept1 b f2 kept2 c f3 kept3 d₀ count pick found d =
@@ -45,22 +46,22 @@ abbrev μ-bases : tie.MeasureT-bases
 
 abbrev Inv-statuses : tie.InvT-statuses
 Inv-statuses f count₀ pick₀ found₀ kept n101 n106 n108 n109 a₀ count pick found a =
-    (a ≤ n101) × (count ≤ a * ofStatus) × Lefts f (λ (t : List ℕ). t) (rest (n106 ∷ n108 ∷ n109 ∷ [])) n101 count₀ a count × (found ≡ false) × (n101 ≤ statusCount)
+    (a ≤ n101) × (count ≤ a * ofStatus) × Lefts f (λ (t : List ℕ). t) (rest (n106 ∷ n108 ∷ n109 ∷ [])) n101 count₀ a count × (found ≡ false) × (n101 ≤ 23)
 
 abbrev μ-statuses : tie.MeasureT-statuses
 μ-statuses f count₀ pick₀ found₀ kept n101 n106 n108 n109 a₀ count pick found a = n101 - a
 
 statuses-holds : tie.Need-statuses-holds Inv-days μ-days Inv-documents μ-documents Inv-bases μ-bases Inv-statuses μ-statuses
-statuses-holds c = (omega arith, omega arith, λ u o. left-none, refl, c .before .before .before .before .before .before .width-of .ensures .1)
+statuses-holds c = (omega arith, omega arith, λ D u o. left-none, refl, omega (arith, c .before .before .before .before .before .before .width-of .ensures .1, c .before .before .before .before .before .before .before .status-count .ensures .1 .1))
 
 bases-holds : tie.Need-bases-holds Inv-days μ-days Inv-documents μ-documents Inv-bases μ-bases Inv-statuses μ-statuses
-bases-holds c = (omega arith, omega arith, λ u o. left-none, c .before .before .before .statuses .inv .3, c .before .before .before .before .before .before .before .before .width-of2 .ensures .1)
+bases-holds c = (omega arith, omega arith, λ D u o. left-none, c .before .before .before .statuses .inv .3, c .before .before .before .before .before .before .before .before .width-of2 .ensures .1)
 
 documents-holds : tie.Need-documents-holds Inv-days μ-days Inv-documents μ-documents Inv-bases μ-bases Inv-statuses μ-statuses
-documents-holds c = (omega arith, omega arith, λ u o. left-none, c .before .before .before .bases .inv .3, c .before .before .before .before .before .before .before .before .before .before .width-of3 .ensures .1)
+documents-holds c = (omega arith, omega arith, λ D u o. left-none, c .before .before .before .bases .inv .3, c .before .before .before .before .before .before .before .before .before .before .width-of3 .ensures .1)
 
 days-holds : tie.Need-days-holds Inv-days μ-days Inv-documents μ-documents Inv-bases μ-bases Inv-statuses μ-statuses
-days-holds c = (omega arith, omega arith, λ u o. left-none, c .before .before .before .documents .inv .3, c .before .before .before .before .before .before .before .before .before .before .before .before .width-of4 .ensures .1)
+days-holds c = (omega arith, omega arith, λ D u o. left-none, c .before .before .before .documents .inv .3, c .before .before .before .before .before .before .before .before .before .before .before .before .width-of4 .ensures .1)
 
 days-again : tie.Need-days-again Inv-days μ-days Inv-documents μ-documents Inv-bases μ-bases Inv-statuses μ-statuses
 days-again c =
@@ -75,12 +76,12 @@ days-again c =
     let d = l .days .d in
     let p = c .before in
     let ok =
-    passes-is _ _ _ _ _ a b k d _ _ _ _ _ (w .before .before .before .before .before .before .before .before .kept-fixed .ensures)
+    passes-is _ _ _ _ _ a b k d _ _ _ _ _ (w .before .before .before .before .before .before .before .before .before .kept-fixed .ensures)
     (lb .before .before .fill-status .ensures) (lb .before .kept-status .ensures) (ld .before .before .fill-basis .ensures) (ld .before .kept-basis .ensures)
     (l .before .before .fill-document .ensures) (l .before .kept-document .ensures) (p .before .fill-day .ensures) (p .kept-day .ensures) in (
       omega arith,
       omega arith,
-      λ u o. turn (l .days .inv .2 u o) (p .before .before .days-test .taken) (one-passed (passesAt u) (l .days .count) (a ∷ b ∷ k ∷ d ∷ []) (sym (ok u o) ∙ c .if1 .left)),
+      λ D u o. turn (l .days .inv .2 D u o) (p .before .before .days-test .taken) (one-passed (passesAt D u) (l .days .count) (a ∷ b ∷ k ∷ d ∷ []) (sym (ok D u o) ∙ c .if1 .left)),
       l .days .inv .3,
       l .days .inv .4,
     )
@@ -92,7 +93,7 @@ documents-again c =
     let more = c .before .before .before .before .documents-test .taken in (
       omega (arith, more),
       omega (arith, i .inv .0, i .inv .1, i .inv .4),
-      λ u o. turn (v .inv .2 u o) more (all (i .inv .2 u o) (c .days-test .left)),
+      λ D u o. turn (v .inv .2 D u o) more (all (i .inv .2 D u o) (c .days-test .left)),
       i .inv .3,
       v .inv .4,
     )
@@ -104,7 +105,7 @@ bases-again c =
     let more = c .before .before .before .before .bases-test .taken in (
       omega (arith, more),
       omega (arith, i .inv .0, i .inv .1, i .inv .4),
-      λ u o. turn (v .inv .2 u o) more (all (i .inv .2 u o) (c .documents-test .left)),
+      λ D u o. turn (v .inv .2 D u o) more (all (i .inv .2 D u o) (c .documents-test .left)),
       i .inv .3,
       v .inv .4,
     )
@@ -116,43 +117,43 @@ statuses-again c =
     let more = c .before .before .before .before .statuses-test .taken in (
       omega (arith, more),
       omega (arith, i .inv .0, i .inv .1, i .inv .4),
-      λ u o. turn (v .inv .2 u o) more (all (i .inv .2 u o) (c .bases-test .left)),
+      λ D u o. turn (v .inv .2 D u o) more (all (i .inv .2 D u o) (c .bases-test .left)),
       i .inv .3,
       v .inv .4,
     )
 
 -- where the loops have been left: at the end of the outermost, or by the label, through the four levels
 outcome : (c : tie.Left-statuses Inv-days μ-days Inv-documents μ-documents Inv-bases μ-bases Inv-statuses μ-statuses)
-    → (u : Sheet) → Payment (c .before .before .before .before .before .before .before .before .before .before .before .args .f) u
-    → cond (c .statuses-test .found) (Place (c .statuses-test .count) (c .statuses-test .pick)) (Nothing (c .statuses-test .count)) ≡ foundOf (firstPick u)
+    → (D : Dates) (u : Sheet) → Payment D (c .before .before .before .before .before .before .before .before .before .before .before .before .args .f) u
+    → cond (c .statuses-test .found) (Place (c .statuses-test .count) (c .statuses-test .pick)) (Nothing (c .statuses-test .count)) ≡ foundOf (firstPick D u)
 unfolding look
-outcome c u o =
+outcome c D u o =
     let v = c .before .statuses in
     let w = c .before .before in
     let first =
-    first-pick u _ _ _ _
-    (w .before .before .before .before .before .before .width-of .ensures .0 ∙ ap (λ (x : Bool). width x statusCount) (w .before .before .before .before .before .before .before .blank-status .ensures u (o .read)))
-    (w .before .before .before .before .width-of2 .ensures .0 ∙ ap (λ (x : Bool). width x basisCount) (w .before .before .before .before .before .blank-basis .ensures u (o .read)))
-    (w .before .before .width-of3 .ensures .0 ∙ ap (λ (x : Bool). width x zeroCount) (w .before .before .before .blank-document .ensures u (o .read)))
-    (w .width-of4 .ensures .0 ∙ ap (λ (x : Bool). width x zeroCount) (w .before .blank-day .ensures u (o .read))) in
+    first-pick D u _ _ _ _
+    (w .before .before .before .before .before .before .width-of .ensures .0 ∙ (λ i. width (w .before .before .before .before .before .before .before .before .blank-status .ensures D u (o .read) i) (w .before .before .before .before .before .before .before .status-count .ensures .0 D u (o .read) i)))
+    (w .before .before .before .before .width-of2 .ensures .0 ∙ ap (λ (x : Bool). width x basisCount) (w .before .before .before .before .before .blank-basis .ensures D u (o .read)))
+    (w .before .before .width-of3 .ensures .0 ∙ ap (λ (x : Bool). width x zeroCount) (w .before .before .before .blank-document .ensures D u (o .read)))
+    (w .width-of4 .ensures .0 ∙ ap (λ (x : Bool). width x zeroCount) (w .before .blank-day .ensures D u (o .read))) in
     ⊎-elim
     (λ q.
     rw (q .3, v .inv .3)
-    (ap (λ (k : ℕ). Nothing k) (q .1) ∙ sym (ap foundOf (first ∙ all (v .inv .2 u o) (q .0 .left) .on []))))
+    (ap (λ (k : ℕ). Nothing k) (q .1) ∙ sym (ap foundOf (first ∙ all (v .inv .2 D u o) (q .0 .left) .on []))))
     (λ q.
     let ok =
-    passes-is _ _ _ _ _ (v .a) (q .3 .b) (q .7 .c) (q .11 .d) _ _ _ _ _ (w .before .before .before .before .before .before .before .before .kept-fixed .ensures)
-    (q .1 .ensures) (q .2 .ensures) (q .5 .ensures) (q .6 .ensures) (q .9 .ensures) (q .10 .ensures) (q .13 .ensures) (q .14 .ensures) u o in
-    let hit4 = hit (q .11 .inv .2 u o) (q .12 .taken) (one-hit (passesAt u) (q .11 .count) (v .a ∷ q .3 .b ∷ q .7 .c ∷ q .11 .d ∷ []) (sym ok ∙ q .15 .taken)) in
-    let hit1 = hit (v .inv .2 u o) (q .0 .taken) (hit (q .3 .inv .2 u o) (q .4 .taken) (hit (q .7 .inv .2 u o) (q .8 .taken) hit4)) in
+    passes-is _ _ _ _ _ (v .a) (q .3 .b) (q .7 .c) (q .11 .d) _ _ _ _ _ (w .before .before .before .before .before .before .before .before .before .kept-fixed .ensures)
+    (q .1 .ensures) (q .2 .ensures) (q .5 .ensures) (q .6 .ensures) (q .9 .ensures) (q .10 .ensures) (q .13 .ensures) (q .14 .ensures) D u o in
+    let hit4 = hit (q .11 .inv .2 D u o) (q .12 .taken) (one-hit (passesAt D u) (q .11 .count) (v .a ∷ q .3 .b ∷ q .7 .c ∷ q .11 .d ∷ []) (sym ok ∙ q .15 .taken)) in
+    let hit1 = hit (v .inv .2 D u o) (q .0 .taken) (hit (q .3 .inv .2 D u o) (q .4 .taken) (hit (q .7 .inv .2 D u o) (q .8 .taken) hit4)) in
     rw (q .18) ((λ i. Place (q .16 i) (q .17 i)) ∙ sym (ap foundOf (first ∙ hit1 .ends []))))
     (c .statuses-test .came)
 
 returns : tie.Need-returns Inv-days μ-days Inv-documents μ-documents Inv-bases μ-bases Inv-statuses μ-statuses
-returns c u o = rw (c .if2 .taken) at (outcome (c .before) u o)
+returns c D u o = rw (c .if2 .taken) at (outcome (c .before) D u o)
 
 returns-2 : tie.Need-returns-2 Inv-days μ-days Inv-documents μ-documents Inv-bases μ-bases Inv-statuses μ-statuses
-returns-2 c u o = rw (c .if2 .left) at (outcome (c .before) u o)
+returns-2 c D u o = rw (c .if2 .left) at (outcome (c .before) D u o)
 
 pub walk-spec : {M : Type 1} → statement M
-walk-spec = tie.close (tie.spec Inv-days μ-days Inv-documents μ-documents Inv-bases μ-bases Inv-statuses μ-statuses (λ c κs. search needs) (λ c κs. search needs) (λ c κs. search needs) (λ c κs. search needs) (λ c κs. search needs) (λ c κs. search needs) (λ c κs. search needs) (λ c κs. search needs) (λ c κs. search needs) statuses-holds (λ c κs. search needs) (λ c κs. search needs) bases-holds (λ c κs. search needs) (λ c κs. search needs) documents-holds (λ c κs. search needs) (λ c κs. search needs) days-holds (λ c κs. search needs) (λ c κs. search needs) (λ c. omega (arith, c .before .before .before .days .inv .1, c .before .before .before .days .inv .4, c .before .before .days-test .taken, c .before .before .before .before .before .before .before .documents .inv .4, c .before .before .before .before .before .before .documents-test .taken, c .before .before .before .before .before .before .before .before .before .before .before .bases .inv .4, c .before .before .before .before .before .before .before .before .before .before .bases-test .taken, c .before .before .before .before .before .before .before .before .before .before .before .before .before .before .before .statuses .inv .4, c .before .before .before .before .before .before .before .before .before .before .before .before .before .before .statuses-test .taken)) (λ c. search needs) (λ c. search needs) days-again (λ c. search needs) (λ c. search needs) documents-again (λ c. search needs) (λ c. search needs) bases-again (λ c. search needs) (λ c. search needs) statuses-again returns returns-2)
+walk-spec = tie.close (tie.spec Inv-days μ-days Inv-documents μ-documents Inv-bases μ-bases Inv-statuses μ-statuses (λ c κs. search needs) (λ c κs. search needs) (λ c κs. search needs) (λ c κs. omega (arith, c .status-count .ensures .1 .0)) (λ c κs. search needs) (λ c κs. search needs) (λ c κs. search needs) (λ c κs. search needs) (λ c κs. search needs) (λ c κs. search needs) statuses-holds (λ c κs. search needs) (λ c κs. search needs) bases-holds (λ c κs. search needs) (λ c κs. search needs) documents-holds (λ c κs. search needs) (λ c κs. search needs) days-holds (λ c κs. search needs) (λ c κs. search needs) (λ c. omega (arith, c .before .before .before .days .inv .1, c .before .before .before .days .inv .4, c .before .before .days-test .taken, c .before .before .before .before .before .before .before .documents .inv .4, c .before .before .before .before .before .before .documents-test .taken, c .before .before .before .before .before .before .before .before .before .before .before .bases .inv .4, c .before .before .before .before .before .before .before .before .before .before .bases-test .taken, c .before .before .before .before .before .before .before .before .before .before .before .before .before .before .before .statuses .inv .4, c .before .before .before .before .before .before .before .before .before .before .before .before .before .before .statuses-test .taken)) (λ c. search needs) (λ c. search needs) days-again (λ c. search needs) (λ c. search needs) documents-again (λ c. search needs) (λ c. search needs) bases-again (λ c. search needs) (λ c. search needs) statuses-again returns returns-2)

@@ -6,4 +6,4 @@ use Rattle.orders.proofs.stream.complete_stream.Statement.{statement}
 use Rattle.orders.proofs.stream.complete_stream.Tie as tie
 
 pub complete-stream-spec : {M : Type 1} → statement M
-complete-stream-spec = tie.close (tie.spec (λ c. search needs) (λ c κs. search needs) (λ c. search needs) (λ c κs. c .before .before .fresh .ensures .start refl) (λ c. search needs) (λ c κs. search needs) (λ c. search needs) (λ c. streamed _ _ _ _ _ (c .before .before .before .before .before .before .post-stream .ensures) (c .before .before .complete .ensures)))
+complete-stream-spec = tie.close (tie.spec (λ c. search needs) (λ c κs. search needs) (λ c. search needs) (λ c κs. c .before .before .fresh .ensures .start refl) (λ c. search needs) (λ c κs. search needs) (λ c. search needs) (λ c. streamed _ _ _ _ _ _ (c .before .before .before .before .before .before .post-stream .ensures) (c .before .before .complete .ensures)))

@@ -3,4 +3,4 @@ use Rattle.sheets.proofs.entries.blank_document.Statement.{statement}
 use Rattle.sheets.proofs.entries.blank_document.Tie as tie
 
 pub blank-document-spec : {M : Type 1} → statement M
-blank-document-spec = tie.close (tie.spec (λ c. λ s o. blank-fields (c .args .f) s o .1 .1 .0))
+blank-document-spec = tie.close (tie.spec (λ c. λ D s o. blank-fields D (c .args .f) s o .1 .1 .0))

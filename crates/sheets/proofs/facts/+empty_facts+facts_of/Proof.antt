@@ -23,6 +23,7 @@ use Rattle.sheets.proofs.facts.classifiers_of.Reads as classifiers-of-r
 use Rattle.sheets.proofs.facts.day_of.Reads as day-of-reads
 use Rattle.sheets.proofs.facts.document_of.Reads as document-of-reads
 use Rattle.sheets.proofs.facts.parties_of.Reads as parties-of-reads
+use Rattle.sheets.proofs.dates.force_of.Reads as force-of-reads
 use Rattle.sheets.proofs.facts.standing_of.Reads as standing-of-reads
 use Rattle.sheets.proofs.sheet.text.Reads as text-reads
 use Rattle.sheets.proofs.facts.+empty_facts+facts_of.{statement}
@@ -72,6 +73,8 @@ pub +empty-facts+facts-of-spec : {M : Type 1} → statement M
       parties-of-reads.Learnt,
       classifiers-of-reads.Asked,
       classifiers-of-reads.Learnt,
+      force-of-reads.Asked,
+      force-of-reads.Learnt,
       text-reads.Asked,
       text-reads.Learnt,
       standing-of-reads.Asked,
@@ -87,6 +90,7 @@ pub +empty-facts+facts-of-spec : {M : Type 1} → statement M
     facts-of.Post
     (λ c κs. (search (needs, falls-once), tt))
     (λ c. search (needs, facts-other))
+    (λ c κs. search needs)
     (λ c κs. search needs)
     (λ c κs. search needs)
     (λ c κs. search needs)

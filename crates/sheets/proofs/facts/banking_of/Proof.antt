@@ -5,4 +5,4 @@ use Rattle.sheets.proofs.facts.banking_of.Tie as tie
 
 pub banking-of-spec : {M : Type 1} → statement M
 unfolding factsBy
-banking-of-spec = tie.close (tie.spec (λ c κs. search needs) (λ c κs. search needs) (λ c κs. search needs) (λ c κs. search needs) (λ c κs. search needs) (λ c κs. search needs) (λ c. cc))
+banking-of-spec = tie.close (tie.spec (λ c κs. search needs) (λ c κs. search needs) (λ c κs. search needs) (λ c κs. search needs) (λ c κs. search needs) (λ c κs. search needs) (λ c. λ D. cc))

@@ -1,8 +1,7 @@
 use borrow.Author.Needs.{needs}
-use Rattle.sheets.specs.Forms.{gregorian}
+use Rattle.sheets.proofs.Ways.{gregorian-early, gregorian-late}
 use Rattle.sheets.proofs.forms.is_gregorian.Statement.{statement}
 use Rattle.sheets.proofs.forms.is_gregorian.Tie as tie
 
 pub is-gregorian-spec : {M : Type 1} → statement M
-unfolding gregorian
-is-gregorian-spec = tie.close (tie.spec (λ c κs. search needs) (λ c. cc))
+is-gregorian-spec = tie.close (tie.spec (λ c. gregorian-early _ _ _ (c .if1 .taken)) (λ c κs. search needs) (λ c. gregorian-late _ _ _ _ (c .before .if1 .left) (c .month-days .ensures)))

@@ -1,13 +1,20 @@
 //! An example, and what the second implementation says of it. To add a kind, give
 //! it a letter, an output and a list of examples.
 
-use reference::{check, read, report};
+use cases::{Dates, Draft, Sheet};
+use compare::{Library, Reference};
+use kieselbrot::Refusal;
+use reference::{read, report};
 
 /// What an example asks for.
 #[derive(Clone, Copy, Debug, PartialEq, Eq)]
 pub enum Kind {
-    /// Check a sheet.
+    /// Check a sheet at the program's dates.
     Check,
+    /// Check a sheet at the dates before it.
+    CheckAt,
+    /// Complete the order of these messages at the dates before them.
+    CompleteAt,
     /// Read a message.
     Message,
     /// Report on an input of the program `budgetorder`.
@@ -18,6 +25,8 @@ impl Kind {
     const fn letter(self) -> u8 {
         match self {
             Self::Check => b'c',
+            Self::CheckAt => b'd',
+            Self::CompleteAt => b'o',
             Self::Message => b'm',
             Self::Report => b'r',
         }
@@ -26,7 +35,15 @@ impl Kind {
     /// The output for these bytes: a line, or all lines of a report.
     fn output(self, bytes: &[u8]) -> Vec<u8> {
         match self {
-            Self::Check => line(checked(bytes)),
+            Self::Check => line(checked(bytes, Dates::PROGRAM)),
+            Self::CheckAt => {
+                let (dates, sheet) = dated(bytes);
+                line(checked(sheet, dates))
+            }
+            Self::CompleteAt => {
+                let (dates, messages) = dated(bytes);
+                line(completed(messages, dates))
+            }
             Self::Message => line(message_read(bytes)),
             Self::Report => report(bytes),
         }
@@ -38,9 +55,70 @@ fn line(mut text: Vec<u8>) -> Vec<u8> {
     text
 }
 
+/// The order's date and the entries of the record, in four bytes each, big-endian, and
+/// what stands behind them.
+fn dated(bytes: &[u8]) -> (Dates, &[u8]) {
+    let (numbers, rest) = bytes.split_at(16);
+    let number = |place: usize| {
+        let bytes = numbers[4 * place..][..4].try_into();
+        u32::from_be_bytes(bytes.expect("four bytes"))
+    };
+    let entries = [number(1), number(2), number(3)];
+    (Dates::given(number(0)).with_entries(entries), rest)
+}
+
+/// Dates as bytes ahead of a sheet or messages.
+pub fn with_dates(dates: Dates, bytes: &[u8]) -> Vec<u8> {
+    let numbers = [&[dates.order][..], &dates.entries()].concat();
+    let numbers = numbers.into_iter().flat_map(u32::to_be_bytes);
+    numbers.chain(bytes.iter().copied()).collect()
+}
+
+/// `ok COUNT SET ONES STATUS` for messages end to end, posted to a fresh draft, or the
+/// refusal's number and what it returns. Messages are read as the program reads them.
+fn completed(messages: &[u8], dates: Dates) -> Vec<u8> {
+    let mut sheet: Sheet = [0; 390];
+    match Reference.complete(&posted(messages), &mut sheet, dates) {
+        Ok(completed) => {
+            let (count, set, ones) = (completed.count, completed.set, completed.ones);
+            let slot = &sheet[26 * cases::slot_of(101)..];
+            let text = &slot[1..][..usize::from(slot[0])];
+            let line = format!("ok {count} {set} {ones} ").into_bytes();
+            [&line, shown(text)].concat()
+        }
+        Err(refusal) => refusal.to_string().into_bytes(),
+    }
+}
+
+/// The draft of messages end to end, each 2 + L bytes or what is left; after a 2 nothing
+/// more is read.
+fn posted(mut messages: &[u8]) -> Draft {
+    let mut draft = [0; 450];
+    while !messages.is_empty() {
+        let size = match messages {
+            [high, low, ..] => 2 + usize::from(u16::from_be_bytes([*high, *low])),
+            _ => messages.len(),
+        };
+        let (message, rest) = messages.split_at(size.min(messages.len()));
+        if Reference.post(&mut draft, message) == Err(Refusal::Length) {
+            break;
+        }
+        messages = rest;
+    }
+    draft
+}
+
+/// A text, with `-` for a blank.
+fn shown(text: &[u8]) -> &[u8] {
+    match text {
+        [] => b"-",
+        given => given,
+    }
+}
+
 /// `ok CLASS`, or the refusal's number and what it returns.
-fn checked(sheet: &[u8]) -> Vec<u8> {
-    match check(sheet) {
+fn checked(sheet: &[u8], dates: Dates) -> Vec<u8> {
+    match Reference.check(sheet, dates) {
         Ok(class) => format!("ok {class:?}").into_bytes(),
         Err(refusal) => refusal.to_string().into_bytes(),
     }
@@ -50,12 +128,8 @@ fn checked(sheet: &[u8]) -> Vec<u8> {
 fn message_read(message: &[u8]) -> Vec<u8> {
     match read(message) {
         Ok(message) => {
-            let mut text = format!("ok {} {} ", message.field, message.revision).into_bytes();
-            text.extend(match message.text {
-                [] => b"-",
-                given => given,
-            });
-            text
+            let head = format!("ok {} {} ", message.field, message.revision);
+            [head.as_bytes(), shown(message.text)].concat()
         }
         Err(refusal) => refusal.to_string().into_bytes(),
     }
@@ -107,5 +181,14 @@ mod tests {
         let letter = |kind| Example::new(kind, "", &[]).input();
         assert_eq!(letter(Kind::Message), [b'm', 0, 0]);
         assert_eq!(letter(Kind::Report), [b'r', 0, 0]);
+        assert_eq!(letter(Kind::CheckAt), [b'd', 0, 0]);
+        assert_eq!(letter(Kind::CompleteAt), [b'o', 0, 0]);
+    }
+
+    #[test]
+    fn dates_stand_ahead() {
+        let bytes = with_dates(Dates::PROGRAM, b"ab");
+        assert_eq!(bytes[..5], [0x01, 0x34, 0xD6, 0xE5, 0x01]);
+        assert_eq!(dated(&bytes), (Dates::PROGRAM, &b"ab"[..]));
     }
 }

@@ -10,6 +10,7 @@ use std::fs;
 use std::path::Path;
 use std::process::ExitCode;
 
+mod dates;
 mod example;
 mod messages;
 mod reports;
@@ -36,7 +37,7 @@ fn main() -> ExitCode {
 
 /// All examples, in the order in which they are stored.
 fn all() -> Vec<Example> {
-    [sheets::all(), messages::all(), reports::all()].concat()
+    [sheets::all(), messages::all(), reports::all(), dates::all()].concat()
 }
 
 fn input(examples: &[Example]) -> Vec<u8> {

@@ -26,7 +26,7 @@ fn report(name: impl AsRef<str>, input: &[u8]) -> Example {
 }
 
 /// The messages of an order, revision 1, in slot order; none for a blank.
-fn order(texts: &Texts) -> Vec<u8> {
+pub fn order(texts: &Texts) -> Vec<u8> {
     let given = FIELDS.map(|field| (field, texts.get(field)));
     given
         .iter()
@@ -48,7 +48,7 @@ fn other_version() -> Vec<u8> {
 }
 
 /// Refused with 2, and no more than its own bytes: L is 5.
-const L_5: [u8; 7] = [0, 5, 1, 101, 0, 0, 2];
+pub const L_5: [u8; 7] = [0, 5, 1, 101, 0, 0, 2];
 
 fn short() -> Vec<Example> {
     let hundred = message(105, 1, b"0").repeat(100);
@@ -61,7 +61,8 @@ fn short() -> Vec<Example> {
     ]
 }
 
-const INSTITUTION: &[u8] = b"03212643000000014800";
+/// An account that wants a code.
+pub const INSTITUTION: &[u8] = b"03212643000000014800";
 
 fn completions() -> Vec<Example> {
     let blank = Texts::s().without(&BLANKS);
