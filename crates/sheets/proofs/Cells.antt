@@ -1,19 +1,19 @@
 -- Cells at equal distances, tested one after another. Assumes nothing.
 use mathlib.Core.Path.{_≡_, refl, sym, _∙_}
-use mathlib.Core.Bool.{Bool, true, false, _&&_, and-true, and-assoc}
+use mathlib.Core.Bool.{Bool, true, false, _&&_, and-true, and-false, and-assoc}
 use mathlib.Core.List.{List}
 use Prim.Native.Nat.{ℕ, zero, suc, _+_, _-_, _*_, _<_, _≤_}
 use native.Mathlib.Omega.{arith}
 use borrow.Author.Needs.{needs}
-use borrow.Author.Tests.{le-leb, lt-leb}
-use lib.Dec.{leb}
+use borrow.Author.Tests.{le-leb, lt-leb, eq-eqb, ne-eqb, eqb-true}
+use lib.Dec.{leb, eqb}
 use lib.ListN.{length, take, drop}
 use Rattle.texts.specs.Texts.{between, every}
-use Rattle.texts.proofs.Bools.{both, and2}
+use Rattle.texts.proofs.Bools.{both, and2, alike}
 use Rattle.sheets.specs.Sheet.{slotCount, slots, cellSize, cellOk, cellOf, slotOk, sheetSize, wellFormed}
 use Rattle.sheets.specs.Working.Cells.{cellAt, cellsAt}
 
--- is_cell
+-- a cell of the loop
 pub cell-inside : (t : List ℕ) (a : ℕ) (b : Bool) → a + cellSize ≤ length t → b ≡ cellOk (take (a + cellSize - a) (drop a t)) → b ≡ cellAt t a
 unfolding cellAt between
 cell-inside t a b h e = e ∙ rw (le-leb (a + cellSize) (length t) h)
@@ -22,20 +22,30 @@ pub cell-past : (t : List ℕ) (a : ℕ) → length t < a + cellSize → false �
 unfolding cellAt
 cell-past t a h = rw (lt-leb (a + cellSize) (length t) h)
 
--- the loop of cells_ok: n cells are passed, the next stands at place a
-abbrev pub CellsSoFar : ℕ → List ℕ → ℕ → Bool → ℕ → ℕ → Type 0
-CellsSoFar w t first g a n = (n ≤ slotCount) × (cellsAt w slotCount t first ≡ (g && cellsAt w (slotCount - n) t a)) × (a ≤ 255 + n * 255)
+-- the loop of cells_ok: of n cells that are passed m are so, and the next stands at place a
+abbrev pub CellsSoFar : ℕ → List ℕ → ℕ → ℕ → ℕ → ℕ → Type 0
+CellsSoFar w t first m a n = (n ≤ slotCount) × (m ≤ n) × (cellsAt w slotCount t first ≡ (eqb m n && cellsAt w (slotCount - n) t a)) × (a ≤ 255 + n * 255)
 
-module _ (w : ℕ) (t : List ℕ) (first : ℕ) (g : Bool) (a n : ℕ) (b : Bool) (v : ℕ) where
-  passed : (m k : ℕ) → m ≡ suc k → b ≡ cellAt t a → v ≡ w → (g && cellsAt w m t a) ≡ ((g && b) && cellsAt w k t (a + v))
+module _ (w : ℕ) (t : List ℕ) (first m a n v : ℕ) (b : Bool) where
+  passed : (j k : ℕ) → j ≡ suc k → b ≡ cellAt t a → v ≡ w → (eqb m n && cellsAt w j t a) ≡ ((eqb m n && b) && cellsAt w k t (a + v))
   unfolding cellsAt
-  passed m k e q i = rw (e, q, i) (sym (and-assoc g (cellAt t a) (cellsAt w k t (a + w))))
+  passed j k e q i = rw (e, q, i) (sym (and-assoc (eqb m n) (cellAt t a) (cellsAt w k t (a + w))))
 
-  pub cells-more : cellsAt w slotCount t first ≡ (g && cellsAt w (slotCount - n) t a) → n < slotCount → b ≡ cellAt t a → v ≡ w
-      → cellsAt w slotCount t first ≡ ((g && b) && cellsAt w (slotCount - (n + 1)) t (a + v))
-  cells-more e h q i =
+  more : cellsAt w slotCount t first ≡ (eqb m n && cellsAt w (slotCount - n) t a) → n < slotCount → b ≡ cellAt t a → v ≡ w
+      → cellsAt w slotCount t first ≡ ((eqb m n && b) && cellsAt w (slotCount - (n + 1)) t (a + v))
+  more e h q i =
       let k : slotCount - n ≡ suc (slotCount - (n + 1)) = omega arith in
       e ∙ passed (slotCount - n) (slotCount - (n + 1)) k q i
+
+next-eq : (m n : ℕ) → eqb m n ≡ eqb (m + 1) (n + 1)
+next-eq m n = alike (eqb m n) (eqb (m + 1) (n + 1)) (λ e. eq-eqb (m + 1) (n + 1) (omega (arith, eqb-true m n e))) (λ e. eq-eqb m n (omega (arith, eqb-true (m + 1) (n + 1) e)))
+
+module _ (w : ℕ) (t : List ℕ) (first m a n v : ℕ) (e : cellsAt w slotCount t first ≡ (eqb m n && cellsAt w (slotCount - n) t a)) (h : n < slotCount) (i : v ≡ w) where
+  pub cells-good : true ≡ cellAt t a → cellsAt w slotCount t first ≡ (eqb (m + 1) (n + 1) && cellsAt w (slotCount - (n + 1)) t (a + v))
+  cells-good q = more w t first m a n v true e h q i ∙ rw (and-true (eqb m n), next-eq m n)
+
+  pub cells-bad : m ≤ n → false ≡ cellAt t a → cellsAt w slotCount t first ≡ (eqb m (n + 1) && cellsAt w (slotCount - (n + 1)) t (a + v))
+  cells-bad l q = more w t first m a n v false e h q i ∙ rw (and-false (eqb m n), ne-eqb m (n + 1) (λ z. omega arith))
 
 -- what holds of all of them holds of each, and the other way
 pub cells-each : (w : ℕ) (t : List ℕ) (n a : ℕ) → cellsAt w n t a ≡ true → (i : ℕ) → i < n → cellAt t (a + i * w) ≡ true
@@ -58,11 +68,14 @@ pub sheet-cells : (s : List ℕ) → length s ≡ sheetSize → cellsAt cellSize
 unfolding cellsAt cellAt slotOk cellOf every
 sheet-cells s z = rw z refl
 
-pub cells-none : (w : ℕ) (t : List ℕ) (first a : ℕ) → a ≡ first → cellsAt w slotCount t first ≡ (true && cellsAt w (slotCount - 0) t a)
+pub cells-none : (w : ℕ) (t : List ℕ) (first a : ℕ) → a ≡ first → cellsAt w slotCount t first ≡ (eqb 0 0 && cellsAt w (slotCount - 0) t a)
 cells-none w t first a e = rw e
 
-pub cells-all : (w : ℕ) (t : List ℕ) (first : ℕ) (g : Bool) (a n : ℕ) → cellsAt w slotCount t first ≡ (g && cellsAt w (slotCount - n) t a) → slotCount ≤ n → g ≡ cellsAt w slotCount t first
+pub cells-all : (w : ℕ) (t : List ℕ) (first m a n : ℕ) → cellsAt w slotCount t first ≡ (eqb m n && cellsAt w (slotCount - n) t a) → n ≤ slotCount → slotCount ≤ n → eqb m slotCount ≡ cellsAt w slotCount t first
 unfolding cellsAt
-cells-all w t first g a n e h = let k : slotCount - n ≡ 0 = omega arith in sym (rw (e, k) (and-true g))
+cells-all w t first m a n e l h =
+    let k : slotCount - n ≡ 0 = omega arith in
+    let z : n ≡ slotCount = omega arith in
+    sym (rw (e, k, z) (and-true (eqb m slotCount)))
 
-pub ruleset cells = (needs, cell-inside, cell-past, cells-none, cells-more, cells-all)
+pub ruleset cells = (needs, cells-none, cells-all)

@@ -1,9 +1,9 @@
 // Fields, and a sheet's texts and form.
 ghost use mathlib.Core.Path.{_≡_};
-ghost use Prim.Native.Nat.{_+_, _≤_};
+ghost use Prim.Native.Nat.{_+_};
 ghost use Rattle.texts.specs.Texts.{every, are, between};
 ghost use Rattle.sheets.specs.Sheet.{slotCount, slotOf, fieldIn, cellSize, cellText, cellOk, cellOf, textOf, wellFormed};
-ghost use Rattle.sheets.specs.Working.Cells.{cellAt, cellsAt};
+ghost use Rattle.sheets.specs.Working.Cells.{cellsAt};
 use texts::comparisons::all_are;
 use texts::parts::at;
 use texts::parts::part;
@@ -143,32 +143,24 @@ fn cell_ok(c: &[u8]) -> bool
     (n <= TEXT_MAX) & is_padded(c, 1 + n)
 }
 
-// A cell stands whole at a place, and is so.
-fn is_cell(t: &[u8], place: usize) -> bool
-    requires { ⌜ place ≤ 4096 ⌝ }
-    ensures { λ r. ⌜ r ≡ cellAt (now (t .entry)) place ⌝ }
-{
-    if place + CELL_SIZE <= t.len() {
-        cell_ok(&t[place..place + CELL_SIZE])
-    } else {
-        false
-    }
-}
-
 // Fifteen cells are so, the first at a place and each next a step further: a sheet's, or those in a draft. One loop tests both, so
-// that `cell_ok` is called from one place and compiled into it.
+// that `cell_ok` is called from one place and compiled into it; those that are so are counted.
 pub fn cells_ok(t: &[u8], first: u8, step: u8) -> bool
     ensures { λ r. ⌜ r ≡ cellsAt step slotCount (now (t .entry)) first ⌝ }
 {
-    let mut good = true;
+    let mut good: u8 = 0;
     let mut place = wide(first);
     let mut slot: u8 = 0;
     while slot < SLOT_COUNT {
-        good = good & is_cell(t, place);
+        if place + CELL_SIZE <= t.len() {
+            if cell_ok(&t[place..place + CELL_SIZE]) {
+                good += 1;
+            }
+        }
         place += wide(step);
         slot += 1;
     }
-    good
+    good == SLOT_COUNT
 }
 
 // "Malformed: another size, a length above 25, a nonzero pad byte".
