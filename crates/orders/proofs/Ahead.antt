@@ -16,11 +16,14 @@ use Rattle.rules.specs.Rules.{budget, needed, firstBlank, rules, ahead, testOf,
 use Rattle.rules.specs.Working.Groups.{AlikeBut, spare}
 use Rattle.rules.proofs.Reading.{spared, spared-class}
 use Rattle.sheets.specs.declared.dates.Dates.{Dates}
-use Rattle.orders.specs.Fillings.{listOf, toFill, choices, product, fillings, Filling}
+use Rattle.fillings.specs.Fillings.{width, product}
+use Rattle.fillings.specs.Working.Places.{places}
+use Rattle.fillings.proofs.EveryFilling.{every-mem, choice-given, filling-of, of-filling}
+use Rattle.orders.specs.Fillings.{fillings, Filling}
 use Rattle.orders.specs.Working.Entering.{baseOf, pickedOf, varying}
-use Rattle.orders.specs.Working.Search.{width, places, picks}
+use Rattle.orders.specs.Working.Search.{picks}
 use Rattle.orders.specs.Pretest.{noneKeeps, brokenByAll, namedField}
-use Rattle.orders.proofs.EveryFilling.{every-mem, every-listed, filling-of, of-filling}
+use Rattle.orders.proofs.Lists.{proper}
 use Rattle.orders.proofs.Keeping.{picked-alike, base-budget, base-length, fillings-are}
 
 -- ---- lists of which a test is the same
@@ -43,19 +46,11 @@ at-member f h e (List·Memᴰ·tail {xs = l} m) = let c : map f l ≡ map h l = 
 -- ---- what is blank in a filling
 
 module _ (D : Dates) (s : Sheet) where
-  choice-given : (k : ℕ) (x : List ℕ) → List·Memᴰ x (choices D s k) → not (blank (cellText x)) ≡ cond (toFill s k) true (given s k)
-  unfolding choices given textOf every cellText cell between
-  choice-given k x = go (toFill s k)
-    where
-      go : (b : Bool) → List·Memᴰ x (cond b (map cell (listOf D k)) (cellOf s k ∷ [])) → not (blank (cellText x)) ≡ cond b true (given s k)
-      go true m = every-listed D (λ (c : List ℕ). not (blank (cellText c))) refl k m
-      go false m = ap (λ (y : List ℕ). not (blank (cellText y))) (List·Memᴰ·eq-of-singleton m)
-
   -- two fillings
   module _ (size : length s ≡ 390) (g h : Sheet) (wg : Filling D s g) (wh : Filling D s h) where
     given-alike : (k : ℕ) → k < 15 → given g k ≡ given h k
     unfolding given textOf
-    given-alike k l = choice-given k (cellOf g k) (wg .slot k l) ∙ sym (choice-given k (cellOf h k) (wh .slot k l))
+    given-alike k l = choice-given (proper D) s k (cellOf g k) (wg .slot k l) ∙ sym (choice-given (proper D) s k (cellOf h k) (wh .slot k l))
 
     blank-alike : (ks : List ℕ) → ((k : ℕ) → List·Memᴰ k ks → k < 15) → firstBlank g ks ≡ firstBlank h ks
     unfolding firstBlank
@@ -69,7 +64,7 @@ module _ (D : Dates) (s : Sheet) where
     -- no other field than 101, 106, 108 and 109 differs
     of-base : (f : Sheet) → Filling D s f → AlikeBut varying (baseOf s) f
     of-base f w =
-        let m = subst (List·Memᴰ f) (fillings-are D s size) (of-filling D s size f w) in
+        let m = subst (List·Memᴰ f) (fillings-are D s size) (of-filling (proper D) s size f w) in
         let q = Memᴰ·of-map (pickedOf D (baseOf s)) (picks D (baseOf s)) m in
         subst (AlikeBut varying (baseOf s)) (q .2) (picked-alike D (baseOf s) (q .0) (base-length D s size) .1)
 
@@ -137,7 +132,7 @@ module _ (D : Dates) (s : Sheet) (size : length s ≡ 390) where
   fillings-first = fillings-are D s size ∙ ap (map (pickedOf D (baseOf s))) (picks-first D (baseOf s) .1)
 
   pub first-filling : Filling D s earliest
-  first-filling = filling-of D s size earliest (subst (List·Memᴰ earliest) (sym fillings-first) (List·Memᴰ·head refl))
+  first-filling = filling-of (proper D) s size earliest (subst (List·Memᴰ earliest) (sym fillings-first) (List·Memᴰ·head refl))
 
   -- it has the class of the sheet
   pub first-budget : budget earliest ≡ budget s
@@ -158,7 +153,7 @@ module _ (D : Dates) (s : Sheet) (size : length s ≡ 390) where
       first-alike (λ (n : ℕ). not (noneKeeps D (fillings D s) n)) (keeps D earliest) ahead
       (λ n m.
       ap (λ (l : List Sheet). not (noneKeeps D l n)) fillings-first
-      ∙ none-alike D earliest rest n (keeps D earliest n) refl (λ g k. like-first g (filling-of D s size g (subst (List·Memᴰ g) (sym fillings-first) (List·Memᴰ·tail k))) n m))
+      ∙ none-alike D earliest rest n (keeps D earliest n) refl (λ g k. like-first g (filling-of (proper D) s size g (subst (List·Memᴰ g) (sym fillings-first) (List·Memᴰ·tail k))) n m))
 
   pub named-field : namedField D s ≡ fieldOf rules (brokenByAll D s) earliest
   unfolding namedField

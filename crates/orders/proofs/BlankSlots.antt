@@ -15,12 +15,15 @@ use Rattle.sheets.specs.Sheet.{cell, textOf, given}
 use Rattle.sheets.specs.Lists.{basisTexts, zeroTexts}
 use Rattle.sheets.specs.Dates.{forceOf, statusTexts}
 use Rattle.sheets.proofs.InForce.{every-in}
-use Rattle.orders.proofs.EveryFilling.{every-at}
+use Rattle.fillings.proofs.EveryFilling.{every-at}
 use Rattle.sheets.specs.Working.Entries.{rowOf, filledAt}
 use Rattle.sheets.specs.declared.dates.Dates.{Dates}
-use Rattle.orders.specs.Fillings.{listOf, toFill}
-use Rattle.orders.specs.Working.Entering.{rowCell, Entry, filledWith, baseOf, pickEntries, pickedOf, slotsOf, varying}
-use Rattle.orders.specs.Complete.{setOf}
+use Rattle.fillings.specs.Fillings as of
+use Rattle.fillings.specs.Filled as set
+use Rattle.fillings.specs.Working.Entering.{Entry, filledWith, slotsOf}
+use Rattle.orders.specs.Fillings.{listOf, setOf}
+use Rattle.orders.specs.Working.Entering.{rowCell, baseOf, pickEntries, pickedOf, varying}
+use Rattle.orders.proofs.Lists.{status-blank}
 
 -- fill_slot
 pub fill-blank : (s e t x r : List ℕ) (k w : ℕ) → t ≡ textOf s k → length t ≡ 0 → w ≡ k → x ≡ rowCell r → e ≡ putAt s (w * 26) x → e ≡ filledAt s k (rowCell r)
@@ -73,12 +76,12 @@ bit-blank s t k v e z = cc (eq-eqb (length t) 0 z)
 pub bit-given : (s t : List ℕ) (k v : ℕ) → t ≡ textOf s k → (length t ≡ 0 → ⊥) → 0 ≡ cond (blank (textOf s k)) v 0
 bit-given s t k v e z = cc (ne-eqb (length t) 0 z)
 
-module _ (s : List ℕ) (a b c d e f g h i j : ℕ)
+module _ (D : Dates) (s : List ℕ) (a b c d e f g h i j : ℕ)
     (pa : (a ≡ cond (blank (textOf s 3)) 8 0) × (a ≤ 8)) (pb : (b ≡ cond (blank (textOf s 4)) 16 0) × (b ≤ 16))
     (pc : (c ≡ cond (blank (textOf s 6)) 64 0) × (c ≤ 64)) (pd : (d ≡ cond (blank (textOf s 7)) 128 0) × (d ≤ 128))
     (pe : (e ≡ cond (blank (textOf s 9)) 512 0) × (e ≤ 512)) (pf : (f ≡ cond (blank (textOf s 10)) 1024 0) × (f ≤ 1024))
     (pg : (g ≡ cond (blank (textOf s 11)) 2048 0) × (g ≤ 2048)) (ph : (h ≡ cond (blank (textOf s 12)) 4096 0) × (h ≤ 4096))
     (pi : (i ≡ cond (blank (textOf s 13)) 8192 0) × (i ≤ 8192)) (pj : (j ≡ cond (blank (textOf s 14)) 16384 0) × (j ≤ 16384)) where
-  pub set-is : a + b + c + d + e + f + g + h + i + j ≡ setOf s
-  unfolding setOf toFill listOf
-  set-is = omega (arith, pa .0, pb .0, pc .0, pd .0, pe .0, pf .0, pg .0, ph .0, pi .0, pj .0)
+  pub set-is : a + b + c + d + e + f + g + h + i + j ≡ setOf D s
+  unfolding set.setOf of.toFill listOf
+  set-is = omega (arith, ap (λ (y : Bool). cond {A = ℕ} y 64 0) (status-blank D s), pa .0, pb .0, pc .0, pd .0, pe .0, pf .0, pg .0, ph .0, pi .0, pj .0)

@@ -24,18 +24,20 @@ use Rattle.drafts.proofs.Slots.{formed-means}
 use Rattle.drafts.proofs.DraftSheets.{sheet-into}
 use Rattle.sheets.specs.Dates.{datesFit}
 use Rattle.sheets.specs.declared.dates.Dates.{Dates}
-use Rattle.orders.specs.Fillings.{Look, found, none, firstFilling}
+use Rattle.fillings.specs.Fillings.{Look, found, none}
+use Rattle.fillings.specs.Working.Parts.{mapLook}
+use Rattle.orders.specs.Fillings.{firstFilling, setOf}
 use Rattle.orders.specs.Working.Search.{Payment, firstPick}
 use Rattle.orders.specs.Working.Found.{pickOf, foundOf}
 use Rattle.orders.specs.Working.Entering.{baseOf, pickedOf}
-use Rattle.orders.specs.Complete.{setOf, budgetPayment, completeAnswer, sheetTests, completeTests, completing, completed}
+use Rattle.orders.specs.Complete.{budgetPayment, completeAnswer, sheetTests, completeTests, completing, completed}
 use Rattle.orders.specs.Whole.{Completes}
 use Rattle.orders.specs.declared.search.Pick.{Pick}
 use Rattle.orders.specs.declared.search.Found.{Found}
 use Rattle.orders.specs.declared.search.Found.the-variants.{Place, Nothing}
 use Rattle.orders.specs.declared.complete.Completed.{Completed}
 use Rattle.orders.specs.declared.complete.Completed.the-variants.{Filled, Impossible, Broken, Refused}
-use Rattle.orders.proofs.Keeping.{mapLook, base-budget, base-basic, base-broken, base-length, first-is, picked-length}
+use Rattle.orders.proofs.Keeping.{base-budget, base-basic, base-broken, base-length, first-is, picked-length}
 use Rattle.orders.proofs.Whole.{completes-by, basic-numbered, length-draftSheet, answer-is, sheet-is, lookAnswer, lookSheet}
 
 -- what the search answered
@@ -145,11 +147,11 @@ module _ {D : Dates} {d s u : List ℕ} {x : Facts} {g : RuleNumber} (b : List �
 
       -- what the search found, as a look through the fillings
       looks : (l : Look (List ℕ)) → firstPick D (baseOf (draftSheet d)) ≡ l → (o : Look (List ℕ)) → o ≡ mapLook (pickedOf D (baseOf (draftSheet d))) l
-          → (lookAnswer (draftSheet d) o ≡ completing D d b) × (lookSheet b o ≡ completed D d b)
+          → (lookAnswer D (draftSheet d) o ≡ completing D d b) × (lookSheet b o ≡ completed D d b)
       looks l e o q =
           let f : firstFilling D (draftSheet d) ≡ o = first-is D (draftSheet d) (B .size) ∙ ap (mapLook (pickedOf D (baseOf (draftSheet d)))) e ∙ sym q in
           let paid = pays-by B y pays in
-          (ap (lookAnswer (draftSheet d)) (sym f) ∙ sym (answer-is D d b (B .formed) z fit paid), ap (lookSheet b) (sym f) ∙ sym (sheet-is D d b (B .formed) z fit paid))
+          (ap (lookAnswer D (draftSheet d)) (sym f) ∙ sym (answer-is D d b (B .formed) z fit paid), ap (lookSheet b) (sym f) ∙ sym (sheet-is D d b (B .formed) z fit paid))
 
       pub refused-10 : (n : ℕ) → m ≡ Nothing n → Completes D d b (Impossible n) b
       unfolding completeAnswer
@@ -157,13 +159,13 @@ module _ {D : Dates} {d s u : List ℕ} {x : Facts} {g : RuleNumber} (b : List �
           let l = looks (none n) (none-cases (firstPick D (baseOf (draftSheet d))) n (sym e ∙ picks)) (none n) refl in
           completes-by D d b (Impossible n) b (l .0) (l .1)
 
-      pub filled-first : (n set : ℕ) (p : Pick) (v f : List ℕ) → set ≡ setOf s → m ≡ Place n p → v ≡ pickedOf D u (p .status ∷ p .basis ∷ p .document ∷ p .day ∷ []) → f ≡ putAt b 0 v → Completes D d b (Filled n set (ones set)) f
+      pub filled-first : (n set : ℕ) (p : Pick) (v f : List ℕ) → ((D : Dates) → set ≡ setOf D s) → m ≡ Place n p → v ≡ pickedOf D u (p .status ∷ p .basis ∷ p .document ∷ p .day ∷ []) → f ≡ putAt b 0 v → Completes D d b (Filled n set (ones set)) f
       unfolding completeAnswer pickedOf
       filled-first n set p v f hset e hv hf =
           let (q, lq, pq) = place-cases (firstPick D (baseOf (draftSheet d))) n p (sym e ∙ picks) in
           let c1 : v ≡ pickedOf D (baseOf (draftSheet d)) q = hv ∙ (λ i. pickedOf D (B .base i) (pq i .status ∷ pq i .basis ∷ pq i .document ∷ pq i .day ∷ [])) in
           let c2 : length v ≡ 390 = ap length c1 ∙ picked-length D (draftSheet d) (B .size) q in
           let c3 : f ≡ v = hf ∙ put-fits b 0 v (omega arith) ∙ put-whole b v (omega arith) in
-          let hs : set ≡ setOf (draftSheet d) = hset ∙ ap setOf (B .sheet) in
+          let hs : set ≡ setOf D (draftSheet d) = hset D ∙ ap (setOf D) (B .sheet) in
           let l = looks (found n q) lq (found n v) (ap (found n) c1) in
           completes-by D d b (Filled n set (ones set)) f ((λ i. completeAnswer (Filled n (hs i) (ones (hs i)))) ∙ l .0) (c3 ∙ l .1)

@@ -18,14 +18,20 @@ use Rattle.rules.specs.R7.{datesOf, given}
 use Rattle.sheets.specs.Working.Entries.{filledAt}
 use Rattle.sheets.specs.Dates.{textsIn, statusCount, programDates}
 use Rattle.sheets.specs.declared.dates.Dates.{Dates}
-use Rattle.orders.specs.Fillings.{joined, mostFillings, listOf, toFill, choices, fillings, Look, found, none, look, firstFilling}
-use Rattle.orders.specs.Working.Search.{passesAt, places, picks, firstPick}
+use Rattle.fillings.specs.Fillings as of
+use Rattle.fillings.specs.Fillings.{joined, mostFillings, Look, found, none, look}
+use Rattle.fillings.specs.Working.Places.{places}
+use Rattle.fillings.specs.Working.Parts.{mapLook}
+use Rattle.fillings.proofs.Looking.{none-look}
+use Rattle.orders.specs.Fillings.{listOf, fillings, firstFilling}
+use Rattle.orders.specs.Working.Search.{passesAt, picks, firstPick}
 use Rattle.orders.specs.Working.Entering.{baseOf, pickedOf}
 use Rattle.orders.specs.Complete.{budgetPayment, sheetTests, completeTests, completing}
 use Rattle.orders.specs.Pretest.{brokenByAll, namedField}
 use Rattle.texts.specs.Answers.{refusal, answerBy}
-use Rattle.orders.proofs.Keeping.{mapLook, first-is}
-use Rattle.orders.proofs.Passing.{broken-fixed, none-look}
+use Rattle.orders.proofs.Lists.{some-status}
+use Rattle.orders.proofs.Keeping.{first-is}
+use Rattle.orders.proofs.Passing.{broken-fixed}
 use Rattle.orders.proofs.Ahead.{earliest, first-broken, named-field}
 use Rattle.rules.specs.Working.Computing.{rulesComputing}
 use Rattle.drafts.specs.Draft.{freshDraft}
@@ -110,7 +116,7 @@ completes = first-all completions refl
 -- R-4: by the rules before, the first status did
 inn1Before : look (λ (f : List ℕ). every (λ (n : ℕ). testOf rulesBefore n programDates f) order) 0 (fillings programDates (sheet wrongDigit))
     ≡ found 1 (sheet "004525987 40102810845370000004 03100643000000014800 0 7722222222 6730054024 01 770301001 772801001 18201061201010000510 0 0 0 0 0")
-unfolding picked rulesBefore fillings choices toFill listOf
+unfolding picked rulesBefore of.fillings of.choices of.toFill listOf
 inn1Before = refl
 
 -- which sheets are budget payments, and what stands before the search: rules 1, 2 and 3, and class O
@@ -133,15 +139,16 @@ before = refl
 -- "10, count 1,056": 22 is filled with "0", which breaks rule 22 whatever the other entries are
 never : firstFilling programDates hopeless ≡ none 1056
 unfolding picked
-never = first-is programDates hopeless refl ∙ ap (mapLook (pickedOf programDates (baseOf hopeless))) (none-look (passesAt programDates (baseOf hopeless)) (broken-fixed programDates (baseOf hopeless) (22 ∷ []) refl refl refl refl) (picks programDates (baseOf hopeless)) 0)
+never = first-is programDates hopeless refl ∙ ap (mapLook (pickedOf programDates (baseOf hopeless))) (none-look (passesAt programDates (baseOf hopeless)) (picks programDates (baseOf hopeless)) 0 (λ q m. broken-fixed programDates (baseOf hopeless) (22 ∷ []) refl refl refl refl q))
 
 -- "at most 22 × 12 × 2 × 2 = 1,056"; R-7: as many as the list has statuses, times 48
-most : mostFillings programDates ≡ 1056
-unfolding textsIn same
+most : mostFillings (listOf programDates) ≡ 1056
+unfolding listOf textsIn same
 most = refl
 
-most-by : (D : Dates) → mostFillings D ≡ statusCount D * 48
-most-by D = omega arith
+most-by : (D : Dates) → mostFillings (listOf D) ≡ statusCount D * 48
+unfolding listOf
+most-by D = rw (some-status D) (omega arith)
 
 -- ---- R-7: the list that the date allows
 
@@ -157,7 +164,7 @@ hopelessS = sheet "004525987 40102810845370000004 03212643000000014800  77015697
 -- the count of all follows the list: neither 02 nor 32 nor 33, 32 alone, all three
 hopelessAt : (D : Dates) → firstFilling D hopelessS ≡ mapLook (pickedOf D (baseOf hopelessS)) (none (0 + length (picks D (baseOf hopelessS))))
 unfolding picked hopelessS
-hopelessAt D = first-is D hopelessS refl ∙ ap (mapLook (pickedOf D (baseOf hopelessS))) (none-look (passesAt D (baseOf hopelessS)) (broken-fixed D (baseOf hopelessS) (22 ∷ []) refl refl refl refl) (picks D (baseOf hopelessS)) 0)
+hopelessAt D = first-is D hopelessS refl ∙ ap (mapLook (pickedOf D (baseOf hopelessS))) (none-look (passesAt D (baseOf hopelessS)) (picks D (baseOf hopelessS)) 0 (λ q m. broken-fixed D (baseOf hopelessS) (22 ∷ []) refl refl refl refl q))
 
 counts : map (λ (D : Dates). firstFilling D hopelessS) (given 20240101 ∷ given 20231015 ∷ given 20230930 ∷ datesOf 20240101 20240101 20240101 20240101 ∷ datesOf 20240101 20240102 20240102 20231231 ∷ [])
     ≡ none 1056 ∷ none 1056 ∷ none 1008 ∷ none 1104 ∷ none 960 ∷ []

@@ -13,12 +13,14 @@ use Rattle.rules.specs.Verdicts.{checked}
 use Rattle.drafts.specs.Message.{messageOf}
 use Rattle.drafts.specs.Draft.{draftFormed, draftSheet}
 use Rattle.drafts.specs.History.{postedAll}
-use Rattle.sheets.specs.Dates.{datesFit, programDates}
-use Rattle.orders.specs.Fillings.{listOf, toFill, firstFilling}
-use Rattle.orders.specs.Complete.{setOf, budgetPayment, completing, completed}
-use Rattle.orders.specs.Whole.{tally}
+use Rattle.sheets.specs.Dates.{textsIn, datesFit, programDates}
+use Rattle.fillings.specs.Fillings as of
+use Rattle.fillings.specs.Filled as set
+use Rattle.fillings.specs.Filled.{tally}
+use Rattle.fillings.proofs.Counting.{filled-set}
+use Rattle.orders.specs.Fillings.{listOf, toFill, firstFilling, setOf}
+use Rattle.orders.specs.Complete.{budgetPayment, completing, completed}
 use Rattle.orders.proofs.Counts.{sheet, foreign, later}
-use Rattle.orders.proofs.Counting.{filled-set}
 use Rattle.orders.proofs.Whole.{lookAnswer, lookSheet, answer-is, sheet-is}
 use Rattle.rules.specs.Working.Computing.{rulesComputing}
 use Rattle.drafts.specs.Working.Computing.{draftsComputing}
@@ -112,19 +114,19 @@ computed :
     × (draftSheet draft ≡ blanks)
     × (blanks ≡ foreign)
     × (budgetPayment programDates foreign ≡ true)
-    × (setOf foreign ≡ 31816)
-    × (tally (toFill foreign) slots ≡ 7)
+    × (setOf programDates foreign ≡ 31816)
+    × (tally (toFill programDates foreign) slots ≡ 7)
     × (checked programDates filling ≡ success (bytes "A"))
     × (datesFit programDates ≡ true)
-unfolding order zeros draft blanks filling foreign sheet postedAll listOf toFill setOf budgetPayment rulesComputing draftsComputing
+unfolding order zeros draft blanks filling foreign sheet postedAll listOf of.toFill set.setOf budgetPayment rulesComputing draftsComputing
 computed = (refl, refl, refl, refl, refl, refl, refl, refl, refl)
 
 -- the draft that the messages leave is a budget payment, and completing it fills 22, 101 and 105 to 109
 left : draftSheet (postedAll order) ≡ foreign
 left = ap draftSheet (computed .0) ∙ computed .2 ∙ computed .3
 
-set-ones : ones (setOf foreign) ≡ 7
-set-ones = filled-set foreign .ones ∙ computed .6
+set-ones : ones (setOf programDates foreign) ≡ 7
+set-ones = filled-set (listOf programDates) foreign .ones ∙ computed .6
 
 answered : (completing programDates (postedAll order) buffer ≡ success (97 ∷ 31816 ∷ 7 ∷ [])) × (completed programDates (postedAll order) buffer ≡ filling)
 unfolding buffer filling zeros sheet cell
@@ -132,8 +134,8 @@ answered =
     let f = ap draftFormed (computed .0) ∙ computed .1 in
     let p = ap (budgetPayment programDates) left ∙ computed .4 in (
       answer-is programDates (postedAll order) buffer f refl (computed .8) p
-          ∙ ap (λ (s : List ℕ). lookAnswer s (firstFilling programDates s)) left
-          ∙ ap (lookAnswer foreign) later
+          ∙ ap (λ (s : List ℕ). lookAnswer programDates s (firstFilling programDates s)) left
+          ∙ ap (lookAnswer programDates foreign) later
           ∙ (λ i. success (97 ∷ computed .5 i ∷ set-ones i ∷ [])),
       sheet-is programDates (postedAll order) buffer f refl (computed .8) p ∙ ap (λ (s : List ℕ). lookSheet buffer (firstFilling programDates s)) left ∙ ap (lookSheet buffer) later,
     )

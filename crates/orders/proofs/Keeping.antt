@@ -13,16 +13,23 @@ use Rattle.sheets.specs.Working.Entries.{filledAt}
 use Rattle.rules.specs.Working.Groups.{AlikeBut}
 use Rattle.sheets.specs.Sheet.{Sheet, cell, slots, slotOf, cellOf, textOf, _⟨_⟩}
 use Rattle.sheets.specs.Lists.{basisCount, zeroCount}
-use Rattle.sheets.specs.Dates.{statusCount}
+use Rattle.sheets.specs.Dates.{statusTexts, statusCount}
 use Rattle.rules.proofs.Reading.{spared, spared-class}
 use Rattle.rules.specs.Rules.{budget, rules, basic, testOf, keeps, keepsAll, firstNot, firstBroken}
 use Rattle.sheets.proofs.Frames.{status-sized, basis-sized, zero-sized, filled-length, filled-other}
 use Rattle.sheets.specs.declared.dates.Dates.{Dates}
-use Rattle.orders.specs.Fillings.{listOf, toFill, joined, fillings, Look, found, none, look, firstFilling}
-use Rattle.orders.specs.Working.Search.{passesAt, width, picks, firstPick}
-use Rattle.orders.specs.Working.Entering.{Entry, filledWith, zeroEntries, baseOf, pickEntries, pickedOf, slotsOf, varying}
-use Rattle.orders.proofs.Cells.{Cells, Fit, fillCells, joined-cells, sized-cells, filled-joined}
-use Rattle.orders.proofs.Linking.{pickCell, cellsAt, fillings-picked}
+use Rattle.fillings.specs.Fillings as of
+use Rattle.fillings.specs.Fillings.{width, joined, look}
+use Rattle.fillings.specs.Working.Parts.{mapLook}
+use Rattle.fillings.specs.Working.Entering.{Entry, filledWith, slotsOf}
+use Rattle.fillings.proofs.Cells.{Cells, Fit, fillCells, joined-cells, sized-cells, filled-joined}
+use Rattle.fillings.proofs.Linking.{pickCell}
+use Rattle.fillings.proofs.Looking.{look-map}
+use Rattle.orders.specs.Fillings.{listOf, toFill, fillings, firstFilling}
+use Rattle.orders.specs.Working.Search.{passesAt, picks, firstPick}
+use Rattle.orders.specs.Working.Entering.{zeroEntries, baseOf, pickEntries, pickedOf, varying}
+use Rattle.orders.proofs.Lists.{status-blank}
+use Rattle.orders.proofs.Linking.{cellsWith, cellsAt, fillings-picked}
 
 -- the entries fit
 zeros-fit : Fit 15 zeroEntries
@@ -58,20 +65,6 @@ pub picked-alike : (D : Dates) (u : Sheet) (q : List ℕ) → length u ≡ 390 �
 unfolding pickedOf
 picked-alike D u q size = filled-alike (pickEntries D q) u size (picks-fit D q)
 
--- looking through what is made of a list
-abbrev pub mapLook : {X Y : Type 0} → (X → Y) → Look X → Look Y
-mapLook h (found n x) = found n (h x)
-mapLook h (none n) = none n
-
-look-map : {X Y : Type 0} (p : Y → Bool) (h : X → Y) (l : List X) (n : ℕ) → look p n (map h l) ≡ mapLook h (look (λ (x : X). p (h x)) n l)
-unfolding look
-look-map p h [] n = refl
-look-map {X} {Y} p h (x ∷ xs) n = rw (look-map p h xs (n + 1)) (go (p (h x)) (look (λ (y : X). p (h y)) (n + 1) xs))
-  where
-    go : (b : Bool) (r : Look X) → cond b (found (n + 1) (h x)) (mapLook h r) ≡ mapLook h (cond b (found (n + 1) x) r)
-    go true r = refl
-    go false r = refl
-
 abbrev baseCells : List ℕ → Cells
 baseCells s = fillCells (map (cellOf s) slots) zeroEntries
 
@@ -100,23 +93,29 @@ module _ (D : Dates) (s : List ℕ) (size : length s ≡ 390) where
   base-basic = sym (spared D (slotsOf zeroEntries) s (baseOf s) (base-alike .1) basic refl)
 
   -- a pick's filling by its cells
+  -- that of 101, whatever the date
+  pick-status : (i : ℕ) → pickCell (listOf D) s 6 i ≡ cond (blank (textOf s 6)) (cell (getD (statusTexts D) i [])) (cellOf s 6)
+  unfolding pickCell listOf
+  pick-status i = ap (λ (b : Bool). cond b (cell (getD (statusTexts D) i [])) (cellOf s 6)) (status-blank D s)
+
   picked-joined : (q : List ℕ) → pickedOf D (baseOf s) q ≡ joined (cellsAt D s q)
-  unfolding baseOf pickedOf pickCell toFill listOf textOf
+  unfolding baseOf pickedOf pickCell of.toFill listOf textOf
   picked-joined q =
       let base = filled-joined zeroEntries (map (cellOf s) slots) (sized-cells s size) zeros-fit in
       ap (λ (t : List ℕ). filledWith t (pickEntries D q)) (ap (λ (t : List ℕ). filledWith t zeroEntries) (sym (joined-cells s size)) ∙ base .0)
       ∙ filled-joined (pickEntries D q) (baseCells s) (base .1) (picks-fit D q) .0
+      ∙ ap (λ (c : List ℕ). joined (cellsWith D s q c)) (sym (pick-status (getD q 0 0)))
 
   pub fillings-are : fillings D s ≡ map (pickedOf D (baseOf s)) (picks D (baseOf s))
-  unfolding any are among picks toFill listOf
+  unfolding any are among picks of.toFill listOf
   fillings-are =
       let w : (k n : ℕ) → among k (slotsOf zeroEntries) ≡ false → width (blank (textOf (baseOf s) k)) n ≡ width (blank (textOf s k)) n = λ k n h. rw (base-text k h) in
-      fillings-picked D s _ _ _ _ (w 6 (statusCount D) refl) (w 11 basisCount refl) (w 13 zeroCount refl) (w 14 zeroCount refl)
+      fillings-picked D s _ _ _ _ (w 6 (statusCount D) refl ∙ ap (λ (b : Bool). width b (statusCount D)) (sym (status-blank D s))) (w 11 basisCount refl) (w 13 zeroCount refl) (w 14 zeroCount refl)
       ∙ map-congr-left {l = picks D (baseOf s)} (λ q m. sym (picked-joined q))
 
   -- the search through the picks is the search through the fillings
   pub first-is : firstFilling D s ≡ mapLook (pickedOf D (baseOf s)) (firstPick D (baseOf s))
-  unfolding firstFilling firstPick passesAt
+  unfolding of.firstFilling firstPick passesAt
   first-is = ap (look (keepsAll D) 0) fillings-are ∙ look-map (keepsAll D) (pickedOf D (baseOf s)) (picks D (baseOf s)) 0
 
   pub picked-length : (q : List ℕ) → length (pickedOf D (baseOf s) q) ≡ 390

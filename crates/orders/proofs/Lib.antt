@@ -1,14 +1,9 @@
-pub mod Levels
+pub mod Lists
 pub mod BlankSlots
-pub mod Cells
-pub mod EveryFilling
 pub mod Linking
 pub mod Keeping
-pub mod Counting
 pub mod Passing
 pub mod Ahead
-pub mod Looking
-pub mod Order
 pub mod Whole
 pub mod Completing
 pub mod Pretesting

@@ -21,14 +21,17 @@ use Rattle.rules.specs.Working.Groups.{fixedRules, statusRules, basisRules, doc
 use Rattle.rules.proofs.Judging.{all-grouped}
 use Rattle.rules.proofs.Reading.{spared, spared-class}
 use Rattle.sheets.specs.declared.dates.Dates.{Dates}
-use Rattle.orders.specs.Fillings.{mostFillings, product, none, look}
-use Rattle.orders.specs.Working.Entering.{Entry, filledWith, pickedOf, varying}
-use Rattle.orders.specs.Working.Search.{passesAt, width, places, picks, firstPick, Payment}
+use Rattle.fillings.specs.Fillings.{width, product, none, look}
+use Rattle.fillings.specs.Working.Places.{places}
+use Rattle.fillings.specs.Working.Entering.{Entry, filledWith}
+use Rattle.fillings.proofs.Levels.{Picks}
+use Rattle.fillings.proofs.Looking.{none-look}
+use Rattle.orders.specs.Working.Entering.{pickedOf, varying}
+use Rattle.orders.specs.Working.Search.{passesAt, picks, firstPick, Payment}
 use Rattle.orders.specs.Working.Found.{foundOf}
 use Rattle.orders.specs.declared.search.Found.the-variants.{Nothing}
-use Rattle.orders.proofs.Counting.{length-picks}
+use Rattle.orders.proofs.Linking.{length-picks}
 use Rattle.orders.proofs.Keeping.{picks-fit, filled-alike, picked-alike}
-use Rattle.orders.proofs.Levels.{Picks}
 
 -- what a group's test and an entry put in promise
 abbrev Kept : Facts → Bool → List ℕ → Type 0
@@ -90,12 +93,6 @@ pub broken-fixed : (D : Dates) (u : Sheet) (ns : List ℕ) → length u ≡ 390 
 unfolding passesAt
 broken-fixed D u ns size m a h q = unkept D (pickedOf D u q) ns m (sym (spared D varying u (pickedOf D u q) (picked-alike D u q size .1) ns a) ∙ h)
 
--- where nothing passes, all are counted
-pub none-look : {A : Type 0} (p : A → Bool) → ((x : A) → p x ≡ false) → (l : List A) (n : ℕ) → look p n l ≡ none (n + length l)
-unfolding look
-none-look p h [] n = ap none (omega arith)
-none-look p h (x ∷ l) n = rw (h x) (none-look p h l (n + 1) ∙ ap none (omega arith))
-
 -- ---- what the search goes through
 
 -- the picks of the levels with these widths
@@ -116,7 +113,7 @@ unfolding firstPick passesAt every any are among
 none-passes f k h e n c D s o =
     let b : every (keeps D s) fixedRules ≡ false = sym (h D s (o .read) (o .class)) ∙ not-true k e in
     let p = broken-fixed D s fixedRules (o .read .size) refl refl b in
-    ap Nothing (c D s (o .read)) ∙ sym (ap foundOf (none-look (passesAt D s) p (picks D s) 0 ∙ ap none (omega arith)))
+    ap Nothing (c D s (o .read)) ∙ sym (ap foundOf (none-look (passesAt D s) (picks D s) 0 (λ q m. p q) ∙ ap none (omega arith)))
 
 -- count_all: how many fillings have one entry in 101 and 106, and one in 101
 abbrev pub ofBasis : ℕ

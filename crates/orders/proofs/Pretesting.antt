@@ -26,15 +26,16 @@ use Rattle.sheets.specs.Working.Facts.{Read}
 use Rattle.sheets.specs.declared.facts.Facts.{Facts}
 use Rattle.sheets.specs.declared.sheet.Field.{Field}
 use Rattle.drafts.specs.Draft.{draftFormed, draftSheet}
-use Rattle.orders.specs.Fillings.{Filling, firstFilling}
-use Rattle.orders.specs.Complete.{setOf, budgetPayment, nothing, counted, sheetTests, completeTests, completing}
+use Rattle.fillings.specs.Working.Entering.{filledWith}
+use Rattle.fillings.proofs.EveryFilling.{every-mem}
+use Rattle.orders.specs.Fillings.{Filling, firstFilling, setOf}
+use Rattle.orders.specs.Complete.{budgetPayment, nothing, counted, sheetTests, completeTests, completing}
 use Rattle.orders.specs.Whole.{countOf}
 use Rattle.orders.specs.Pretest.{brokenByAll, namedField, pretestAnswer, pretestTests, pretesting, Names, Pretests}
-use Rattle.orders.specs.Working.Entering.{filledWith, pickedOf}
+use Rattle.orders.specs.Working.Entering.{pickedOf}
 use Rattle.orders.specs.declared.pretest.Pretested.{Pretested}
 use Rattle.orders.specs.declared.pretest.Pretested.the-variants.{Named, Unnamed, Broken, Refused}
 use Rattle.orders.proofs.Ahead.{every-alike, earliest, first-filling, first-budget, like-first, fields-first, first-broken, named-field}
-use Rattle.orders.proofs.EveryFilling.{every-mem}
 use Rattle.orders.proofs.Keeping.{picked-length}
 use Rattle.orders.proofs.Passing.{unkept}
 use Rattle.orders.proofs.Completing.{Prepared, field-is, class-is, pays-by}
@@ -83,7 +84,7 @@ module _ (D : Dates) (d : List ℕ) where
   beside10 = counted (firstFilling D (draftSheet d)) ∷ []
 
   abbrev besideFilled : List ℕ
-  besideFilled = counted (firstFilling D (draftSheet d)) ∷ setOf (draftSheet d) ∷ ones (setOf (draftSheet d)) ∷ []
+  besideFilled = counted (firstFilling D (draftSheet d)) ∷ setOf D (draftSheet d) ∷ ones (setOf D (draftSheet d)) ∷ []
 
   abbrev ten : List Test
   ten = (nothing (firstFilling D (draftSheet d)) refuses 10 with beside10) ∷ []
@@ -159,7 +160,7 @@ module _ (D : Dates) (d : List ℕ) where
               let t : among m order ≡ true = every-mem (λ (k : ℕ). among k order) {l = ahead} refl within in
               let ten = refused-by D s b' size (firstFilling D s) refl .1 (λ h w. unkept D h (m ∷ []) (rw t) (rw (br h w .0))) in
               let al = all-by D s b' size (firstFilling D s) refl ten in
-              (countOf (lookAnswer s (firstFilling D s)), answer-is D d b' f z fit p ∙ al .0, al .1);
+              (countOf (lookAnswer D s (firstFilling D s)), answer-is D d b' f z fit p ∙ al .0, al .1);
         })
 
   -- an answer that is no refusal is of a budget payment

@@ -2,7 +2,7 @@
 use mathlib.Core.Path.{_≡_, refl, sym, _∙_, subst}
 use mathlib.Core.Logic.{_↔_}
 use mathlib.Core.Bool.{Bool, true, false, not, _&&_, true≢false, false≢true}
-use mathlib.Core.List.{List, [], _∷_, List·Memᴰ, List·Memᴰ·head, Memᴰ·append-right}
+use mathlib.Core.List.{List, [], _∷_}
 use Prim.Native.Nat.{ℕ}
 use native.Mathlib.Omega.{arith}
 use borrow.Author.Tests.{ne-eqb}
@@ -24,15 +24,15 @@ use Rattle.drafts.proofs.Arrangements.{held-by}
 use Rattle.drafts.proofs.DraftSheets.{length-sheet}
 use Rattle.sheets.specs.Dates.{datesFit}
 use Rattle.sheets.specs.declared.dates.Dates.{Dates}
-use Rattle.orders.specs.Fillings.{Filling, Place, Look, found, none, fillings, firstFilling}
-use Rattle.orders.specs.Complete.{setOf, budgetPayment, completeAnswer, nothing, counted, sheetIn, sheetTests, completeTests, completing, completed}
-use Rattle.orders.specs.Whole.{countOf, FirstFilling, All, FilledSet, Unpaid, broken, ordinary, Whole, Completes}
+use Rattle.fillings.specs.Fillings.{Look, found, none}
+use Rattle.fillings.proofs.First.{found-first, found-some, none-passes, none-all}
+use Rattle.fillings.proofs.Counting.{filled-set}
+use Rattle.orders.specs.Fillings.{listOf, Filling, All, firstFilling, FirstFilling, setOf, FilledSet}
+use Rattle.orders.specs.Complete.{budgetPayment, completeAnswer, nothing, counted, sheetIn, sheetTests, completeTests, completing, completed}
+use Rattle.orders.specs.Whole.{countOf, Unpaid, broken, ordinary, Whole, Completes}
 use Rattle.orders.specs.declared.complete.Completed.{Completed}
 use Rattle.orders.specs.declared.complete.Completed.the-variants.{Filled, Impossible, Broken, Refused}
-use Rattle.orders.proofs.EveryFilling.{filling-of, of-filling, given-stays}
-use Rattle.orders.proofs.Looking.{look-found, look-none}
-use Rattle.orders.proofs.Order.{earlier-before, place-of, once-all}
-use Rattle.orders.proofs.Counting.{fillings-most, fillings-one, filled-set}
+use Rattle.orders.proofs.Lists.{proper}
 
 pub length-draftSheet : (d : List ℕ) → draftFormed d ≡ true → length (draftSheet d) ≡ 390
 length-draftSheet d f = length-sheet d (formed-means d f .sized)
@@ -42,8 +42,8 @@ pub left-formed : (ms : List (List ℕ)) (d : List ℕ) → Postings ms d → dr
 left-formed ms d L = formed-by d (subst Formed (sym (L .draft)) (all-formed ms (L .strings)))
 
 -- what is answered and left where only the look is left to test
-abbrev pub lookAnswer : List ℕ → Look (List ℕ) → Answer
-lookAnswer s o = answerBy ((nothing o refuses 10 with (counted o ∷ [])) ∷ []) (counted o ∷ setOf s ∷ ones (setOf s) ∷ [])
+abbrev pub lookAnswer : Dates → List ℕ → Look (List ℕ) → Answer
+lookAnswer D s o = answerBy ((nothing o refuses 10 with (counted o ∷ [])) ∷ []) (counted o ∷ setOf D s ∷ ones (setOf D s) ∷ [])
 
 abbrev pub lookSheet : List ℕ → Look (List ℕ) → List ℕ
 lookSheet b o = bufferBy ((nothing o refuses 10 with (counted o ∷ [])) ∷ []) (sheetIn b o) b
@@ -54,7 +54,7 @@ module _ (D : Dates) (d b : List ℕ) (f : draftFormed d ≡ true) (z : length b
   unfolding budgetPayment
   kept = both (every (keeps D (draftSheet d)) basic) (budget (draftSheet d)) p
 
-  pub answer-is : completing D d b ≡ lookAnswer (draftSheet d) (firstFilling D (draftSheet d))
+  pub answer-is : completing D d b ≡ lookAnswer D (draftSheet d) (firstFilling D (draftSheet d))
   unfolding completing completeTests sheetTests
   answer-is = rw (f, z, t, kept-none (keeps D (draftSheet d)) basic (kept .0), kept .1)
 
@@ -64,48 +64,20 @@ module _ (D : Dates) (d b : List ℕ) (f : draftFormed d ≡ true) (z : length b
 
 -- the promise, by what the look found
 module _ (D : Dates) (s b : List ℕ) (z : length s ≡ 390) where
-  found-first : (n : ℕ) (t : List ℕ) → firstFilling D s ≡ found n t → FirstFilling D s t n
-  unfolding firstFilling
-  found-first n t e =
-      let w = look-found (keepsAll D) (fillings D s) n t e in
-      let m : List·Memᴰ t (fillings D s) = subst (List·Memᴰ t) (sym (w .split)) (Memᴰ·append-right (w .before) (List·Memᴰ·head refl)) in
-      record {
-        filling = filling-of D s z t m;
-        keeps = w .passes;
-        unchanged = given-stays D s t (filling-of D s z t m);
-        place = subst (Place D s t) (sym (w .place)) (place-of D s z (w .before) (w .after) t (w .split));
-        first = λ g p q. w .fails g (earlier-before D s z (w .before) (w .after) t (w .split) g p q);
-      }
+  pub refused-by : (o : Look (List ℕ)) → firstFilling D s ≡ o → (numberOf (lookAnswer D s o) ≡ 10) ↔ ((f : List ℕ) → Filling D s f → keepsAll D f ≡ false)
+  refused-by (found n t) e = (λ q. absurd (omega arith), λ h. absurd (found-some (proper D) s z (keepsAll D) n t e h))
+  refused-by (none n) e = (λ q. none-passes (proper D) s z (keepsAll D) n e, λ h. refl)
 
-  pub refused-by : (o : Look (List ℕ)) → firstFilling D s ≡ o → (numberOf (lookAnswer s o) ≡ 10) ↔ ((f : List ℕ) → Filling D s f → keepsAll D f ≡ false)
-  unfolding firstFilling
-  refused-by (found n t) e =
-      let w = found-first n t e in
-      (λ q. absurd (omega arith), λ h. absurd (true≢false (sym (w .keeps) ∙ h t (w .filling))))
-  refused-by (none n) e = (λ q f w. look-none (keepsAll D) (fillings D s) n e .1 f (of-filling D s z f w), λ h. refl)
-
-  filled-by : (o : Look (List ℕ)) → firstFilling D s ≡ o → (numberOf (lookAnswer s o) ≡ 10 → ⊥) → FirstFilling D s (lookSheet b o) (countOf (lookAnswer s o))
-  filled-by (found n t) e h = found-first n t e
+  filled-by : (o : Look (List ℕ)) → firstFilling D s ≡ o → (numberOf (lookAnswer D s o) ≡ 10 → ⊥) → FirstFilling D s (lookSheet b o) (countOf (lookAnswer D s o))
+  filled-by (found n t) e h = found-first (proper D) s z (keepsAll D) n t e
   filled-by (none n) e h = absurd (h refl)
 
-  pub all-by : (o : Look (List ℕ)) → firstFilling D s ≡ o → numberOf (lookAnswer s o) ≡ 10 → (lookAnswer s o ≡ refusal 10 (countOf (lookAnswer s o) ∷ [])) × All D s (countOf (lookAnswer s o))
-  unfolding firstFilling
+  pub all-by : (o : Look (List ℕ)) → firstFilling D s ≡ o → numberOf (lookAnswer D s o) ≡ 10 → (lookAnswer D s o ≡ refusal 10 (countOf (lookAnswer D s o) ∷ [])) × All D s (countOf (lookAnswer D s o))
   all-by (found n t) e h = absurd (omega arith)
-  all-by (none n) e h =
-      let c = look-none (keepsAll D) (fillings D s) n e .0 in (
-        refl,
-        record {
-          list = fillings D s;
-          count = c;
-          holds = λ g. (filling-of D s z g, of-filling D s z g);
-          once = once-all D s z;
-          most = rw c (fillings-most D s);
-          one = λ k. c ∙ fillings-one D s k;
-        },
-      )
+  all-by (none n) e h = (refl, none-all (proper D) s z (keepsAll D) n e)
 
-  answered-by : (o : Look (List ℕ)) → (numberOf (lookAnswer s o) ≡ 10 → ⊥) → (set : ℕ) × (k : ℕ) × (lookAnswer s o ≡ success (countOf (lookAnswer s o) ∷ set ∷ k ∷ [])) × FilledSet s set k
-  answered-by (found n t) h = (setOf s, ones (setOf s), refl, filled-set s)
+  answered-by : (o : Look (List ℕ)) → (numberOf (lookAnswer D s o) ≡ 10 → ⊥) → (set : ℕ) × (k : ℕ) × (lookAnswer D s o ≡ success (countOf (lookAnswer D s o) ∷ set ∷ k ∷ [])) × FilledSet D s set k
+  answered-by (found n t) h = (setOf D s, ones (setOf D s), refl, filled-set (listOf D) s)
   answered-by (none n) h = absurd (h refl)
 
 pub basic-numbered : every numbered basic ≡ true
@@ -151,7 +123,7 @@ filled-of (Refused m) n set k e = absurd (no-success (m .0) _ _ e)
 
 module _ (D : Dates) (d b : List ℕ) where
   values : List ℕ
-  values = counted (firstFilling D (draftSheet d)) ∷ setOf (draftSheet d) ∷ ones (setOf (draftSheet d)) ∷ []
+  values = counted (firstFilling D (draftSheet d)) ∷ setOf D (draftSheet d) ∷ ones (setOf D (draftSheet d)) ∷ []
 
   malformed-by : (numberOf (completing D d b) ≡ 1) ↔ (draftFormed d ≡ false)
   unfolding completing completeTests sheetTests values

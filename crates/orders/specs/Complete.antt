@@ -1,30 +1,23 @@
 -- What completion answers, and what it leaves in the sheet buffer (document 01, "Completion", "Answers other than success").
 -- Assumes nothing.
-use mathlib.Core.Bool.{Bool, true, false, not, cond, _&&_}
+use mathlib.Core.Bool.{Bool, true, false, not, _&&_}
 use mathlib.Core.List.{List, [], _∷_, _++_}
-use Prim.Native.Nat.{ℕ, _+_, _^_}
+use Prim.Native.Nat.{ℕ}
 use lib.Count.{ones}
 use lib.Dec.{eqb}
 use lib.ListN.{length}
 use Rattle.texts.specs.Texts.{every}
 use Rattle.texts.specs.Answers.{Answer, success, refusal, Test, _refuses_, _refuses_with_, answerBy, bufferBy}
-use Rattle.sheets.specs.Sheet.{slots, sheetSize}
+use Rattle.sheets.specs.Sheet.{sheetSize}
 use Rattle.sheets.specs.Dates.{datesFit}
 use Rattle.sheets.specs.declared.dates.Dates.{Dates}
 use Rattle.rules.specs.Rules.{budget, rules, basic, keeps, firstBroken}
 use Rattle.rules.specs.Verdicts.{brokenRule}
 use Rattle.drafts.specs.Draft.{draftFormed, draftSheet}
-use Rattle.orders.specs.Fillings.{toFill, Look, found, none, firstFilling}
+use Rattle.fillings.specs.Fillings.{Look, found, none}
+use Rattle.orders.specs.Fillings.{firstFilling, setOf}
 use Rattle.orders.specs.declared.complete.Completed.{Completed}
 use Rattle.orders.specs.declared.complete.Completed.the-variants.{Filled, Impossible, Broken, Refused}
-
--- "a 16-bit set of the filled slots (bit i for slot i)"
-abbrev pub bits : List ℕ → List ℕ → ℕ
-bits s [] = 0
-bits s (k ∷ ks) = cond (toFill s k) (2 ^ k) 0 + bits s ks
-
-unfoldable pub setOf : List ℕ → ℕ
-setOf s = bits s slots
 
 -- "With 1 to 3 kept, a sheet has a class"; "A budget payment is a sheet of class A or B"
 unfoldable pub budgetPayment : Dates → List ℕ → Bool
@@ -68,7 +61,7 @@ completeTests D d b = (not (draftFormed d) refuses 1) ∷ (not (eqb (length b) s
 -- completing the draft d into the buffer b: "the first filling that keeps all rules, the count of fillings up to and including it, a
 -- 16-bit set of the filled slots, and how many bits are set"
 unfoldable pub completing : Dates → List ℕ → List ℕ → Answer
-completing D d b = answerBy (completeTests D d b) (counted (firstFilling D (draftSheet d)) ∷ setOf (draftSheet d) ∷ ones (setOf (draftSheet d)) ∷ [])
+completing D d b = answerBy (completeTests D d b) (counted (firstFilling D (draftSheet d)) ∷ setOf D (draftSheet d) ∷ ones (setOf D (draftSheet d)) ∷ [])
 
 unfoldable pub completed : Dates → List ℕ → List ℕ → List ℕ
 completed D d b = bufferBy (completeTests D d b) (sheetIn b (firstFilling D (draftSheet d))) b

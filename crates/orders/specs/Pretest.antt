@@ -14,9 +14,8 @@ use Rattle.sheets.specs.declared.dates.Dates.{Dates}
 use Rattle.rules.specs.Rules.{rules, fieldOf, keeps, firstNot, ahead}
 use Rattle.rules.specs.declared.rules.RuleNumber.{RuleNumber}
 use Rattle.drafts.specs.Draft.{draftFormed, draftSheet}
-use Rattle.orders.specs.Fillings.{Filling, fillings}
+use Rattle.orders.specs.Fillings.{Filling, fillings, All}
 use Rattle.orders.specs.Complete.{budgetPayment, unpaidTests, completing}
-use Rattle.orders.specs.Whole.{All}
 use Rattle.orders.specs.declared.pretest.Pretested.{Pretested}
 use Rattle.orders.specs.declared.pretest.Pretested.the-variants.{Named, Unnamed, Broken, Refused}
 

@@ -1,20 +1,20 @@
 -- Demand 3, entire: one claim about a list of messages, the draft that posting them leaves, and completing that draft. Assumes nothing.
 use mathlib.Core.Path.{_≡_}
 use mathlib.Core.Logic.{_↔_}
-use mathlib.Core.Bool.{Bool, true, false, cond}
-use mathlib.Core.List.{List, [], _∷_, _++_, List·Memᴰ}
-use Prim.Native.Nat.{ℕ, _+_, _/_, _%_, _^_, _<_, _≤_}
+use mathlib.Core.Bool.{true, false}
+use mathlib.Core.List.{List, [], _∷_, _++_}
+use Prim.Native.Nat.{ℕ}
 use lib.ListN.{length, getD}
-use Rattle.texts.specs.Texts.{every, blank}
+use Rattle.texts.specs.Texts.{every}
 use Rattle.texts.specs.Answers.{Answer, success, refusal, numberOf}
-use Rattle.sheets.specs.Sheet.{slots, sheetSize, cellOf, textOf}
+use Rattle.sheets.specs.Sheet.{sheetSize}
 use Rattle.sheets.specs.Dates.{datesFit}
 use Rattle.sheets.specs.declared.dates.Dates.{Dates}
 use Rattle.rules.specs.Rules.{classOf, rules, basic, fieldOf, keeps, keepsAll}
 use Rattle.rules.specs.declared.class.Class.the-variants.{O}
 use Rattle.drafts.specs.Draft.{draftFormed, draftSheet}
 use Rattle.drafts.specs.Promises.{Postings, Held}
-use Rattle.orders.specs.Fillings.{toFill, Filling, Earlier, Place, mostFillings}
+use Rattle.orders.specs.Fillings.{Filling, FirstFilling, All, FilledSet}
 use Rattle.orders.specs.Complete.{budgetPayment, completing, completed, completeAnswer}
 use Rattle.orders.specs.declared.complete.Completed.{Completed}
 use Rattle.orders.specs.declared.complete.Completed.the-variants.{Filled}
@@ -23,37 +23,6 @@ use Rattle.orders.specs.declared.complete.Completed.the-variants.{Filled
 abbrev pub countOf : Answer → ℕ
 countOf (success vs) = getD vs 0 0
 countOf (refusal n vs) = getD vs 0 0
-
--- t is the first filling of s that keeps all rules, and n is its place
-pub record FirstFilling (D : Dates) (s t : List ℕ) (n : ℕ) : Type 0 where
-  pub filling : Filling D s t
-  pub keeps : keepsAll D t ≡ true
-  -- "every field that was not blank unchanged"
-  pub unchanged : (k : ℕ) → k < 15 → blank (textOf s k) ≡ false → cellOf t k ≡ cellOf s k
-  -- "the count is its place in the order"
-  pub place : Place D s t n
-  -- "no earlier filling keeps them"
-  pub first : (g : List ℕ) → Filling D s g → Earlier D s g t → keepsAll D g ≡ false
-
--- n is the number of all fillings of s: the list has each once; "there are at most .., and one if nothing is to be filled"
-pub record All (D : Dates) (s : List ℕ) (n : ℕ) : Type 0 where
-  pub list : List (List ℕ)
-  pub count : n ≡ length list
-  pub holds : (g : List ℕ) → List·Memᴰ g list ↔ Filling D s g
-  pub once : (a b c : List (List ℕ)) (g : List ℕ) → list ≡ a ++ (g ∷ (b ++ (g ∷ c))) → ⊥
-  pub most : n ≤ mostFillings D
-  pub one : ((k : ℕ) → toFill s k ≡ false) → n ≡ 1
-
--- how many of some slots pass a test
-abbrev pub tally : (ℕ → Bool) → List ℕ → ℕ
-tally p [] = 0
-tally p (k ∷ ks) = cond (p k) 1 0 + tally p ks
-
--- "a 16-bit set of the filled slots (bit i for slot i), and how many bits are set": bit i is 1 exactly if slot i is blank and has a list
-pub record FilledSet (s : List ℕ) (set k : ℕ) : Type 0 where
-  pub bit : (i : ℕ) → i < 15 → set / 2 ^ i % 2 ≡ cond (toFill s i) 1 0
-  pub below : set < 2 ^ 15
-  pub ones : k ≡ tally (toFill s) slots
 
 -- why a draft that is no budget payment is refused, s being its sheet: one of rules 1 to 3 is broken, and the answer names the first of
 -- these and its field; or they are kept, and the class is O
@@ -88,7 +57,7 @@ pub record Whole (D : Dates) (ms : List (List ℕ)) (d b : List ℕ) (a : Answer
       → datesFit D ≡ true
       → budgetPayment D (draftSheet d) ≡ true
       → (numberOf a ≡ 10 → ⊥)
-      → (set : ℕ) × (k : ℕ) × (a ≡ success (countOf a ∷ set ∷ k ∷ [])) × FilledSet (draftSheet d) set k
+      → (set : ℕ) × (k : ℕ) × (a ≡ success (countOf a ∷ set ∷ k ∷ [])) × FilledSet D (draftSheet d) set k
   -- a draft that is no budget payment is refused with 8 or 9
   pub unpaid : length b ≡ sheetSize → datesFit D ≡ true → budgetPayment D (draftSheet d) ≡ false → Unpaid D (draftSheet d) a
 

@@ -7,7 +7,8 @@ ghost use Rattle.texts.specs.Texts.{blank, every};
 ghost use Rattle.sheets.specs.Sheet.{textOf, given};
 ghost use Rattle.sheets.specs.Working.Entries.{filledAt};
 ghost use Rattle.orders.specs.Working.Entering.{rowCell, baseOf, pickedOf, varying};
-ghost use Rattle.orders.specs.Complete.{setOf};
+ghost use Rattle.sheets.specs.declared.dates.Dates.{Dates};
+ghost use Rattle.orders.specs.Fillings.{setOf};
 use crate::search::Pick;
 use sheets::dates::Dates;
 use sheets::entries::basis_row;
@@ -93,7 +94,7 @@ fn bit_of(sheet: &[u8], slot: u8, bit: u16) -> u16
 
 // "A 16-bit set of the filled slots (bit i for slot i)": those that have a list and are blank.
 pub(crate) fn filled_set(sheet: &[u8]) -> u16
-    ensures { λ r. ⌜ r ≡ setOf (now (sheet .entry)) ⌝ }
+    ensures { λ r. ⌜ ((D : Dates) → r ≡ setOf D (now (sheet .entry))) ⌝ }
 {
     bit_of(sheet, 3, 8)
         + bit_of(sheet, 4, 16)

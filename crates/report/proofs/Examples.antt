@@ -6,8 +6,10 @@ use borrow.Author.Tests.{le-leb}
 use lib.ListN.{length}
 use Rattle.texts.specs.Quoted.{Text, bytes}
 use Rattle.drafts.specs.Message.{messageOf}
-use Rattle.orders.specs.Fillings.{listOf, toFill, choices, look, fillings, firstFilling}
-use Rattle.orders.specs.Complete.{setOf, sheetTests, completeTests, completing, completed}
+use Rattle.fillings.specs.Fillings.{toFill, choices, look, fillings, firstFilling}
+use Rattle.fillings.specs.Filled.{setOf}
+use Rattle.orders.specs.Fillings.{listOf}
+use Rattle.orders.specs.Complete.{sheetTests, completeTests, completing, completed}
 use Rattle.orders.specs.Stream.{pieceOf, endsStream, pieces, messagesOf}
 use Rattle.report.specs.Lines.{decimalIn, decimal, item}
 use Rattle.report.specs.Report.{messageLine, fieldLine, fieldLines, endLines, ending, reportFrom, reportOf, reported}

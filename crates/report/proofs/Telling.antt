@@ -20,7 +20,7 @@ use Rattle.drafts.specs.Message.{lengthOf, readTests, readingOf}
 use Rattle.drafts.specs.Draft.{freshDraft, postingOf, postedTo, postAnswer}
 use Rattle.drafts.specs.Promises.{Posts}
 use Rattle.drafts.specs.declared.draft.Posted.{Posted}
-use Rattle.orders.specs.Working.Search.{places}
+use Rattle.fillings.specs.Working.Places.{places}
 use Rattle.orders.specs.Stream.{pieceOf, endsStream, messagesOf}
 use Rattle.orders.proofs.Streaming.{messages-none, messages-next, rest-is, first-is, some}
 use Rattle.report.specs.Lines.{Wrote}

@@ -1,6 +1,6 @@
 -- How the code makes a filling: an entry is put into a slot if that is blank. A reader of the promise needs none of this.
 -- Assumes nothing.
-use mathlib.Core.List.{List, [], _∷_, map}
+use mathlib.Core.List.{List, [], _∷_}
 use Prim.Native.Nat.{ℕ}
 use lib.ListN.{getD, replicate}
 use Rattle.texts.specs.Quoted.{bytes}
@@ -8,19 +8,11 @@ use Rattle.sheets.specs.Sheet.{cell}
 use Rattle.sheets.specs.Lists.{basisTexts, zeroTexts}
 use Rattle.sheets.specs.Dates.{statusTexts}
 use Rattle.sheets.specs.declared.dates.Dates.{Dates}
-use Rattle.sheets.specs.Working.Entries.{filledAt}
+use Rattle.fillings.specs.Working.Entering.{Entry, filledWith, slotsOf}
 
 -- a table's row as a cell
 abbrev pub rowCell : List ℕ → List ℕ
 rowCell r = getD r 0 0 ∷ getD r 1 0 ∷ getD r 2 0 ∷ replicate 23 0
-
--- some slots, one after another
-abbrev pub Entry : Type 0
-Entry = ℕ × List ℕ
-
-abbrev pub filledWith : List ℕ → List Entry → List ℕ
-filledWith s [] = s
-filledWith s (e ∷ es) = filledWith (filledAt s (e .0) (e .1)) es
 
 abbrev pub zeroCell : List ℕ
 zeroCell = cell (bytes "0")
@@ -44,9 +36,6 @@ pickEntries D p =
 unfoldable pub pickedOf : Dates → List ℕ → List ℕ → List ℕ
 pickedOf D s p = filledWith s (pickEntries D p)
 
--- the slots of some entries; those of 101, 106, 108 and 109, whatever is picked
-abbrev pub slotsOf : List Entry → List ℕ
-slotsOf es = map (λ (e : Entry). e .0) es
-
+-- the slots of 101, 106, 108 and 109, whatever is picked
 abbrev pub varying : List ℕ
 varying = 6 ∷ 11 ∷ 13 ∷ 14 ∷ []

@@ -1,9 +1,9 @@
 -- The search: only 101, 106, 108 and 109 of the base vary, so it goes through places in their lists. A reader of the promise needs none
 -- of this. Assumes nothing.
 use mathlib.Core.Path.{_≡_}
-use mathlib.Core.Bool.{Bool, true, cond}
+use mathlib.Core.Bool.{Bool, true}
 use mathlib.Core.List.{List, [], _∷_}
-use Prim.Native.Nat.{ℕ, zero, suc}
+use Prim.Native.Nat.{ℕ}
 use Rattle.texts.specs.Texts.{blank, every}
 use Rattle.sheets.specs.Sheet.{Sheet, textOf}
 use Rattle.sheets.specs.Lists.{basisCount, zeroCount}
@@ -12,17 +12,11 @@ use Rattle.sheets.specs.declared.dates.Dates.{Dates}
 use Rattle.sheets.specs.Working.Facts.{Read}
 use Rattle.sheets.specs.declared.facts.Facts.{Facts}
 use Rattle.rules.specs.Rules.{budget, basic, keeps, keepsAll}
-use Rattle.orders.specs.Fillings.{product, look, Look}
+use Rattle.fillings.specs.Fillings.{width, product, look, Look}
+use Rattle.fillings.specs.Working.Places.{places}
 use Rattle.orders.specs.Working.Entering.{pickedOf}
 
--- the places in a list of n: as many as are listed where the field is blank, one where it is not
-abbrev pub width : Bool → ℕ → ℕ
-width blank n = cond blank n 1
-
-unfoldable pub places : ℕ → ℕ → List ℕ
-places zero i = []
-places (suc n) i = i ∷ places n (suc i)
-
+-- the places in the four lists: as many as are listed where the field is blank, one where it is not
 unfoldable pub picks : Dates → Sheet → List (List ℕ)
 picks D s =
     product

@@ -11,11 +11,11 @@ use Rattle.sheets.specs.Sheet.{Sheet}
 use Rattle.sheets.specs.Lists.{basisCount, zeroCount}
 use Rattle.sheets.specs.declared.dates.Dates.{Dates}
 use Rattle.sheets.specs.declared.facts.Facts.{Facts}
-use Rattle.orders.specs.Fillings.{look}
-use Rattle.orders.specs.Working.Search.{passesAt, width, firstPick, Payment}
+use Rattle.fillings.specs.Fillings.{width, look}
+use Rattle.fillings.proofs.Levels.{Picks, Left, left-none, turn, hit, all, one-passed, one-hit}
+use Rattle.orders.specs.Working.Search.{passesAt, firstPick, Payment}
 use Rattle.orders.specs.Working.Found.{foundOf}
 use Rattle.orders.specs.declared.search.Found.the-variants.{Place, Nothing}
-use Rattle.orders.proofs.Levels.{Picks, Left, left-none, turn, hit, all, one-passed, one-hit}
 use Rattle.orders.proofs.Passing.{passes-is, rest, first-pick, ofBasis, ofStatus}
 use Rattle.orders.proofs.search.walk.Statement.{statement}
 use Rattle.orders.proofs.search.walk.Tie as tie

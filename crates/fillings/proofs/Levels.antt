@@ -1,12 +1,14 @@
 -- What a level of the search does to the list of picks: one set of laws for all four. Assumes nothing.
-use mathlib.Core.Path.{_≡_, _∙_}
+use mathlib.Core.Path.{_≡_, sym, ap, _∙_}
 use mathlib.Core.Bool.{Bool, true, false}
 use mathlib.Core.List.{List, [], _∷_, _++_, map, map-append, map-map, append-assoc}
 use Prim.Native.Nat.{ℕ, suc, _+_, _-_, _<_, _≤_}
+use lib.ListN.{length}
 use native.Mathlib.Numerals.{add-one}
 use native.Mathlib.Omega.{arith}
-use Rattle.orders.specs.Fillings.{each, found, look}
-use Rattle.orders.specs.Working.Search.{places}
+use Rattle.fillings.specs.Fillings.{each, found, none, look}
+use Rattle.fillings.specs.Working.Places.{places}
+use Rattle.fillings.proofs.Looking.{NonePass, look-found, look-none, look-over}
 
 abbrev pub Picks : Type 0
 Picks = List (List ℕ)
@@ -27,6 +29,28 @@ module _ (p : List ℕ → Bool) (n : ℕ) (s : List ℕ) where
   pub one-hit : p s ≡ true → Hit p n (s ∷ []) (n + 1) s
   unfolding look
   one-hit h = record { ends = λ r. simp h }
+
+-- by a look through the part alone, or where nothing of it passes
+module _ (p : List ℕ → Bool) (n : ℕ) (l : Picks) where
+  pub over-passed : NonePass p l → Passed p n l (n + length l)
+  over-passed h = record { on = λ r. look-over p l r n h }
+
+  pub part-passed : (c : ℕ) → look p 0 l ≡ none c → Passed p n l (n + c)
+  part-passed c e =
+      let w = look-none p l c e in
+      record { on = λ r. look-over p l r n (w .1) ∙ ap (λ (k : ℕ). look p (n + k) r) (sym (w .0)) }
+
+  pub part-hit : (c : ℕ) (t : List ℕ) → look p 0 l ≡ found c t → Hit p n l (n + c) t
+  unfolding look
+  part-hit c t e =
+      let w = look-found p l c t e in
+      record {
+        ends = λ r.
+            ap (λ (k : Picks). look p n (k ++ r)) (w .split)
+            ∙ ap (look p n) (append-assoc (w .before) (t ∷ w .after) r)
+            ∙ look-over p (w .before) (t ∷ (w .after ++ r)) n (w .fails)
+            ∙ rw (w .passes) (ap (λ (k : ℕ). found k t) (omega (arith, w .place)));
+      }
 
 -- h puts the places of the levels above in front; R is what the levels below go through; N places, n₀ passed at the beginning; after k
 -- of the places n have been passed

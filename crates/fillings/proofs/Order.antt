@@ -1,23 +1,19 @@
 -- The list of fillings is in order, so that the place in the list is the place in the order. Assumes nothing.
 use mathlib.Core.Path.{_≡_, refl, sym, ap, _∙_, subst, subst₂}
 use mathlib.Core.Logic.{⊎-elim}
-use mathlib.Core.Bool.{Bool, true, false, cond, _&&_}
+use mathlib.Core.Bool.{true, false, not}
 use mathlib.Core.List.{List, [], _∷_, _++_, map, List·Memᴰ, List·Memᴰ·head, List·Memᴰ·tail, List·Memᴰ·not-nil, List·Memᴰ·cases-cons, List·Memᴰ·append-cases, Memᴰ·append-left, Memᴰ·append-right, Memᴰ·of-map}
 use Prim.Native.Nat.{ℕ, zero, suc, _<_}
 use native.Mathlib.Decide.{decLt}
 use native.Mathlib.Omega.{arith}
-use borrow.Author.Tests.{ltb-true}
-use lib.Dec.{ltb}
 use lib.ListN.{length, getD}
-use Rattle.texts.specs.Quoted.{Text}
-use Rattle.texts.specs.Texts.{every, same}
+use Rattle.texts.specs.Texts.{any, same}
 use Rattle.texts.proofs.Bools.{both}
-use Rattle.sheets.specs.Sheet.{cell, slots, cellOf}
-use Rattle.sheets.specs.Dates.{forceOf, textsIn, statusTexts}
-use Rattle.sheets.proofs.InForce.{by-force}
-use Rattle.sheets.specs.declared.dates.Dates.{Dates}
-use Rattle.orders.specs.Fillings.{lists, listOf, toFill, choices, entryPlace, each, product, joined, fillings, Filling, Earlier, Place}
-use Rattle.orders.proofs.EveryFilling.{lists-at, Drawn, each-cases, product-drawn, every-at, every-mem, at-slots, drawn-cell, filling-of, of-filling}
+use Rattle.texts.proofs.Codes.{same-self}
+use Rattle.sheets.specs.Sheet.{Sheet, slots, cellOf}
+use Rattle.fillings.specs.Fillings.{Lists, Proper, distinct, toFill, choices, entryPlace, each, product, joined, fillings, Filling, Earlier, Place}
+use Rattle.fillings.proofs.EveryFilling.{Drawn, each-cases, product-drawn, at-slots, drawn-cell, filling-of, of-filling}
+use Rattle.fillings.proofs.Distinct.{choice-once, distinct-not}
 
 -- ---- lists in order
 
@@ -64,16 +60,21 @@ ordered-map {A} {B} R S f (a ∷ l) h o = (
 abbrev Before : List (List ℕ) → List ℕ → List ℕ → Type 0
 Before c x y = entryPlace c x < entryPlace c y
 
--- each of xs stands in c before those that follow
-abbrev rising : List (List ℕ) → List (List ℕ) → Bool
-rising c [] = true
-rising c (x ∷ xs) = every (λ (y : List ℕ). ltb (entryPlace c x) (entryPlace c y)) xs && rising c xs
+-- a list in which none stands twice is in the order of its places
+carried : (c : List (List ℕ)) (y : List ℕ) (l : List (List ℕ)) → ((a : List ℕ) → List·Memᴰ a l → same a y ≡ false) → Ordered (Before c) l → Ordered (Before (y ∷ c)) l
+carried c y [] n o = tt
+carried c y (x ∷ l) n o = (
+  λ b m. rw (n x (List·Memᴰ·head refl), n b (List·Memᴰ·tail m)) (omega (arith, o .0 b m)),
+  carried c y l (λ a m. n a (List·Memᴰ·tail m)) (o .1),
+)
 
-rising-ordered : (c xs : List (List ℕ)) → rising c xs ≡ true → Ordered (Before c) xs
-rising-ordered c [] h = tt
-rising-ordered c (x ∷ xs) h =
-    let p = both (every (λ (y : List ℕ). ltb (entryPlace c x) (entryPlace c y)) xs) (rising c xs) h in
-    (λ b m. ltb-true _ _ (every-mem (λ (y : List ℕ). ltb (entryPlace c x) (entryPlace c y)) (p .0) m), rising-ordered c xs (p .1))
+distinct-ordered : (c : List (List ℕ)) → distinct c ≡ true → Ordered (Before c) c
+unfolding distinct
+distinct-ordered [] h = tt
+distinct-ordered (x ∷ c) h =
+    let p = both (not (any (same x) c)) (distinct c) h in
+    let n : (y : List ℕ) → List·Memᴰ y c → same y x ≡ false = λ y m. distinct-not x c (p .0) y m .0 in
+    (λ b m. rw (same-self x, n b m) (omega arith), carried c x c n (distinct-ordered c (p .1)))
 
 -- two picks differ first at some list, where the first has the earlier entry
 record Differs (cs : List (List (List ℕ))) (r t : List (List ℕ)) : Type 0 where
@@ -105,98 +106,82 @@ module _ (c : List (List ℕ)) (cs : List (List (List ℕ))) where
       let w = each-cases xs ps b s in
       subst₂ (Differs (c ∷ cs)) (v .2) (w .4) (differs-first x (w .0) (v .0) (w .1) (u .0 (w .0) (w .2))))
 
--- each entry of a list stands in it before those that follow, so that none stands in it twice
-abbrev listedOnce : List (List ℕ) → Bool
-listedOnce c = rising c c
-
-status-once : (D : Dates) → listedOnce (map cell (statusTexts D)) ≡ true
-unfolding textsIn every same cell
-status-once D = by-force (λ (l : List Text). listedOnce (map cell l)) (forceOf D) refl
-
-choice-once : (D : Dates) (s : List ℕ) (k : ℕ) → listedOnce (choices D s k) ≡ true
-unfolding choices every listOf same cell
-choice-once D s k = go (toFill s k)
-  where
-    go : (b : Bool) → listedOnce (cond b (map cell (listOf D k)) (cellOf s k ∷ [])) ≡ true
-    go true = every-at (λ (l : List Text). listedOnce (map cell l)) [] refl (lists (statusTexts D)) (lists-at D (λ (l : List Text). listedOnce (map cell l)) (status-once D) refl) k
-    go false = refl
-
 -- ---- fillings
 
-product-ordered : (D : Dates) (s ks : List ℕ) → Ordered (Differs (map (choices D s) ks)) (product (map (choices D s) ks))
-product-ordered D s [] = (λ b m. absurd (List·Memᴰ·not-nil m), tt)
-product-ordered D s (k ∷ ks) =
-    let c = choices D s k in
-    each-ordered c (map (choices D s) ks) c (product (map (choices D s) ks)) (rising-ordered c c (choice-once D s k)) (product-ordered D s ks)
+product-ordered : {L : Lists} → Proper L → (s : Sheet) (ks : List ℕ) → Ordered (Differs (map (choices L s) ks)) (product (map (choices L s) ks))
+product-ordered P s [] = (λ b m. absurd (List·Memᴰ·not-nil m), tt)
+product-ordered {L} P s (k ∷ ks) =
+    let c = choices L s k in
+    each-ordered c (map (choices L s) ks) c (product (map (choices L s) ks)) (distinct-ordered c (choice-once P s k)) (product-ordered P s ks)
 
 -- the order is strict
-earlier-strict : (D : Dates) (s g f : List ℕ) → Earlier D s g f → Earlier D s f g → ⊥
-earlier-strict D s g f v w =
+earlier-strict : {L : Lists} (s g f : Sheet) → Earlier L s g f → Earlier L s f g → ⊥
+earlier-strict {L} s g f v w =
     elim (decLt (v .at) (w .at)) [
-      | yes h ↦ omega (arith, v .less, ap (entryPlace (choices D s (v .at))) (w .same (v .at) h))
+      | yes h ↦ omega (arith, v .less, ap (entryPlace (choices L s (v .at))) (w .same (v .at) h))
       | no h ↦
           elim (decLt (w .at) (v .at)) [
-            | yes k ↦ omega (arith, w .less, ap (entryPlace (choices D s (w .at))) (v .same (w .at) k))
+            | yes k ↦ omega (arith, w .less, ap (entryPlace (choices L s (w .at))) (v .same (w .at) k))
             | no k ↦
                 let e : w .at ≡ v .at = omega arith in
-                omega (arith, v .less, subst (λ (i : ℕ). entryPlace (choices D s i) (cellOf f i) < entryPlace (choices D s i) (cellOf g i)) e (w .less))
+                omega (arith, v .less, subst (λ (i : ℕ). entryPlace (choices L s i) (cellOf f i) < entryPlace (choices L s i) (cellOf g i)) e (w .less))
           ]
     ]
 
-module _ (D : Dates) (s : List ℕ) (sized : length s ≡ 390) where
-  differs-earlier : (r t : List (List ℕ)) → Drawn (map (choices D s) slots) r → Drawn (map (choices D s) slots) t → Differs (map (choices D s) slots) r t → Earlier D s (joined r) (joined t)
+module _ {L : Lists} (P : Proper L) (s : Sheet) (sized : length s ≡ 390) where
+  differs-earlier : (r t : List (List ℕ)) → Drawn (map (choices L s) slots) r → Drawn (map (choices L s) slots) t → Differs (map (choices L s) slots) r t → Earlier L s (joined r) (joined t)
   differs-earlier r t dr dt w =
       let i : w .at < 15 = w .inside in
-      let cr : (k : ℕ) → k < 15 → cellOf (joined r) k ≡ getD r k [] = drawn-cell D s sized r dr in
-      let ct : (k : ℕ) → k < 15 → cellOf (joined t) k ≡ getD t k [] = drawn-cell D s sized t dt in
+      let cr : (k : ℕ) → k < 15 → cellOf (joined r) k ≡ getD r k [] = drawn-cell P s sized r dr in
+      let ct : (k : ℕ) → k < 15 → cellOf (joined t) k ≡ getD t k [] = drawn-cell P s sized t dt in
       record {
         at = w .at;
         inside = i;
         same = λ j l. cr j (omega arith) ∙ w .same j l ∙ sym (ct j (omega arith));
-        less = rw (cr (w .at) i, ct (w .at) i, ← at-slots (choices D s) [] (w .at) i) (w .less);
+        less = rw (cr (w .at) i, ct (w .at) i, ← at-slots (choices L s) [] (w .at) i) (w .less);
       }
 
-  fillings-ordered : Ordered (Earlier D s) (fillings D s)
+  fillings-ordered : Ordered (Earlier L s) (fillings L s)
   unfolding fillings
   fillings-ordered =
-      let cs = map (choices D s) slots in
-      ordered-map (Differs cs) (Earlier D s) joined (product cs)
+      let cs = map (choices L s) slots in
+      ordered-map (Differs cs) (Earlier L s) joined (product cs)
       (λ a b m k h. differs-earlier a b (product-drawn cs a m) (product-drawn cs b k) h)
-      (product-ordered D s slots)
+      (product-ordered P s slots)
 
   -- no entry of a part of the list in order stands in it twice
-  once-ordered : (l : List (List ℕ)) → Ordered (Earlier D s) l → (a b c : List (List ℕ)) (g : List ℕ) → l ≡ a ++ (g ∷ (b ++ (g ∷ c))) → ⊥
+  once-ordered : (l : List (List ℕ)) → Ordered (Earlier L s) l → (a b c : List (List ℕ)) (g : List ℕ) → l ≡ a ++ (g ∷ (b ++ (g ∷ c))) → ⊥
   once-ordered l o a b c g e =
-      let w = ordered-split (Earlier D s) a g (b ++ (g ∷ c)) (subst (Ordered (Earlier D s)) e o) in
-      let x : Earlier D s g g = w .2 g (Memᴰ·append-right b (List·Memᴰ·head refl)) in
-      earlier-strict D s g g x x
+      let w = ordered-split (Earlier L s) a g (b ++ (g ∷ c)) (subst (Ordered (Earlier L s)) e o) in
+      let x : Earlier L s g g = w .2 g (Memᴰ·append-right b (List·Memᴰ·head refl)) in
+      earlier-strict s g g x x
 
-  pub once-all : (a b c : List (List ℕ)) (g : List ℕ) → fillings D s ≡ a ++ (g ∷ (b ++ (g ∷ c))) → ⊥
-  once-all = once-ordered (fillings D s) fillings-ordered
+  pub once-all : (a b c : List (List ℕ)) (g : List ℕ) → fillings L s ≡ a ++ (g ∷ (b ++ (g ∷ c))) → ⊥
+  once-all = once-ordered (fillings L s) fillings-ordered
 
-  module _ (before after : List (List ℕ)) (t : List ℕ) (split : fillings D s ≡ before ++ (t ∷ after)) where
-    in-order : Ordered (Earlier D s) before × ((g : List ℕ) → List·Memᴰ g before → Earlier D s g t) × ((g : List ℕ) → List·Memᴰ g after → Earlier D s t g)
-    in-order = ordered-split (Earlier D s) before t after (subst (Ordered (Earlier D s)) split fillings-ordered)
+  module _ (before after : List (List ℕ)) (t : List ℕ) (split : fillings L s ≡ before ++ (t ∷ after)) where
+    in-order : Ordered (Earlier L s) before × ((g : List ℕ) → List·Memᴰ g before → Earlier L s g t) × ((g : List ℕ) → List·Memᴰ g after → Earlier L s t g)
+    in-order = ordered-split (Earlier L s) before t after (subst (Ordered (Earlier L s)) split fillings-ordered)
 
-    pub earlier-before : (g : List ℕ) → Filling D s g → Earlier D s g t → List·Memᴰ g before
+    pub earlier-before : (g : List ℕ) → Filling L s g → Earlier L s g t → List·Memᴰ g before
     earlier-before g p q =
         ⊎-elim
         (λ (m : List·Memᴰ g before). m)
         (λ (m : List·Memᴰ g (t ∷ after)).
         absurd
         (⊎-elim
-        (λ (e : g ≡ t). earlier-strict D s g t q (subst₂ (Earlier D s) e (sym e) q))
-        (λ (k : List·Memᴰ g after). earlier-strict D s g t q (in-order .2 g k))
+        (λ (e : g ≡ t). earlier-strict s g t q (subst₂ (Earlier L s) e (sym e) q))
+        (λ (k : List·Memᴰ g after). earlier-strict s g t q (in-order .2 g k))
         (List·Memᴰ·cases-cons m)))
-        (List·Memᴰ·append-cases before (subst (List·Memᴰ g) split (of-filling D s sized g p)))
+        (List·Memᴰ·append-cases before (subst (List·Memᴰ g) split (of-filling P s sized g p)))
 
     -- the place in the list is the place in the order
-    pub place-of : Place D s t (suc (length before))
+    pub place-of : Place L s t (suc (length before))
     place-of = record {
       list = before;
       count = refl;
       holds = λ g. (
-        λ m. (filling-of D s sized g (subst (List·Memᴰ g) (sym split) (Memᴰ·append-left (t ∷ after) m)), in-order .1 g m),
+        λ m. (filling-of P s sized g (subst (List·Memᴰ g) (sym split) (Memᴰ·append-left (t ∷ after) m)), in-order .1 g m),
         λ p. earlier-before g (p .0) (p .1),
       );
       once = once-ordered before (in-order .0);

@@ -10,10 +10,10 @@ use Rattle.texts.specs.Texts.{between, blank}
 use Rattle.texts.specs.Buffers.{put, putAt}
 use Rattle.texts.proofs.Puts.{put-fits}
 use Rattle.sheets.specs.Sheet.{slots, cellText, cellOf, textOf}
-use Rattle.orders.specs.Fillings.{joined}
-use Rattle.orders.specs.Working.Search.{places}
+use Rattle.fillings.specs.Fillings.{joined}
+use Rattle.fillings.specs.Working.Places.{places}
 use Rattle.sheets.specs.Working.Entries.{filledAt}
-use Rattle.orders.specs.Working.Entering.{Entry, filledWith}
+use Rattle.fillings.specs.Working.Entering.{Entry, filledWith}
 
 abbrev pub Cells : Type 0
 Cells = List (List ℕ)

@@ -1,12 +1,13 @@
 -- Looking through a list for the first that passes: what it finds, and that it finds nothing exactly where none passes. Assumes nothing.
-use mathlib.Core.Path.{_≡_, refl, ap, _∙_, subst}
+use mathlib.Core.Path.{_≡_, refl, sym, ap, _∙_, subst}
 use mathlib.Core.Logic.{⊎-elim}
 use mathlib.Core.Bool.{Bool, true, false, cond}
-use mathlib.Core.List.{List, [], _∷_, _++_, List·Memᴰ, List·Memᴰ·not-nil, List·Memᴰ·cases-cons}
+use mathlib.Core.List.{List, [], _∷_, _++_, map, append-nil, List·Memᴰ, List·Memᴰ·head, List·Memᴰ·tail, List·Memᴰ·not-nil, List·Memᴰ·cases-cons, Memᴰ·append-right}
 use Prim.Native.Nat.{ℕ, suc, _+_}
 use native.Mathlib.Omega.{arith}
 use lib.ListN.{length}
-use Rattle.orders.specs.Fillings.{Look, found, none, look}
+use Rattle.fillings.specs.Fillings.{Look, found, none, look}
+use Rattle.fillings.specs.Working.Parts.{mapLook, orElse}
 
 module _ {A : Type 0} (p : A → Bool) where
   abbrev pub NonePass : List A → Type 0
@@ -60,7 +61,42 @@ module _ {A : Type 0} (p : A → Bool) where
       let w = subst (Seen l 0) e (seen l 0) in
       subst (λ (k : ℕ). First l k t) (omega (arith, w .1)) (w .2)
 
+  pub look-member : (l : List A) (n : ℕ) (t : A) → look p 0 l ≡ found n t → List·Memᴰ t l
+  look-member l n t e = let w = look-found l n t e in subst (List·Memᴰ t) (sym (w .split)) (Memᴰ·append-right (w .before) (List·Memᴰ·head refl))
+
   pub look-none : (l : List A) (n : ℕ) → look p 0 l ≡ none n → (n ≡ length l) × NonePass l
   look-none l n e =
       let w = subst (Seen l 0) e (seen l 0) in
       (omega (arith, w .0), w .1)
+
+  -- looking goes over what does not pass; where nothing passes, all are counted
+  pub look-over : (l r : List A) (n : ℕ) → NonePass l → look p n (l ++ r) ≡ look p (n + length l) r
+  unfolding look
+  look-over [] r n h = ap (λ (k : ℕ). look p k r) (omega arith)
+  look-over (x ∷ l) r n h =
+      rw (h x (List·Memᴰ·head refl)) (look-over l r (n + 1) (λ g m. h g (List·Memᴰ·tail m)) ∙ ap (λ (k : ℕ). look p k r) (omega arith))
+
+  pub none-look : (l : List A) (n : ℕ) → NonePass l → look p n l ≡ none (n + length l)
+  unfolding look
+  none-look l n h = ap (look p n) (sym (append-nil l)) ∙ look-over l [] n h
+
+  -- what was found in a part, or what is found in the rest
+  pub look-append : (l r : List A) (n : ℕ) → look p n (l ++ r) ≡ orElse (look p n l) (λ (m : ℕ). look p m r)
+  unfolding look
+  look-append [] r n = refl
+  look-append (x ∷ l) r n = go (p x) (look-append l r (n + 1))
+    where
+      go : (b : Bool) → look p (n + 1) (l ++ r) ≡ orElse (look p (n + 1) l) (λ (m : ℕ). look p m r)
+          → cond b (found (n + 1) x) (look p (n + 1) (l ++ r)) ≡ orElse (cond b (found (n + 1) x) (look p (n + 1) l)) (λ (m : ℕ). look p m r)
+      go true e = refl
+      go false e = e
+
+-- looking through what is made of a list
+pub look-map : {X Y : Type 0} (p : Y → Bool) (h : X → Y) (l : List X) (n : ℕ) → look p n (map h l) ≡ mapLook h (look (λ (x : X). p (h x)) n l)
+unfolding look
+look-map p h [] n = refl
+look-map {X} {Y} p h (x ∷ xs) n = rw (look-map p h xs (n + 1)) (go (p (h x)) (look (λ (y : X). p (h y)) (n + 1) xs))
+  where
+    go : (b : Bool) (r : Look X) → cond b (found (n + 1) (h x)) (mapLook h r) ≡ mapLook h (cond b (found (n + 1) x) r)
+    go true r = refl
+    go false r = refl

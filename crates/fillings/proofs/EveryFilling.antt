@@ -1,25 +1,22 @@
 -- The list of fillings holds each filling of a sheet, and nothing else; a field that is not blank stays. Assumes nothing.
 use mathlib.Core.Path.{_≡_, refl, sym, ap, _∙_, subst}
 use mathlib.Core.Logic.{⊎-elim}
-use mathlib.Core.Bool.{Bool, true, false, cond, and-false}
+use mathlib.Core.Bool.{Bool, true, false, not, cond, and-false}
 use mathlib.Core.List.{List, [], _∷_, map, List·Memᴰ, List·Memᴰ·head, List·Memᴰ·tail, List·Memᴰ·not-nil, List·Memᴰ·append-cases, List·Memᴰ·eq-of-singleton, Memᴰ·append-left, Memᴰ·append-right, Memᴰ·map, Memᴰ·of-map, Memᴰ·cast}
 use Prim.Native.Nat.{ℕ, zero, suc, _+_, _<_, _≤_}
 use native.Mathlib.Nat.{zero-add}
 use native.Mathlib.Omega.{arith}
-use borrow.Author.Tests.{eqb-true}
-use lib.Dec.{eqb}
-use lib.ListN.{length, getD, set}
-use Rattle.texts.specs.Quoted.{Text, words}
+use borrow.Author.Tests.{leb-true, ne-eqb}
+use lib.Dec.{leb, eqb}
+use lib.ListN.{length, getD}
+use Rattle.texts.specs.Quoted.{Text}
 use Rattle.texts.specs.Texts.{every, blank}
-use Rattle.texts.proofs.Bools.{both, and2}
-use Rattle.sheets.specs.Sheet.{cell, slots, cellOf, textOf}
-use Rattle.sheets.specs.Dates.{forceOf, statusTexts}
-use Rattle.sheets.specs.Lists.{statuses}
-use Rattle.sheets.proofs.InForce.{every-in}
-use Rattle.sheets.specs.declared.dates.Dates.{Dates}
-use Rattle.orders.specs.Fillings.{lists, listOf, toFill, choices, each, product, joined, fillings, Filling}
-use Rattle.orders.specs.Working.Search.{places}
-use Rattle.orders.proofs.Cells.{Sized, length-cellOf, sized-by, length-joined, cell-joined, joined-cells}
+use Rattle.texts.proofs.Bools.{both}
+use Rattle.sheets.specs.Sheet.{Sheet, cell, cellText, slots, cellOf, textOf, textMax, given}
+use Rattle.sheets.proofs.Frames.{text-cell, length-cell}
+use Rattle.fillings.specs.Fillings.{Lists, entry, Proper, toFill, choices, each, product, joined, fillings, Filling}
+use Rattle.fillings.specs.Working.Places.{places}
+use Rattle.fillings.proofs.Cells.{Sized, length-cellOf, sized-by, length-joined, cell-joined, joined-cells}
 
 -- ---- one of each list
 
@@ -89,44 +86,42 @@ length-places (suc n) i = ap suc (length-places n (suc i))
 
 -- ---- fillings
 
--- what the lists with all statuses pass, and the list in force, the lists at a date pass
-every-set : {A : Type 0} (p : A → Bool) (x : A) → p x ≡ true → (l : List A) (k : ℕ) → every p l ≡ true → every p (set l k x) ≡ true
-unfolding every
-every-set p x h [] k e = e
-every-set p x h (y ∷ ys) zero e = and2 (p x) (every p ys) h (both (p y) (every p ys) e .1)
-every-set p x h (y ∷ ys) (suc k) e = let q = both (p y) (every p ys) e in and2 (p y) (every p (set ys k x)) (q .0) (every-set p x h ys k (q .1))
+-- an entry has 1 to 25 bytes
+pub entry-sized : {L : Lists} → Proper L → (k : ℕ) (t : Text) → List·Memᴰ t (L k) → (1 ≤ length t) × (length t ≤ textMax)
+entry-sized {L} P k t m =
+    let p = both (leb 1 (length t)) (leb (length t) textMax) (every-mem entry (P .entries k) m) in
+    (leb-true 1 (length t) (p .0), leb-true (length t) textMax (p .1))
 
-pub lists-at : (D : Dates) (p : List Text → Bool) → p (statusTexts D) ≡ true → every p (lists (words statuses)) ≡ true → every p (lists (statusTexts D)) ≡ true
-lists-at D p h e = every-set p (statusTexts D) h (lists (words statuses)) 6 e
-
--- what the cells of all lists pass, each entry of a field's list passes
-pub every-listed : (D : Dates) (p : List ℕ → Bool) → every (λ (l : List Text). every (λ (t : Text). p (cell t)) l) (lists (words statuses)) ≡ true → (k : ℕ) {x : List ℕ} → List·Memᴰ x (map cell (listOf D k)) → p x ≡ true
-unfolding every listOf
-every-listed D p e k m =
-    let q : Text → Bool = λ t. p (cell t) in
-    let w = Memᴰ·of-map cell (listOf D k) m in
-    let s = every-in q (forceOf D) (every-at (λ (l : List Text). every q l) [] refl (lists (words statuses)) e 6) in
-    let r = lists-at D (λ (l : List Text). every q l) s e in
-    ap p (sym (w .2)) ∙ every-mem q (every-at (λ (l : List Text). every q l) [] refl (lists (statusTexts D)) r k) (w .1)
-
-module _ (D : Dates) (s : List ℕ) where
+module _ {L : Lists} (P : Proper L) (s : Sheet) where
   -- a field that is not blank stays
-  pub given-stays : (f : List ℕ) → Filling D s f → (k : ℕ) → k < 15 → blank (textOf s k) ≡ false → cellOf f k ≡ cellOf s k
+  pub given-stays : (f : Sheet) → Filling L s f → (k : ℕ) → k < 15 → blank (textOf s k) ≡ false → cellOf f k ≡ cellOf s k
   unfolding choices toFill
   given-stays f w k l e = List·Memᴰ·eq-of-singleton (rw (e, and-false) at (w .slot k l))
 
+  -- what is put in is no blank
+  pub choice-given : (k : ℕ) (x : List ℕ) → List·Memᴰ x (choices L s k) → not (blank (cellText x)) ≡ cond (toFill L s k) true (given s k)
+  unfolding choices given textOf
+  choice-given k x = go (toFill L s k)
+    where
+      go : (b : Bool) → List·Memᴰ x (cond b (map cell (L k)) (cellOf s k ∷ [])) → not (blank (cellText x)) ≡ cond b true (given s k)
+      go true m =
+          let w = Memᴰ·of-map cell (L k) m in
+          let z = entry-sized P k (w .0) (w .1) in
+          ap (λ (y : List ℕ). not (blank (cellText y))) (sym (w .2)) ∙ rw (text-cell (w .0), ne-eqb (length (w .0)) 0 (λ e. omega arith))
+      go false m = ap (λ (y : List ℕ). not (blank (cellText y))) (List·Memᴰ·eq-of-singleton m)
+
   module _ (sized : length s ≡ 390) where
-    choice-length : (k : ℕ) → k < 15 → (x : List ℕ) → List·Memᴰ x (choices D s k) → length x ≡ 26
-    unfolding choices every cell
-    choice-length k l x = go (toFill s k)
+    pub choice-length : (k : ℕ) → k < 15 → (x : List ℕ) → List·Memᴰ x (choices L s k) → length x ≡ 26
+    unfolding choices
+    choice-length k l x = go (toFill L s k)
       where
-        go : (b : Bool) → List·Memᴰ x (cond b (map cell (listOf D k)) (cellOf s k ∷ [])) → length x ≡ 26
-        go true m = eqb-true (length x) 26 (every-listed D (λ (c : List ℕ). eqb (length c) 26) refl k m)
+        go : (b : Bool) → List·Memᴰ x (cond b (map cell (L k)) (cellOf s k ∷ [])) → length x ≡ 26
+        go true m = let w = Memᴰ·of-map cell (L k) m in ap length (sym (w .2)) ∙ length-cell (w .0) (entry-sized P k (w .0) (w .1) .1)
         go false m = ap length (List·Memᴰ·eq-of-singleton m) ∙ length-cellOf s k (omega arith)
 
-    module _ (r : List (List ℕ)) (d : Drawn (map (choices D s) slots) r) where
-      pub drawn-choice : (k : ℕ) → k < 15 → List·Memᴰ (getD r k []) (choices D s k)
-      drawn-choice k l = subst (List·Memᴰ (getD r k [])) (at-slots (choices D s) [] k l) (drawn-at [] d k l)
+    module _ (r : List (List ℕ)) (d : Drawn (map (choices L s) slots) r) where
+      pub drawn-choice : (k : ℕ) → k < 15 → List·Memᴰ (getD r k []) (choices L s k)
+      drawn-choice k l = subst (List·Memᴰ (getD r k [])) (at-slots (choices L s) [] k l) (drawn-at [] d k l)
 
       drawn-sized : Sized r
       drawn-sized = sized-by r (λ k l. let h : k < 15 = omega (arith, length-drawn d) in choice-length k h (getD r k []) (drawn-choice k h))
@@ -134,26 +129,26 @@ module _ (D : Dates) (s : List ℕ) where
       pub drawn-cell : (k : ℕ) → k < 15 → cellOf (joined r) k ≡ getD r k []
       drawn-cell k l = cell-joined r k drawn-sized (omega (arith, length-drawn d))
 
-      drawn-filling : Filling D s (joined r)
+      drawn-filling : Filling L s (joined r)
       drawn-filling = record {
         sized = length-joined r drawn-sized ∙ omega (arith, length-drawn d);
         slot = λ k l. Memᴰ·cast (drawn-cell k l) (drawn-choice k l);
       }
 
     -- what the list holds is a filling
-    pub filling-of : (f : List ℕ) → List·Memᴰ f (fillings D s) → Filling D s f
+    pub filling-of : (f : Sheet) → List·Memᴰ f (fillings L s) → Filling L s f
     unfolding fillings
     filling-of f h =
-        let w = Memᴰ·of-map joined (product (map (choices D s) slots)) h in
-        subst (Filling D s) (w .2) (drawn-filling (w .0) (product-drawn (map (choices D s) slots) (w .0) (w .1)))
+        let w = Memᴰ·of-map joined (product (map (choices L s) slots)) h in
+        subst (Filling L s) (w .2) (drawn-filling (w .0) (product-drawn (map (choices L s) slots) (w .0) (w .1)))
 
-    cells-drawn : (f : List ℕ) → Filling D s f → (n i : ℕ) → i + n ≤ 15 → Drawn (map (choices D s) (places n i)) (map (cellOf f) (places n i))
+    cells-drawn : (f : Sheet) → Filling L s f → (n i : ℕ) → i + n ≤ 15 → Drawn (map (choices L s) (places n i)) (map (cellOf f) (places n i))
     unfolding places
     cells-drawn f w zero i b = nothing
     cells-drawn f w (suc n) i b = one (w .slot i (omega arith)) (cells-drawn f w n (suc i) (omega arith))
 
     -- and it holds each filling
-    pub of-filling : (f : List ℕ) → Filling D s f → List·Memᴰ f (fillings D s)
+    pub of-filling : (f : Sheet) → Filling L s f → List·Memᴰ f (fillings L s)
     unfolding fillings places
     of-filling f w =
         Memᴰ·cast (sym (joined-cells f (w .sized)))

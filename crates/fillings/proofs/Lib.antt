@@ -1,0 +1,12 @@
+pub mod Cells
+pub mod EveryFilling
+pub mod Distinct
+pub mod Order
+pub mod Looking
+pub mod Counting
+pub mod Levels
+pub mod Linking
+pub mod First
+pub mod Kept
+pub mod Taking
+pub mod Parting

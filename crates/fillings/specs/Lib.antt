@@ -1,0 +1,4 @@
+pub mod Fillings
+pub mod Filled
+pub mod Taken
+pub mod Working
