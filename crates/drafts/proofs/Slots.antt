@@ -1,7 +1,7 @@
 -- Slots: what one of a revision and a text reads as, and the slots after one was put in. Assumes nothing.
 use mathlib.Core.Path.{_≡_, refl, sym, ap, _∙_}
-use mathlib.Core.Bool.{Bool, true, false, not, cond, _&&_, and-true, and-false}
-use mathlib.Core.List.{List}
+use mathlib.Core.Bool.{Bool, true, false, not, _&&_, _||_}
+use mathlib.Core.List.{List, [], _∷_}
 use mathlib.Core.Logic.{inl, inr}
 use Prim.Native.Nat.{ℕ, zero, suc, _+_, _-_, _*_, _^_, _<_, _≤_, zero-le}
 use native.Mathlib.Numerals.{add-one}
@@ -83,24 +83,14 @@ pub formed-other : (d : List ℕ) → (length d ≡ draftSize → ⊥) → false
 unfolding draftFormed
 formed-other d e = simp (ne-eqb (length d) draftSize e)
 
--- of the first n slots m fit: all, exactly when m is n
-abbrev pub Counted : List ℕ → ℕ → ℕ → Type 0
-Counted d n m = (m ≤ n) × (headsFit d n ≡ eqb m n)
-
-pub counted-none : (d : List ℕ) → Counted d 0 0
+-- the loop: the first n slots fit
+pub heads-none : (d : List ℕ) → true ≡ headsFit d 0
 unfolding headsFit
-counted-none d = (zero-le, refl)
+heads-none d = refl
 
-module _ (d s : List ℕ) (n m : ℕ) (b : Bool) (c : Counted d n m) (es : s ≡ slotIn d n) (eb : b ≡ headFits s) where
-  pub counted-one : b ≡ true → Counted d (n + 1) (m + 1)
-  unfolding headsFit
-  counted-one t =
-      let next = alike (eqb m n) (eqb (m + 1) (suc n)) (λ e. eq-eqb (m + 1) (suc n) (omega (arith, eqb-true m n e))) (λ e. eq-eqb m n (omega (arith, eqb-true (m + 1) (suc n) e))) in
-      (omega arith, rw (add-one n, c .1, ← es, ← eb, t) (and-true (eqb m n) ∙ next))
-
-  pub counted-not : b ≡ false → Counted d (n + 1) m
-  unfolding headsFit
-  counted-not f = (omega arith, rw (ne-eqb m (n + 1) (λ e. omega arith), add-one n, c .1, ← es, ← eb, f) (and-false (eqb m n)))
+pub heads-more : (d s : List ℕ) (n : ℕ) (f b : Bool) → f ≡ headsFit d n → s ≡ slotIn d n → b ≡ headFits s → (f && b) ≡ headsFit d (n + 1)
+unfolding headsFit
+heads-more d s n f b e es eb = rw (add-one n, e, eb, es)
 
 pub record Formed (d : List ℕ) : Type 0 where
   pub sized : length d ≡ draftSize
@@ -159,48 +149,48 @@ unfolding headsFit
 heads-by d zero f = refl
 heads-by d (suc n) f = and2 (headsFit d n) (headFits (slotIn d n)) (heads-by d n (λ i h. f i (omega arith))) (f n (omega arith))
 
--- head_fits
-module _ (s : List ℕ) where
-  pub head-other : (length s ≡ slotSize → ⊥) → false ≡ headFits s
-  unfolding headFits
-  head-other h = simp (ne-eqb (length s) slotSize h)
+-- a text is blank exactly if its length is 0
+short-blank : (c : List ℕ) → 2 ≤ length c → eqb (length (take (1 + getD c 0 0 - 1) (drop 1 c))) 0 ≡ eqb (getD c 0 0) 0
+short-blank [] h = absurd (omega arith)
+short-blank (x ∷ []) h = absurd (omega arith)
+short-blank (zero ∷ (y ∷ r)) h = refl
+short-blank (suc x ∷ (y ∷ r)) h =
+    let e : 1 + suc x - 1 ≡ suc x = omega arith in
+    rw (e, ne-eqb (suc x) 0 (λ z. omega arith)) (ne-eqb (suc (length (take x r))) 0 (λ z. omega arith))
 
-  module _ (n : ℕ) (l : length s ≡ slotSize) (e : n ≡ slotRevision s) where
-    pub head-none : (c t : List ℕ) → n ≡ 0 → c ≡ slotCell s → t ≡ cellText c → eqb (length t) 0 ≡ headFits s
-    unfolding headFits slotText
-    head-none c t z f g = rw (l, ← e, z, g, f)
-
-    pub head-given : (n ≡ 0 → ⊥) → true ≡ headFits s
-    unfolding headFits
-    head-given z = rw (l, ← e, ne-eqb n 0 z)
-
-pub ruleset heads = (needs, head-other, head-none, head-given)
+text-blank : (s : List ℕ) → length s ≡ slotSize → blank (slotText s) ≡ eqb (getD s cellPlace 0) 0
+unfolding slotText cellText slotCell between
+text-blank s l =
+    let c = take cellSize (drop cellPlace s) in
+    let k : 2 ≤ length c = omega (arith, length-take-le cellSize (drop cellPlace s) (omega (arith, length-drop cellPlace s))) in
+    let g : getD c 0 0 ≡ getD s cellPlace 0 = getD-take cellSize (drop cellPlace s) 0 0 (omega arith) ∙ getD-drop cellPlace s 0 0 in
+    short-blank c k ∙ ap (λ (n : ℕ). eqb n 0) g
 
 -- "revision 0 with a text", as the definition and as the code ask it
-no-text : (z b : Bool) → not (z && not b) ≡ cond z b true
+no-text : (z b : Bool) → not (z && not b) ≡ (not z || b)
 no-text true true = refl
 no-text true false = refl
 no-text false b = refl
 
 slot-is : (s : List ℕ) → length s ≡ slotSize → slotFormed s ≡ (cellOk (slotCell s) && headFits s)
 unfolding slotFormed headFits
-slot-is s l = rw (l, no-text (eqb (slotRevision s) 0) (blank (slotText s)))
+slot-is s l = rw (← text-blank s l, no-text (eqb (slotRevision s) 0) (blank (slotText s)))
 
-pub tested : (d : List ℕ) (n m : ℕ) (q : Bool) → Counted d n m → n ≤ slotCount → slotCount ≤ n → length d ≡ draftSize → q ≡ cellsAt slotSize slotCount d cellPlace → (eqb m slotCount && q) ≡ draftFormed d
-tested d n m q c l h z e = alike (eqb m slotCount && q) (draftFormed d) forth back
+pub tested : (d : List ℕ) (n : ℕ) (f q : Bool) → f ≡ headsFit d n → n ≤ slotCount → slotCount ≤ n → length d ≡ draftSize → q ≡ cellsAt slotSize slotCount d cellPlace → (f && q) ≡ draftFormed d
+tested d n f q c l h z e = alike (f && q) (draftFormed d) forth back
   where
     k : n ≡ slotCount
     k = omega arith
 
-    all : headsFit d slotCount ≡ eqb m slotCount
-    all = rw (← k) (c .1)
+    all : headsFit d slotCount ≡ f
+    all = rw (← k) (sym c)
 
     slot-at : (i : ℕ) → i < slotCount → slotFormed (slotIn d i) ≡ (cellAt d (cellPlace + i * slotSize) && headFits (slotIn d i))
     slot-at i h = slot-is (slotIn d i) (length-slot-in d z i h) ∙ rw (slot-inside d z i h)
 
-    forth : (eqb m slotCount && q) ≡ true → draftFormed d ≡ true
+    forth : (f && q) ≡ true → draftFormed d ≡ true
     forth t =
-        let p = both (eqb m slotCount) q t in
+        let p = both f q t in
         formed-by d (
         record {
           sized = z;
@@ -208,10 +198,10 @@ tested d n m q c l h z e = alike (eqb m slotCount && q) (draftFormed d) forth ba
         }
         )
 
-    back : draftFormed d ≡ true → (eqb m slotCount && q) ≡ true
+    back : draftFormed d ≡ true → (f && q) ≡ true
     back t =
-        let f = formed-means d t in
-        let each : (i : ℕ) → i < slotCount → (cellAt d (cellPlace + i * slotSize) ≡ true) × (headFits (slotIn d i) ≡ true) = λ i j. both _ (headFits (slotIn d i)) (sym (slot-at i j) ∙ f .slot i j) in
-        and2 (eqb m slotCount) q (sym all ∙ heads-by d slotCount (λ i j. each i j .1)) (e ∙ cells-by slotSize d slotCount cellPlace (λ i j. each i j .0))
+        let w = formed-means d t in
+        let each : (i : ℕ) → i < slotCount → (cellAt d (cellPlace + i * slotSize) ≡ true) × (headFits (slotIn d i) ≡ true) = λ i j. both _ (headFits (slotIn d i)) (sym (slot-at i j) ∙ w .slot i j) in
+        and2 f q (sym all ∙ heads-by d slotCount (λ i j. each i j .1)) (e ∙ cells-by slotSize d slotCount cellPlace (λ i j. each i j .0))
 
-pub ruleset forms = (needs, formed-other, counted-none, counted-one, counted-not, tested)
+pub ruleset forms = (needs, formed-other, heads-none, heads-more, tested)

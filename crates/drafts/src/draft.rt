@@ -85,37 +85,27 @@ fn slot_cell(slot: &[u8]) -> &[u8]
     part(slot, CELL_PLACE, SLOT_SIZE)
 }
 
-// "revision 0 with a text" is none of the slot's. The test of the size tells the compiler where its parts stand.
+// Not "revision 0 with a text": the text's length is asked, and no branch is taken, since which slots are given is hard to foretell.
 fn head_fits(slot: &[u8]) -> bool
     ensures { λ r. ⌜ r ≡ headFits (now (slot .entry)) ⌝ }
 {
-    if slot.len() != SLOT_SIZE {
-        return false;
-    }
-    if slot_revision(slot).number == 0 {
-        cell_text(slot_cell(slot)).len() == 0
-    } else {
-        true
-    }
+    (slot_revision(slot).number != 0) | (at(slot, CELL_PLACE) == 0)
 }
 
-// "Malformed: another size, a length above 25, a nonzero pad byte; in a draft also revision 0 with a text". The slots
-// whose revision fits are counted, since a chain of tests that all must pass is compiled to a branch for each.
+// "Malformed: another size, a length above 25, a nonzero pad byte; in a draft also revision 0 with a text".
 pub fn well_formed(draft: &[u8]) -> bool
     ensures { λ r. ⌜ r ≡ draftFormed (now (draft .entry)) ⌝ }
 {
     if draft.len() != DRAFT_SIZE {
         return false;
     }
-    let mut fits: u8 = 0;
+    let mut fits = true;
     let mut slot: u8 = 0;
     while slot < SLOT_COUNT {
-        if head_fits(slot_in(draft, slot)) {
-            fits += 1;
-        }
+        fits = fits & head_fits(slot_in(draft, slot));
         slot += 1;
     }
-    (fits == SLOT_COUNT) & cells_ok(draft, FIRST_CELL, SLOT_STEP)
+    fits & cells_ok(draft, FIRST_CELL, SLOT_STEP)
 }
 
 // "Fresh: all zero".
