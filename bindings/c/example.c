@@ -1,8 +1,8 @@
 /* A small order: its messages are written, posted in the order of their arrival,
- * tested and completed, and the sheet is printed; then a correction dated back; the
- * bank's charge for a few amounts, parts of a year, a year's amount shared among its
- * months, the pooled lines of a register, and which payments leave first. The program
- * checks its own results and returns 1 if one is not as expected. */
+ * tested and completed, and the sheet is printed; then a correction dated back, also
+ * completed quickly; the bank's charge for a few amounts, parts of a year, a year's amount
+ * shared among its months, the pooled lines of a register, and which payments leave first.
+ * The program checks its own results and returns 1 if one is not as expected. */
 
 #include <inttypes.h>
 #include <stdio.h>
@@ -16,7 +16,8 @@ _Static_assert(sizeof(kieselbrot_read_answer) == 24, "the answers' layout");
 _Static_assert(sizeof(kieselbrot_write_answer) == 16, "the answers' layout");
 _Static_assert(sizeof(kieselbrot_post_answer) == 2, "the answers' layout");
 _Static_assert(sizeof(kieselbrot_pretest_answer) == 3, "the answers' layout");
-_Static_assert(sizeof(kieselbrot_complete_answer) == 24, "the answers' layout");
+_Static_assert(sizeof(kieselbrot_complete_answer) == 32, "the answers' layout");
+_Static_assert(sizeof(kieselbrot_quick_answer) == 32, "the answers' layout");
 _Static_assert(sizeof(kieselbrot_charge_answer) == 16, "the answers' layout");
 _Static_assert(sizeof(kieselbrot_part_answer) == 16, "the answers' layout");
 _Static_assert(sizeof(kieselbrot_pool_answer) == 24, "the answers' layout");
@@ -155,6 +156,25 @@ static const uint8_t *status(const uint8_t *sheet)
     return sheet + 6 * KIESELBROT_SHEET_SLOT_SIZE + 1;
 }
 
+/* Completes a draft quickly; answer and sheet must be those of completing it, with so many
+ * statuses skipped. */
+static void expect_quick(const uint8_t *draft, uint32_t dated, size_t skipped)
+{
+    uint8_t sheet[KIESELBROT_SHEET_SIZE] = {0}, slow[KIESELBROT_SHEET_SIZE] = {0};
+    const kieselbrot_complete_answer completed =
+        kieselbrot_complete(draft, KIESELBROT_DRAFT_SIZE, slow, sizeof slow, dated, given);
+    const kieselbrot_quick_answer quick =
+        kieselbrot_quick(draft, KIESELBROT_DRAFT_SIZE, sheet, sizeof sheet, dated, given);
+    printf("quickly, dated %" PRIu32 ": number %d, count %lu, skipped %lu\n", dated,
+           quick.number, (unsigned long)quick.count, (unsigned long)quick.skipped);
+    expect(quick.number == completed.number && quick.field == completed.field &&
+               quick.rule == completed.rule && quick.set == completed.set &&
+               quick.ones == completed.ones && quick.count == completed.count,
+           "a quick completion");
+    expect(memcmp(sheet, slow, sizeof sheet) == 0, "its sheet");
+    expect(quick.skipped == skipped, "the statuses that it skipped");
+}
+
 /* Tests a draft that no filling can save, and completes it all the same. */
 static void expect_hopeless(const uint8_t *draft, uint8_t field, uint8_t rule)
 {
@@ -167,6 +187,7 @@ static void expect_hopeless(const uint8_t *draft, uint8_t field, uint8_t rule)
     const kieselbrot_complete_answer none =
         kieselbrot_complete(draft, KIESELBROT_DRAFT_SIZE, sheet, sizeof sheet, date, given);
     expect(none.number == KIESELBROT_NO_FILLING && none.count == 1056, "its completion");
+    expect_quick(draft, date, 22);
 }
 
 /* What is refused, and that nothing changes. */
@@ -248,6 +269,10 @@ static void date_back(const uint8_t *draft)
     proposed = propose(correction, sheet, back);
     expect(proposed.number == KIESELBROT_OK && proposed.count == 49, "the order dated back");
     expect(memcmp(status(sheet), "02", 2) == 0, "its status of the year before");
+    /* rule 23 fails for 01; 03, which 108 refuses, is tried */
+    expect_quick(correction, date, 1);
+    expect_quick(correction, back, 1);
+    expect_quick(correction, KIESELBROT_ORDER_DATE_MIN - 1, 0);
 
     expect(kieselbrot_check(sheet, sizeof sheet, back, given).class_ == 'A', "02 at its date");
     checked = kieselbrot_check(sheet, sizeof sheet, date, given);
@@ -446,6 +471,7 @@ int main(void)
            completed.ones);
     expect(completed.number == KIESELBROT_OK && completed.count == 1, "completing");
     expect(completed.ones == 7 && completed.set == 0x7C48, "the filled slots");
+    expect_quick(draft, date, 0);
     print_sheet(sheet);
 
     const kieselbrot_check_answer checked = kieselbrot_check(sheet, sizeof sheet, date, given);

@@ -193,7 +193,12 @@ typedef struct {
     uint32_t ones;  /* how many bits of the set are set */
     size_t count;   /* the count of fillings up to and including the sheet; with
                      * 10: the count of all fillings, at most 960 to 1,104 by the date */
+    size_t skipped; /* with 0: how many statuses up to the sheet's were skipped; with 10:
+                     * how many of all, at most 20 to 23 by the date */
 } kieselbrot_complete_answer;
+
+/* The same: completion is quick. */
+typedef kieselbrot_complete_answer kieselbrot_quick_answer;
 
 /* The answer of a charge. */
 typedef struct {
@@ -262,10 +267,24 @@ kieselbrot_pretest_answer kieselbrot_pretest(const uint8_t *draft, size_t draft_
 /* Completes a draft: writes the first filling that keeps all rules to the sheet,
  * whatever that held. A blank 101 is filled with the statuses that the date allows, as
  * in a check, in ascending order. They are 20 to 23, so that there are at most 960 to
- * 1,104 fillings. Refused in this order: 1, 7, 12, 8, 9, 10. */
+ * 1,104 fillings. Refused in this order: 1, 7, 12, 8, 9, 10.
+ *
+ * All fillings of a status are skipped, and counted, if one of rules 5, 7 to 14, 16, 19
+ * to 24, 27, 28 and 30, which read neither 106, 108 nor 109, fails for it. Skipped are
+ * exactly these statuses: with a sheet of those up to the sheet's, with 10 of all that the
+ * date allows; a given 101 is the only one. */
 kieselbrot_complete_answer kieselbrot_complete(const uint8_t *draft, size_t draft_len,
                                                uint8_t *sheet, size_t sheet_len, uint32_t date,
                                                kieselbrot_record record);
+
+/* The quick search: another name for kieselbrot_complete, whose answer has the number of
+ * skipped statuses. */
+static inline kieselbrot_quick_answer kieselbrot_quick(const uint8_t *draft, size_t draft_len,
+                                                       uint8_t *sheet, size_t sheet_len,
+                                                       uint32_t date, kieselbrot_record record)
+{
+    return kieselbrot_complete(draft, draft_len, sheet, sheet_len, date, record);
+}
 
 /* The bank's charge for an amount: amount times rate over 10,000, halves upward to
  * the whole kopeck, raised to the least, then lowered to the greatest. The amount is

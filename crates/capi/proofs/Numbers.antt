@@ -31,6 +31,9 @@ use Rattle.drafts.specs.declared.draft.Copied.{Copied}
 use Rattle.drafts.proofs.Messages.{readable-means, reading-is, text-length}
 use Rattle.orders.specs.Complete.{completeAnswer, sheetTests, completeTests, completing}
 use Rattle.orders.specs.Whole.{Completes}
+use Rattle.orders.specs.Skipping.{skippedOf, withSkipped, quickening, quickAnswer, Quickens}
+use Rattle.orders.specs.declared.quick.Quickened.{Quickened}
+use Rattle.drafts.specs.Draft.{draftSheet}
 use Rattle.orders.specs.Pretest.{pretestAnswer, pretestTests, pretesting, Pretests}
 use Rattle.orders.specs.declared.pretest.Pretested.{Pretested}
 use Rattle.amounts.specs.Charge.{chargeTests, charging, chargeAnswer, Charges}
@@ -46,6 +49,10 @@ use Rattle.payments.specs.Leave.{leaveTests, leaving, leaveAnswer, Leaves}
 use Rattle.payments.specs.declared.leave.Leaving.{Leaving}
 use Rattle.registers.specs.declared.pool.Pooled.the-variants.{Differs}
 use Rattle.orders.specs.declared.complete.Completed.{Completed}
+use Rattle.orders.specs.declared.complete.Completed.the-variants.{Filled, Impossible, Broken, Refused}
+use Rattle.sheets.specs.declared.sheet.Field.{Field}
+use Rattle.rules.specs.declared.rules.RuleNumber.{RuleNumber}
+use Rattle.texts.specs.declared.answers.Refusal.{Refusal}
 use Rattle.capi.specs.Numbers.{numbered, numberAnswer, checkNumbers, checkOf, readNumbers, readOf, writeNumbers, writeOf, postNumbers, wordOf, postOf, completeNumbers, completeOf, pretestNumbers, pretestOf, chargeNumbers, chargeOf, partNumbers, partOf, poolNumbers, poolOf, leaveNumbers, leaveOf}
 use Rattle.capi.specs.Promises.{CheckReturns, ReadReturns, WriteReturns, FreshReturns, PostReturns, CopyReturns, CompleteReturns, PretestReturns, ChargeReturns, PartReturns, SharesReturns, PoolReturns, LeaveReturns}
 use Rattle.capi.specs.declared.Check.{Check}
@@ -115,9 +122,10 @@ check-back : (D : Dates) (s : List ℕ) → Back checkNumbers checkOf (checked D
 unfolding checked checkTests checkNumbers checkOf numbered
 check-back D s = tested (Back checkNumbers checkOf) (checkTests D s) _ (class-back (classOf s)) (search depth 12)
 
-complete-back : (D : Dates) (d b : List ℕ) → Back completeNumbers completeOf (completing D d b)
-unfolding completing completeTests sheetTests completeNumbers completeOf numbered
-complete-back D d b = tested (Back completeNumbers completeOf) (completeTests D d b) _ refl (search depth 12)
+complete-back : (D : Dates) (d b : List ℕ) → Back completeNumbers completeOf (quickening D d b)
+unfolding quickening withSkipped completing completeTests sheetTests completeNumbers completeOf numbered
+complete-back D d b =
+    tested (λ (a : Answer). Back completeNumbers completeOf (withSkipped (skippedOf D (draftSheet d)) a)) (completeTests D d b) _ refl (search depth 12)
 
 pretest-back : (D : Dates) (d : List ℕ) → Back pretestNumbers pretestOf (pretesting D d)
 unfolding pretesting pretestTests pretestNumbers pretestOf numbered
@@ -205,9 +213,41 @@ module _ (d s : List ℕ) (v : Copied) (x : List ℕ) (p : Copies d s v x) (k : 
   pub copied-is : CopyReturns d s r x
   copied-is = record { numbers = cc; answer = cc (copy-back d s); sheet = p .sheet }
 
-module _ (D E : Dates) (z : E ≡ D) (d b : List ℕ) (v : Completed) (x : List ℕ) (p : Completes E d b v x) (k : Completed) (e : v ≡ k) (r : Complete) (q : r ≡ completeNumbers (completeAnswer k)) where
+abbrev noComplete : ℕ → Complete
+noComplete n = record { number = n; field = 0; rule = 0; set = 0; ones = 0; count = 0; skipped = 0 }
+
+module _ (D E : Dates) (z : E ≡ D) (d b : List ℕ) (v : Quickened) (x : List ℕ) (p : Quickens E d b v x) (k : Completed) (e : v .completed ≡ k) (r : Complete) (q : r ≡ completeNumbers (withSkipped (v .skipped) (completeAnswer k))) where
+  numbers-complete : r ≡ completeNumbers (quickening D d b)
+  unfolding quickAnswer
+  numbers-complete = q ∙ ap (λ (c : Completed). completeNumbers (withSkipped (v .skipped) (completeAnswer c))) (sym e) ∙ ap completeNumbers (p .answer) ∙ ap (λ (F : Dates). completeNumbers (quickening F d b)) z
+
   pub completed-is : CompleteReturns D d b r x
-  completed-is = record { numbers = cc; answer = cc (complete-back D d b); sheet = cc (p .sheet) }
+  completed-is = record {
+    numbers = numbers-complete;
+    answer = ap completeOf numbers-complete ∙ complete-back D d b;
+    sheet = cc (p .completes .sheet);
+  }
+
+module _ (D E : Dates) (z : E ≡ D) (d b : List ℕ) (v : Quickened) (x : List ℕ) (p : Quickens E d b v x) where
+  pub complete-filled : (n set k : ℕ) → v .completed ≡ Filled n set k → CompleteReturns D d b (record { number = 0; field = 0; rule = 0; set = set; ones = k; count = n; skipped = v .skipped }) x
+  unfolding withSkipped completeAnswer completeNumbers
+  complete-filled n set k e = completed-is D E z d b v x p (Filled n set k) e _ refl
+
+  pub complete-impossible : (n : ℕ) → v .completed ≡ Impossible n → CompleteReturns D d b (record { number = 10; field = 0; rule = 0; set = 0; ones = 0; count = n; skipped = v .skipped }) x
+  unfolding withSkipped completeAnswer completeNumbers
+  complete-impossible n e = completed-is D E z d b v x p (Impossible n) e _ refl
+
+  pub complete-broken : (f : Field) (r : RuleNumber) → v .completed ≡ Broken f r → CompleteReturns D d b (record { number = 8; field = f .0; rule = r .0; set = 0; ones = 0; count = 0; skipped = 0 }) x
+  unfolding withSkipped completeAnswer completeNumbers
+  complete-broken f r e = completed-is D E z d b v x p (Broken f r) e _ refl
+
+  pub complete-refused : (n : Refusal) → v .completed ≡ Refused n → CompleteReturns D d b (record { number = n .0; field = 0; rule = 0; set = 0; ones = 0; count = 0; skipped = 0 }) x
+  unfolding withSkipped completeAnswer completeNumbers
+  complete-refused n e = completed-is D E z d b v x p (Refused n) e _ (sym (go (eqb (n .0) 8)))
+    where
+      go : (c : Bool) → cond c (noComplete (n .0)) (noComplete (n .0)) ≡ noComplete (n .0)
+      go true = refl
+      go false = refl
 
 module _ (d : List ℕ) (v : Pretested) (p : (D : Dates) → Pretests D d v) (k : Pretested) (e : v ≡ k) (r : Pretest) (q : r ≡ pretestNumbers (pretestAnswer k)) where
   pub pretested-is : (D : Dates) → PretestReturns D d r

@@ -79,19 +79,19 @@ wordOf l =
 unfoldable pub postOf : Post → Answer
 postOf r = numbered (r .number) (wordOf (r .standing)) []
 
--- one value of a refusal is a count, two are a field and a rule
+-- with the number of skipped statuses (R-14): 8 has the field and the rule beside it, 10 the count and that number, another refusal nothing
 unfoldable pub completeNumbers : Answer → Complete
-completeNumbers (success vs) = record { number = 0; field = 0; rule = 0; set = getD vs 1 0; ones = getD vs 2 0; count = getD vs 0 0 }
-completeNumbers (refusal n []) = record { number = n; field = 0; rule = 0; set = 0; ones = 0; count = 0 }
-completeNumbers (refusal n (k ∷ [])) = record { number = n; field = 0; rule = 0; set = 0; ones = 0; count = k }
-completeNumbers (refusal n (f ∷ r ∷ vs)) = record { number = n; field = f; rule = r; set = 0; ones = 0; count = 0 }
+completeNumbers (success vs) = record { number = 0; field = 0; rule = 0; set = getD vs 1 0; ones = getD vs 2 0; count = getD vs 0 0; skipped = getD vs 3 0 }
+completeNumbers (refusal n vs) =
+    cond (eqb n 8)
+    (record { number = n; field = getD vs 0 0; rule = getD vs 1 0; set = 0; ones = 0; count = 0; skipped = 0 })
+    (record { number = n; field = 0; rule = 0; set = 0; ones = 0; count = getD vs 0 0; skipped = getD vs 1 0 })
 
--- number 8 has the field and the rule beside it, 10 the count, another refusal nothing
 unfoldable pub completeOf : Complete → Answer
 completeOf r =
     numbered (r .number)
-    (r .count ∷ r .set ∷ r .ones ∷ [])
-    (cond (eqb (r .number) 8) (r .field ∷ r .rule ∷ []) (cond (eqb (r .number) 10) (r .count ∷ []) []))
+    (r .count ∷ r .set ∷ r .ones ∷ r .skipped ∷ [])
+    (cond (eqb (r .number) 8) (r .field ∷ r .rule ∷ []) (cond (eqb (r .number) 10) (r .count ∷ r .skipped ∷ []) []))
 
 -- the field and the rule that are named, with success and with 8
 unfoldable pub pretestNumbers : Answer → Pretest

@@ -11,7 +11,8 @@ use Rattle.sheets.specs.declared.dates.Dates.{Dates}
 use Rattle.rules.specs.Verdicts.{checked}
 use Rattle.drafts.specs.Message.{messageText, readable, readingOf, writingOf, writtenOf}
 use Rattle.drafts.specs.Draft.{beginningOf, begunFrom, postingOf, postedTo, copyingOf, copiedTo}
-use Rattle.orders.specs.Complete.{completing, completed}
+use Rattle.orders.specs.Complete.{completed}
+use Rattle.orders.specs.Skipping.{quickening}
 use Rattle.orders.specs.Pretest.{pretesting}
 use Rattle.amounts.specs.Charge.{charging}
 use Rattle.amounts.specs.Part.{parting}
@@ -67,10 +68,10 @@ pub record CopyReturns (d s : List ℕ) (r : ℕ) (e : List ℕ) : Type 0 where
   pub answer : numberAnswer r ≡ copyingOf d s
   pub sheet : e ≡ copiedTo d s
 
--- completing d into the buffer b returned r and left e
+-- completing d into the buffer b returned r, with the number of skipped statuses, and left e
 pub record CompleteReturns (D : Dates) (d b : List ℕ) (r : Complete) (e : List ℕ) : Type 0 where
-  pub numbers : r ≡ completeNumbers (completing D d b)
-  pub answer : completeOf r ≡ completing D d b
+  pub numbers : r ≡ completeNumbers (quickening D d b)
+  pub answer : completeOf r ≡ quickening D d b
   pub sheet : e ≡ completed D d b
 
 -- testing the draft d ahead of completion returned r

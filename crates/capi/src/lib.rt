@@ -63,6 +63,7 @@ pub struct Complete {
     pub set: u16,
     pub ones: u32,
     pub count: usize,
+    pub skipped: usize,
 }
 
 #[repr(C)]
@@ -260,6 +261,7 @@ pub extern "C" fn kieselbrot_copy(draft: &[u8], sheet: &mut [u8]) -> u8
     }
 }
 
+// With how many statuses were skipped (R-14): what `quick` answers. One function of C's, so that the search is compiled into it.
 #[no_mangle]
 pub extern "C" fn kieselbrot_complete(
     draft: &[u8],
@@ -269,8 +271,9 @@ pub extern "C" fn kieselbrot_complete(
 ) -> Complete
     ensures { λ r. ⌜ CompleteReturns (datesOf date entries) (now (draft .entry)) (now (sheet .entry)) r (now (sheet .exit)) ⌝ }
 {
-    let v = orders::complete::complete(draft, sheet, dates_of(date, entries));
-    match v {
+    let v = orders::quick::quick(draft, sheet, dates_of(date, entries));
+    let completed = v.completed;
+    match completed {
         Completed::Filled { count, set, ones } => Complete {
             number: 0,
             field: 0,
@@ -278,6 +281,7 @@ pub extern "C" fn kieselbrot_complete(
             set: set,
             ones: ones,
             count: count,
+            skipped: v.skipped,
         },
         Completed::Impossible(n) => Complete {
             number: 10,
@@ -286,6 +290,7 @@ pub extern "C" fn kieselbrot_complete(
             set: 0,
             ones: 0,
             count: n,
+            skipped: v.skipped,
         },
         Completed::Broken(f, r) => Complete {
             number: 8,
@@ -294,6 +299,7 @@ pub extern "C" fn kieselbrot_complete(
             set: 0,
             ones: 0,
             count: 0,
+            skipped: 0,
         },
         Completed::Refused(n) => Complete {
             number: n.0,
@@ -302,6 +308,7 @@ pub extern "C" fn kieselbrot_complete(
             set: 0,
             ones: 0,
             count: 0,
+            skipped: 0,
         },
     }
 }

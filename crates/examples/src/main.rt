@@ -6,7 +6,8 @@ use drafts::message::read;
 use libc::STDIN_FILENO;
 use libc::STDOUT_FILENO;
 use orders::complete::Completed;
-use orders::stream::complete_stream;
+use orders::quick::quick;
+use orders::stream::gather;
 use report::REPORT_SIZE;
 use report::report;
 use rules::check::Verdict;
@@ -78,11 +79,20 @@ fn write_item(n: u64) {
     io::print_decimal(STDOUT_FILENO, n);
 }
 
-// Kind 'o': messages are posted to a fresh draft, and that is completed at the dates before them.
-fn run_order(input: &[u8], dates: Dates) {
+fn write_skipped(n: usize, quickly: bool) {
+    if quickly {
+        write_item(n as u64);
+    }
+}
+
+// Kind 'o': messages are posted to a fresh draft, and that is completed at the dates before them. Kind 'q': with the number of skipped
+// statuses, where there is a sheet or 10.
+fn run_order(input: &[u8], dates: Dates, quickly: bool) {
+    let draft = gather(input);
     let mut sheet = [0u8; SHEET_SIZE];
-    let answer = complete_stream(input, &mut sheet, dates);
-    match answer {
+    let answer = quick(&draft, &mut sheet, dates);
+    let completed = answer.completed;
+    match completed {
         Completed::Filled { count, set, ones } => {
             io::write_all(STDOUT_FILENO, b"ok");
             write_item(count as u64);
@@ -90,10 +100,12 @@ fn run_order(input: &[u8], dates: Dates) {
             write_item(ones as u64);
             io::write_all(STDOUT_FILENO, b" ");
             write_text(text(&sheet, 6));
+            write_skipped(answer.skipped, quickly);
         }
         Completed::Impossible(n) => {
             write_number(10);
             write_item(n as u64);
+            write_skipped(answer.skipped, quickly);
         }
         Completed::Broken(f, r) => {
             write_number(8);
@@ -133,7 +145,10 @@ fn run_case(kind: u8, bytes: &[u8]) {
         run_check(part(bytes, 16, bytes.len()), dates_of(bytes));
     }
     if kind == b'o' {
-        run_order(part(bytes, 16, bytes.len()), dates_of(bytes));
+        run_order(part(bytes, 16, bytes.len()), dates_of(bytes), false);
+    }
+    if kind == b'q' {
+        run_order(part(bytes, 16, bytes.len()), dates_of(bytes), true);
     }
     if kind == b'm' {
         run_message(bytes);

@@ -38,7 +38,7 @@ choice-once {L} P s k = go (toFill L s k)
     go false = refl
 
 -- of a list in which x is not, no member is x
-any-member : {A : Type 0} (p : A → Bool) {l : List A} {y : A} → List·Memᴰ y l → p y ≡ true → any p l ≡ true
+pub any-member : {A : Type 0} (p : A → Bool) {l : List A} {y : A} → List·Memᴰ y l → p y ≡ true → any p l ≡ true
 unfolding any
 any-member p (List·Memᴰ·head {x = x} {xs = l} e) h = rw (← e, h)
 any-member p (List·Memᴰ·tail {x = x} {xs = l} m) h = rw (any-member p m h) (or-true (p x))

@@ -39,7 +39,7 @@ module _ {A : Type 0} where
   product-drawn [] r h = subst (Drawn []) (sym (List·Memᴰ·eq-of-singleton h)) nothing
   product-drawn (c ∷ cs) r h = let w = each-cases c (product cs) r h in subst (Drawn (c ∷ cs)) (w .4) (one (w .2) (product-drawn cs (w .1) (w .3)))
 
-  each-holds : {c : List A} {x : A} → List·Memᴰ x c → (rest : List (List A)) (r : List A) → List·Memᴰ r rest → List·Memᴰ (x ∷ r) (each c rest)
+  pub each-holds : {c : List A} {x : A} → List·Memᴰ x c → (rest : List (List A)) (r : List A) → List·Memᴰ r rest → List·Memᴰ (x ∷ r) (each c rest)
   each-holds (List·Memᴰ·head {x = y} {xs = ys} e) rest r q =
       Memᴰ·append-left (each ys rest) (Memᴰ·cast (ap (λ (z : A). z ∷ r) e) (Memᴰ·map (λ (t : List A). y ∷ t) q))
   each-holds (List·Memᴰ·tail {x = y} m) rest r q = Memᴰ·append-right (map (λ (t : List A). y ∷ t) rest) (each-holds m rest r q)

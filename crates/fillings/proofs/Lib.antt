@@ -2,6 +2,7 @@ pub mod Cells
 pub mod EveryFilling
 pub mod Distinct
 pub mod Order
+pub mod Upto
 pub mod Looking
 pub mod Counting
 pub mod Levels

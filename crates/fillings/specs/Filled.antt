@@ -14,10 +14,10 @@ bits L s (k ∷ ks) = cond (toFill L s k) (2 ^ k) 0 + bits L s ks
 unfoldable pub setOf : Lists → Sheet → ℕ
 setOf L s = bits L s slots
 
--- how many of some slots pass a test
-abbrev pub tally : (ℕ → Bool) → List ℕ → ℕ
+-- how many of a list pass a test
+abbrev pub tally : {A : Type 0} → (A → Bool) → List A → ℕ
 tally p [] = 0
-tally p (k ∷ ks) = cond (p k) 1 0 + tally p ks
+tally p (x ∷ xs) = cond (p x) 1 0 + tally p xs
 
 -- "a 16-bit set of the filled slots (bit i for slot i), and how many bits are set": bit i is 1 exactly if slot i is blank and has a list
 pub record FilledSet (L : Lists) (s : Sheet) (set k : ℕ) : Type 0 where

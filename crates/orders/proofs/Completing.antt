@@ -1,4 +1,4 @@
--- What `complete` and `pretest` begin with, and the ways through `complete`. Assumes nothing.
+-- What `quick` and `pretest` begin with, and what `quick` completes to. Assumes nothing.
 use mathlib.Core.Path.{_≡_, refl, sym, ap, _∙_, subst}
 use mathlib.Core.Bool.{Bool, true, false, not, cond}
 use mathlib.Core.List.{List, [], _∷_}
@@ -28,26 +28,15 @@ use Rattle.fillings.specs.Fillings.{Look, found, none}
 use Rattle.fillings.specs.Working.Parts.{mapLook}
 use Rattle.orders.specs.Fillings.{firstFilling, setOf}
 use Rattle.orders.specs.Working.Search.{Payment, firstPick}
-use Rattle.orders.specs.Working.Found.{pickOf, foundOf}
+use Rattle.orders.specs.Working.Found.{pickOf}
 use Rattle.orders.specs.Working.Entering.{baseOf, pickedOf}
 use Rattle.orders.specs.Complete.{budgetPayment, completeAnswer, sheetTests, completeTests, completing, completed}
 use Rattle.orders.specs.Whole.{Completes}
 use Rattle.orders.specs.declared.search.Pick.{Pick}
-use Rattle.orders.specs.declared.search.Found.{Found}
-use Rattle.orders.specs.declared.search.Found.the-variants.{Place, Nothing}
 use Rattle.orders.specs.declared.complete.Completed.{Completed}
 use Rattle.orders.specs.declared.complete.Completed.the-variants.{Filled, Impossible, Broken, Refused}
 use Rattle.orders.proofs.Keeping.{base-budget, base-basic, base-broken, base-length, first-is, picked-length}
 use Rattle.orders.proofs.Whole.{completes-by, basic-numbered, length-draftSheet, answer-is, sheet-is, lookAnswer, lookSheet}
-
--- what the search answered
-place-cases : (l : Look (List ℕ)) (n : ℕ) (p : Pick) → Place n p ≡ foundOf l → (q : List ℕ) × (l ≡ found n q) × (p ≡ pickOf q)
-place-cases (found m q) n p e = (q, cc, cc)
-place-cases (none m) n p e = let z : _≡_ {A = ℕ} 0 1 = cc in absurd (omega arith)
-
-none-cases : (l : Look (List ℕ)) (n : ℕ) → Nothing n ≡ foundOf l → l ≡ none n
-none-cases (found m q) n e = let z : _≡_ {A = ℕ} 0 1 = cc in absurd (omega arith)
-none-cases (none m) n e = cc
 
 -- the fields of rules 1 to 3 are the same of every sheet
 basic-field : (D : Dates) (s t : List ℕ) (n : ℕ) → firstBroken D s basic ≡ n → fieldOf rules n s ≡ fieldOf rules n t
@@ -60,7 +49,7 @@ basic-field D s t n e = rw (← e) (go (keeps D s 1) (keeps D s 2) (keeps D s 3)
     go true false c = refl
     go false b c = refl
 
--- ---- what `complete` and `pretest` begin with
+-- ---- what `quick` and `pretest` begin with
 
 -- the well-formed draft d has the sheet s, of which the base is u; the facts x are read of that, and g is the first of rules 1 to 3 broken
 pub record Prepared (D : Dates) (d s u : List ℕ) (x : Facts) (g : RuleNumber) : Type 0 where
@@ -96,7 +85,7 @@ module _ {D : Dates} {d s u : List ℕ} {x : Facts} {g : RuleNumber} (B : Prepar
   unfolding budgetPayment
   pays-by y p = rw (kept-by y, p)
 
--- ---- the ways through `complete`
+-- ---- what `quick` completes to
 
 -- a refusal leaves the buffer
 refuses : (D : Dates) (d b : List ℕ) (r : Completed) (n : ℕ) (vs : List ℕ) → completeAnswer r ≡ refusal n vs → refusal n vs ≡ completing D d b → Completes D d b r b
@@ -138,12 +127,13 @@ module _ {D : Dates} {d s u : List ℕ} {x : Facts} {g : RuleNumber} (b : List �
         let p : budget (draftSheet d) ≡ false = sym (class-is B r hr) ∙ not-true r t in
         refuses D d b (Refused (record { 0 = 9 })) 9 [] refl (sym (simp (B .formed, eq-eqb (length b) 390 z, fit, B .first ∙ y, p)))
 
-    module _ (t : not r ≡ false) (m : Found) (hm : (D : Dates) (v : List ℕ) → Payment D x v → m ≡ foundOf (firstPick D v)) where
+    module _ (t : not r ≡ false) where
       pays : budget (draftSheet d) ≡ true
       pays = sym (class-is B r hr) ∙ not-false r t
 
-      picks : m ≡ foundOf (firstPick D (baseOf (draftSheet d)))
-      picks = hm D (baseOf (draftSheet d)) (record { read = B .read; class = base-budget D (draftSheet d) (B .size) ∙ pays; basics = base-basic D (draftSheet d) (B .size) ∙ kept-by B y })
+      -- the facts are a payment's
+      pub payment-is : Payment D x (baseOf (draftSheet d))
+      payment-is = record { read = B .read; class = base-budget D (draftSheet d) (B .size) ∙ pays; basics = base-basic D (draftSheet d) (B .size) ∙ kept-by B y }
 
       -- what the search found, as a look through the fillings
       looks : (l : Look (List ℕ)) → firstPick D (baseOf (draftSheet d)) ≡ l → (o : Look (List ℕ)) → o ≡ mapLook (pickedOf D (baseOf (draftSheet d))) l
@@ -153,16 +143,14 @@ module _ {D : Dates} {d s u : List ℕ} {x : Facts} {g : RuleNumber} (b : List �
           let paid = pays-by B y pays in
           (ap (lookAnswer D (draftSheet d)) (sym f) ∙ sym (answer-is D d b (B .formed) z fit paid), ap (lookSheet b) (sym f) ∙ sym (sheet-is D d b (B .formed) z fit paid))
 
-      pub refused-10 : (n : ℕ) → m ≡ Nothing n → Completes D d b (Impossible n) b
+      pub refused-10 : (n : ℕ) → firstPick D (baseOf (draftSheet d)) ≡ none n → Completes D d b (Impossible n) b
       unfolding completeAnswer
-      refused-10 n e =
-          let l = looks (none n) (none-cases (firstPick D (baseOf (draftSheet d))) n (sym e ∙ picks)) (none n) refl in
-          completes-by D d b (Impossible n) b (l .0) (l .1)
+      refused-10 n e = let l = looks (none n) e (none n) refl in completes-by D d b (Impossible n) b (l .0) (l .1)
 
-      pub filled-first : (n set : ℕ) (p : Pick) (v f : List ℕ) → ((D : Dates) → set ≡ setOf D s) → m ≡ Place n p → v ≡ pickedOf D u (p .status ∷ p .basis ∷ p .document ∷ p .day ∷ []) → f ≡ putAt b 0 v → Completes D d b (Filled n set (ones set)) f
+      pub filled-first : (n set : ℕ) (q : List ℕ) (p : Pick) (v f : List ℕ) → ((D : Dates) → set ≡ setOf D s) → firstPick D (baseOf (draftSheet d)) ≡ found n q → p ≡ pickOf q
+          → v ≡ pickedOf D u (p .status ∷ p .basis ∷ p .document ∷ p .day ∷ []) → f ≡ putAt b 0 v → Completes D d b (Filled n set (ones set)) f
       unfolding completeAnswer pickedOf
-      filled-first n set p v f hset e hv hf =
-          let (q, lq, pq) = place-cases (firstPick D (baseOf (draftSheet d))) n p (sym e ∙ picks) in
+      filled-first n set q p v f hset lq pq hv hf =
           let c1 : v ≡ pickedOf D (baseOf (draftSheet d)) q = hv ∙ (λ i. pickedOf D (B .base i) (pq i .status ∷ pq i .basis ∷ pq i .document ∷ pq i .day ∷ [])) in
           let c2 : length v ≡ 390 = ap length c1 ∙ picked-length D (draftSheet d) (B .size) q in
           let c3 : f ≡ v = hf ∙ put-fits b 0 v (omega arith) ∙ put-whole b v (omega arith) in

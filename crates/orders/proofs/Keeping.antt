@@ -32,7 +32,7 @@ use Rattle.orders.proofs.Lists.{status-blank}
 use Rattle.orders.proofs.Linking.{cellsWith, cellsAt, fillings-picked}
 
 -- the entries fit
-zeros-fit : Fit 15 zeroEntries
+pub zeros-fit : Fit 15 zeroEntries
 unfolding cell
 zeros-fit =
     ((omega arith, refl), ((omega arith, refl), ((omega arith, refl), ((omega arith, refl), ((omega arith, refl), ((omega arith, refl), tt))))))
@@ -76,7 +76,7 @@ module _ (D : Dates) (s : List ℕ) (size : length s ≡ 390) where
   pub base-length : length (baseOf s) ≡ 390
   base-length = base-alike .0
 
-  base-text : (k : ℕ) → among k (slotsOf zeroEntries) ≡ false → textOf (baseOf s) k ≡ textOf s k
+  pub base-text : (k : ℕ) → among k (slotsOf zeroEntries) ≡ false → textOf (baseOf s) k ≡ textOf s k
   base-text k h = sym (base-alike .1 k h)
 
   -- 14, 15 and 17 stay in the base, and so do the rules of completion and the class

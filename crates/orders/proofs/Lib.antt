@@ -3,12 +3,17 @@ pub mod BlankSlots
 pub mod Linking
 pub mod Keeping
 pub mod Passing
+pub mod Pacing
 pub mod Ahead
 pub mod Whole
 pub mod Completing
+pub mod Skipping
+pub mod SkippedList
+pub mod Quickening
 pub mod Pretesting
 pub mod Streaming
 pub mod Examples
 pub mod Counts
+pub mod SkippedStatuses
 pub mod EndToEnd
 pub mod Dated

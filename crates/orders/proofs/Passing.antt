@@ -1,12 +1,10 @@
--- What the search tests, level by level, is that all rules are kept; what it goes through; and what is answered where a rule that asks
--- nothing of 101, 106, 108 and 109 is broken: no filling keeps all rules, and the count is that of all. Assumes nothing.
+-- What the search tests, level by level, is that all rules are kept; and what it goes through. Assumes nothing.
 use mathlib.Core.Path.{_≡_, refl, sym, ap, _∙_}
 use mathlib.Core.Bool.{not, Bool, true, false, _&&_, and-assoc, false≢true}
 use mathlib.Core.List.{List, [], _∷_, _++_, map, map-id, append-nil}
 use Prim.Native.Nat.{ℕ, _*_, _≤_, _+_}
 use native.Mathlib.Nat.{mul-le-mul}
 use native.Mathlib.Omega.{arith}
-use borrow.Author.Tests.{not-true}
 use lib.ListN.{length, getD}
 use Rattle.texts.specs.Texts.{every, any, are, among, blank}
 use Rattle.sheets.specs.Sheet.{Sheet, cell, textOf}
@@ -21,20 +19,16 @@ use Rattle.rules.specs.Working.Groups.{fixedRules, statusRules, basisRules, doc
 use Rattle.rules.proofs.Judging.{all-grouped}
 use Rattle.rules.proofs.Reading.{spared, spared-class}
 use Rattle.sheets.specs.declared.dates.Dates.{Dates}
-use Rattle.fillings.specs.Fillings.{width, product, none, look}
+use Rattle.fillings.specs.Fillings.{width, product, look}
 use Rattle.fillings.specs.Working.Places.{places}
 use Rattle.fillings.specs.Working.Entering.{Entry, filledWith}
 use Rattle.fillings.proofs.Levels.{Picks}
-use Rattle.fillings.proofs.Looking.{none-look}
 use Rattle.orders.specs.Working.Entering.{pickedOf, varying}
 use Rattle.orders.specs.Working.Search.{passesAt, picks, firstPick, Payment}
-use Rattle.orders.specs.Working.Found.{foundOf}
-use Rattle.orders.specs.declared.search.Found.the-variants.{Nothing}
-use Rattle.orders.proofs.Linking.{length-picks}
 use Rattle.orders.proofs.Keeping.{picks-fit, filled-alike, picked-alike}
 
 -- what a group's test and an entry put in promise
-abbrev Kept : Facts → Bool → List ℕ → Type 0
+abbrev pub Kept : Facts → Bool → List ℕ → Type 0
 Kept f k ns = (D : Dates) (s : Sheet) → Read D f s → budget s ≡ true → k ≡ every (keeps D s) ns
 
 abbrev Puts : Facts → Facts → Facts → ℕ → List ℕ → Type 0
@@ -106,16 +100,7 @@ unfolding firstPick picks
 first-pick D u n101 n106 n108 n109 e1 e2 e3 e4 =
     ap (look (passesAt D u) 0) (sym (append-nil _ ∙ map-id (rest (n101 ∷ n106 ∷ n108 ∷ n109 ∷ [])) ∙ (λ i. rest (e1 i ∷ e2 i ∷ e3 i ∷ e4 i ∷ []))))
 
--- ---- where one of the rules that read none of the four fields is broken, no pick is looked at
-
-pub none-passes : (f : Facts) (k : Bool) → Kept f k fixedRules → not k ≡ true → (n : ℕ) → ((D : Dates) (s : Sheet) → Read D f s → n ≡ length (picks D s)) → (D : Dates) (s : Sheet) → Payment D f s → Nothing n ≡ foundOf (firstPick D s)
-unfolding firstPick passesAt every any are among
-none-passes f k h e n c D s o =
-    let b : every (keeps D s) fixedRules ≡ false = sym (h D s (o .read) (o .class)) ∙ not-true k e in
-    let p = broken-fixed D s fixedRules (o .read .size) refl refl b in
-    ap Nothing (c D s (o .read)) ∙ sym (ap foundOf (none-look (passesAt D s) (picks D s) 0 (λ q m. p q) ∙ ap none (omega arith)))
-
--- count_all: how many fillings have one entry in 101 and 106, and one in 101
+-- how many fillings have one entry in 101 and 106, and one in 101
 abbrev pub ofBasis : ℕ
 ofBasis = zeroCount * zeroCount
 
@@ -131,9 +116,3 @@ most a b c d ha hb hc hd =
     let two = mul-le-mul hc hd in
     let three = mul-le-mul hb two in
     (two, three, mul-le-mul ha three)
-
-module _ (f : Facts) (a b c d : Bool) (n : ℕ) (hn : (D : Dates) (s : Sheet) → Read D f s → n ≡ statusCount D) (ha : (D : Dates) (s : Sheet) → Read D f s → a ≡ blank (textOf s 6)) (hb : (D : Dates) (s : Sheet) → Read D f s → b ≡ blank (textOf s 11)) (hc : (D : Dates) (s : Sheet) → Read D f s → c ≡ blank (textOf s 13)) (hd : (D : Dates) (s : Sheet) → Read D f s → d ≡ blank (textOf s 14)) where
-  pub all-counted : (n101 n106 n108 n109 : ℕ) → n101 ≡ width a n → n106 ≡ width b basisCount → n108 ≡ width c zeroCount → n109 ≡ width d zeroCount → (D : Dates) (s : Sheet) → Read D f s → n101 * (n106 * (n108 * n109)) ≡ length (picks D s)
-  unfolding picks
-  all-counted n101 n106 n108 n109 e1 e2 e3 e4 D s o =
-      rw (e1, e2, e3, e4, hn D s o, ha D s o, hb D s o, hc D s o, hd D s o) (sym (length-picks _ _ _ _))

@@ -4,4 +4,5 @@ pub mod Whole
 pub mod Pretest
 pub mod Stream
 pub mod R7
+pub mod Skipping
 pub mod Working

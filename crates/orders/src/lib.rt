@@ -1,5 +1,6 @@
 pub mod complete;
 pub mod fill;
 pub mod pretest;
+pub mod quick;
 pub mod search;
 pub mod stream;

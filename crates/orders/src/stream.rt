@@ -48,12 +48,20 @@ fn post_stream(draft: &mut [u8], input: &[u8])
     }
 }
 
-// Demand 3 of an input: its messages are posted to a fresh draft, one after another, and the draft is completed.
-pub fn complete_stream(input: &[u8], sheet: &mut [u8], dates: Dates) -> Completed
-    ensures { λ r. ⌜ Streams dates (now (input .entry)) (now (sheet .entry)) r (now (sheet .exit)) ⌝ }
+// The draft that they leave: posted to a fresh one.
+pub fn gather(input: &[u8]) -> [u8; DRAFT_SIZE]
+    ensures { λ r. ⌜ Postings (messagesOf (now (input .entry))) r ⌝ }
 {
     let mut draft = [0u8; DRAFT_SIZE];
     fresh(&mut draft);
     post_stream(&mut draft, input);
+    draft
+}
+
+// Demand 3 of an input: its messages are posted to a fresh draft, one after another, and the draft is completed.
+pub fn complete_stream(input: &[u8], sheet: &mut [u8], dates: Dates) -> Completed
+    ensures { λ r. ⌜ Streams dates (now (input .entry)) (now (sheet .entry)) r (now (sheet .exit)) ⌝ }
+{
+    let draft = gather(input);
     complete(&draft, sheet, dates)
 }

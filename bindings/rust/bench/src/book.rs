@@ -7,7 +7,7 @@ use std::time::Instant;
 use cases::Draft;
 
 use crate::dates::{Dated, ANOTHER, GIVEN};
-use crate::measure::{Row, NO_SLOWER};
+use crate::measure::{tell, Row, NO_SLOWER};
 
 /// How many times each goes through the book.
 const TIMES: usize = 7;
@@ -39,6 +39,8 @@ pub fn cores() -> usize {
 }
 
 fn row(name: &str, book: &[Draft], threads: usize, dated: Dated) -> Row {
+    let name = format!("{name}{}", dated.name);
+    tell(&name);
     let mut least = [f64::INFINITY; 2];
     for _ in 0..TIMES {
         least[0] = least[0].min(time(book, threads, |draft, sheet| {
@@ -50,7 +52,7 @@ fn row(name: &str, book: &[Draft], threads: usize, dated: Dated) -> Row {
     }
     let [library, reference] = least;
     Row {
-        name: format!("{name}{}", dated.name),
+        name,
         library,
         reference,
         goal: NO_SLOWER,

@@ -66,4 +66,16 @@ impl Dated {
         let (date, record) = self.reference;
         reference::complete(draft, sheet, date, record)
     }
+
+    /// The library's quick completion.
+    pub fn quick(&self, draft: &[u8], sheet: &mut [u8]) -> kieselbrot::Quickened {
+        let (date, record) = self.library;
+        kieselbrot::quick(draft, sheet, date, record)
+    }
+
+    /// The second implementation's.
+    pub fn quick_by_second(&self, draft: &[u8], sheet: &mut [u8]) -> reference::Quick {
+        let (date, record) = self.reference;
+        reference::quick(draft, sheet, date, record)
+    }
 }

@@ -90,6 +90,8 @@ pub struct Drafts {
     pub full: Vec<Draft>,
     /// Completed at count 97.
     pub count_97: Vec<Draft>,
+    /// Completed at count 433.
+    pub count_433: Vec<Draft>,
     /// None of 1,056 fillings, by rule 22.
     pub hopeless: Vec<Draft>,
     /// Nothing blank, and hopeless from the start, in turn.
@@ -111,6 +113,7 @@ pub fn drafts(random: &mut Random) -> Drafts {
         full_or_hopeless: full_or_hopeless(other),
         hopeless_from_the_start: hopeless_from_the_start(other),
         uncaught: uncaught(other),
+        count_433: count_433(other),
     }
 }
 
@@ -124,6 +127,22 @@ pub fn count_97(random: &mut Random) -> Vec<Draft> {
     many(random, |random| {
         let texts = like_s(random).with(60, b"0").with(102, b"0");
         draft(&texts.without(&BLANKS))
+    })
+}
+
+/// Drafts that status 16 completes, at count 433: no other order is completed later with
+/// these statuses.
+fn count_433(random: &mut Random) -> Vec<Draft> {
+    let blank: Vec<u8> = BLANKS.into_iter().filter(|&field| field != 107).collect();
+    many(random, |random| {
+        let forms = Forms {
+            payer: Payer::Zero,
+            status: Some("16"),
+            kpp: false,
+            office: true,
+            ..FORMS_OF_S
+        };
+        draft(&with_forms(random, &forms).without(&blank))
     })
 }
 
@@ -346,12 +365,14 @@ mod tests {
     }
 
     const FULL: Answer = (Ok(None), Ok(1));
+    const LATE: Answer = (Ok(None), Ok(433));
     const UNCAUGHT: Answer = (Ok(None), Err(Refusal::NoFilling { count: 1056 }));
 
     #[test]
     fn the_drafts_are_as_the_rows_say() {
         let random = &mut random();
         assert!(all(&full(random), FULL));
+        assert!(all(&count_433(random), LATE));
         assert!(all(&hopeless(random), named(22, 22)));
         assert!(all(&hopeless_from_the_start(random), named(104, 28)));
         assert!(all(&uncaught(random), UNCAUGHT));

@@ -1,7 +1,8 @@
 //! The library and the second implementation, measured in one run.
 //!
 //! `bench FILE.md` prints the table, writes it to the file, and lets gnuplot draw a
-//! chart beside it. Without a file it only prints.
+//! chart beside it. Without a file it only prints. Standard error tells which row is
+//! measured.
 
 #![deny(unsafe_code)]
 
@@ -94,34 +95,47 @@ fn checks(sheets: &[(&str, Vec<Sheet>)], dated: Dated) -> Vec<Row> {
     sheets.iter().map(row).collect()
 }
 
-/// The rows of completions.
-fn completions(drafts: &Drafts, dated: Dated) -> [Row; 5] {
-    let row = |name, goal, drafts: &[Draft]| complete(name, goal, drafts, dated);
-    let full = row("complete, nothing blank", NO_SLOWER, &drafts.full);
+/// The rows of completions, and of quick ones beside them.
+fn completions(drafts: &Drafts, dated: Dated) -> Vec<Row> {
+    let complete = |what: &str, goal, drafts: &[Draft]| {
+        complete(
+            format!("complete, {what}{}", dated.name),
+            goal,
+            drafts,
+            dated,
+        )
+    };
+    // The library's completion is quick; the second implementation has a search of each kind.
+    let both = |what: &str, goal, drafts: &[Draft]| {
+        let completed = complete(what, goal, drafts);
+        let name = format!("quick, {what}{}", dated.name);
+        [completed, quick(name, NO_SLOWER, drafts, dated)]
+    };
+    let full = both("nothing blank", NO_SLOWER, &drafts.full);
     let as_full = Goal::OfOwn {
         part: 1.2,
         name: "nothing blank",
-        library: full.library,
+        library: full[0].library,
     };
-    [
-        full,
-        row("complete, count 97", NO_SLOWER, &drafts.count_97),
-        row(
-            "complete, hopeless, 1,056 fillings",
-            Goal::OfSecond(0.2),
-            &drafts.hopeless,
-        ),
-        row(
-            "complete, hopeless from the start, 1,056 fillings",
-            as_full,
-            &drafts.hopeless_from_the_start,
-        ),
-        row(
-            "complete, hopeless, not caught by the test",
-            Goal::OfSecond(0.2),
-            &drafts.uncaught,
-        ),
-    ]
+    let mut rows = full.to_vec();
+    rows.extend(both("count 97", NO_SLOWER, &drafts.count_97));
+    rows.extend(both("count 433", NO_SLOWER, &drafts.count_433));
+    rows.push(complete(
+        "hopeless, 1,056 fillings",
+        Goal::OfSecond(0.2),
+        &drafts.hopeless,
+    ));
+    rows.extend(both(
+        "hopeless from the start, 1,056 fillings",
+        as_full,
+        &drafts.hopeless_from_the_start,
+    ));
+    rows.extend(both(
+        "hopeless, not caught by the test",
+        Goal::OfSecond(0.2),
+        &drafts.uncaught,
+    ));
+    rows
 }
 
 type Growth = Vec<(usize, Vec<Draft>)>;
@@ -130,8 +144,12 @@ type Growth = Vec<(usize, Vec<Draft>)>;
 fn growth(caught: Growth, uncaught: Growth) -> Vec<(usize, Row, Row)> {
     let both = caught.into_iter().zip(uncaught);
     both.map(|((fillings, caught), (_, uncaught))| {
-        let row = |drafts: &[Draft]| complete("", NO_SLOWER, drafts, GIVEN);
-        (fillings, row(&caught), row(&uncaught))
+        let row = |what, drafts: &[Draft]| {
+            let name = format!("complete, none of {fillings}, {what}");
+            complete(name, NO_SLOWER, drafts, GIVEN)
+        };
+        let caught = row("hopeless from the start", &caught);
+        (fillings, caught, row("not caught by the test", &uncaught))
     })
     .collect()
 }
@@ -178,19 +196,46 @@ fn pretest(drafts: &[Draft]) -> Row {
     )
 }
 
-fn complete(name: &str, goal: Goal, drafts: &[Draft], dated: Dated) -> Row {
+fn complete(name: String, goal: Goal, drafts: &[Draft], dated: Dated) -> Row {
+    filling(
+        name,
+        goal,
+        drafts,
+        |draft, sheet| dated.complete(draft, sheet),
+        |draft, sheet| dated.complete_by_second(draft, sheet),
+    )
+}
+
+fn quick(name: String, goal: Goal, drafts: &[Draft], dated: Dated) -> Row {
+    filling(
+        name,
+        goal,
+        drafts,
+        |draft, sheet| dated.quick(draft, sheet),
+        |draft, sheet| dated.quick_by_second(draft, sheet),
+    )
+}
+
+/// A row of completions of either kind, each into a sheet of its own.
+fn filling<A, B>(
+    name: String,
+    goal: Goal,
+    drafts: &[Draft],
+    library: impl Fn(&[u8], &mut [u8]) -> A,
+    reference: impl Fn(&[u8], &mut [u8]) -> B,
+) -> Row {
     Row::measure(
-        format!("{name}{}", dated.name),
+        name,
         goal,
         drafts,
         |draft| {
             let mut sheet = [0; 390];
-            let answer = dated.complete(draft, &mut sheet);
+            let answer = library(draft, &mut sheet);
             (answer, sheet)
         },
         |draft| {
             let mut sheet = [0; 390];
-            let answer = dated.complete_by_second(draft, &mut sheet);
+            let answer = reference(draft, &mut sheet);
             (answer, sheet)
         },
     )
@@ -237,7 +282,7 @@ fn shares(shares: Vec<Sharing>) -> Row {
     )
 }
 
-fn pool(name: &'static str, goal: Goal, registers: Vec<Pooling>) -> Row {
+fn pool(name: impl Into<String>, goal: Goal, registers: Vec<Pooling>) -> Row {
     // One output for all calls: the caller has no need to clear it.
     let output = RefCell::new([0; POOL_SIZE]);
     Row::measure(
@@ -261,7 +306,8 @@ fn pools() -> Vec<(usize, Row)> {
     [1, 60, 125, 250, 500]
         .map(|lines| {
             let registers = inputs::registers(random, lines, lines);
-            (lines, pool("", NO_SLOWER, registers))
+            let name = format!("pool, {lines} lines, by the number of lines");
+            (lines, pool(name, NO_SLOWER, registers))
         })
         .into()
 }

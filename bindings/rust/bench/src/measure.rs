@@ -8,8 +8,12 @@ use std::time::{Duration, Instant};
 /// else the machine does.
 const BATCH: Duration = Duration::from_micros(200);
 
-/// How many batches of each.
-const BATCHES: usize = 400;
+/// How many batches of each there are at most, and at least where a row takes long.
+const BATCHES_MOST: usize = 400;
+const BATCHES_LEAST: usize = 100;
+
+/// How long a row takes that has more than the least number of batches.
+const ROW: Duration = Duration::from_secs(2);
 
 /// What a row should reach.
 #[derive(Clone, Copy, Debug)]
@@ -64,16 +68,22 @@ impl Row {
         library: impl Fn(&T) -> A,
         reference: impl Fn(&T) -> B,
     ) -> Self {
+        let name = name.into();
+        tell(&name);
         let size = batch_size(inputs, &library).max(batch_size(inputs, &reference));
         let mut least = [f64::INFINITY; 2];
-        for batch in 0..BATCHES {
+        let start = Instant::now();
+        for batch in 0..BATCHES_MOST {
+            if batch >= BATCHES_LEAST && start.elapsed() >= ROW {
+                break;
+            }
             let first = batch * 31;
             least[0] = least[0].min(time(inputs, first, size, &library));
             least[1] = least[1].min(time(inputs, first, size, &reference));
         }
         let [library, reference] = least;
         Self {
-            name: name.into(),
+            name,
             library,
             reference,
             goal,
@@ -107,6 +117,11 @@ impl Row {
             "missed"
         }
     }
+}
+
+/// Says on standard error which row is measured.
+pub fn tell(name: &str) {
+    eprintln!("measuring: {name}");
 }
 
 /// The inputs of a batch that lasts long enough; all inputs for the quick.

@@ -108,6 +108,10 @@ the start has 100,000 drafts and is completed on one core. A goal that is a part
 \"nothing blank\" is a part of the library's own time in that row with the same record;
 that ratio stands right of it.
 
+A completion skips statuses whole: at count 97 one, at count 433 nine. The rows that begin
+with \"quick\" have the same function of the library's, beside the second implementation's
+quick search.
+
 Checks and completions are at the date 20240101 with the given record, and in the rows
 with another record at 20240115 with 20231002, 20240102 and 20231230, on the same
 inputs; both records allow the same 22 statuses.

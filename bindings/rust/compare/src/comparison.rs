@@ -5,7 +5,7 @@ use std::hint::black_box;
 
 use cases::{Charge, Dates, Parting, Pooling, Queue, Sharing, FIELDS};
 use cases::{PAYMENT_PLACES, SHARE_PLACES};
-use kieselbrot::{Class, Completed, Message, Posted, Refusal};
+use kieselbrot::{Class, Completed, Message, Posted, Quickened, Refusal};
 
 use crate::library::{Library, Reference};
 use crate::pretest::{fits_completion, Tested};
@@ -249,8 +249,8 @@ impl<'a, L: Library> Comparison<'a, L> {
         Ok(answer)
     }
 
-    /// Tests a draft and completes it at these dates; the sheet is given back. What the
-    /// test answers must fit.
+    /// Tests a draft and completes it at these dates, also quickly; the sheet is given
+    /// back. What the test answers must fit, and both completions must agree.
     pub fn complete(
         &mut self,
         draft: &[u8],
@@ -270,7 +270,35 @@ impl<'a, L: Library> Comparison<'a, L> {
         fits_completion(draft, dates, tested, answer)?;
         self.reached
             .complete(draft, dates, tested, answer, sheet.bytes());
+        let (quickened, filled) = self.quick(draft, &before, dates, input)?;
+        same("quick", quickened.completed, answer, input)?;
+        same_buffer("quick", &filled, &sheet, input)?;
         Ok((answer, sheet))
+    }
+
+    /// Completes a draft quickly at these dates; the sheet is given back.
+    fn quick(
+        &mut self,
+        draft: &[u8],
+        before: &Lent,
+        dates: Dates,
+        input: impl Fn() -> String + Copy,
+    ) -> Outcome<(Quickened, Lent)> {
+        let (answer, sheet) = lend_to_read("quick", draft, input, |draft| {
+            self.lend("quick", before, input, |library, sheet| {
+                let Quickened { completed, skipped } = library.quick(draft, sheet, dates);
+                completed
+                    .map(|completed| (completed, skipped))
+                    .map_err(|refusal| (refusal, skipped))
+            })
+        })?;
+        let (completed, skipped) = match answer {
+            Ok((completed, skipped)) => (Ok(completed), skipped),
+            Err((refusal, skipped)) => (Err(refusal), skipped),
+        };
+        let quickened = Quickened { completed, skipped };
+        self.reached.quick(draft, dates, quickened, sheet.bytes());
+        Ok((quickened, sheet))
     }
 
     /// Asks for a charge.
@@ -364,13 +392,13 @@ impl<'a, L: Library> Comparison<'a, L> {
 
     /// Lends a copy of the buffer to each; answers, buffers and the bytes around
     /// them must agree, and be as before after a refusal.
-    fn lend<T: Copy + Debug + PartialEq>(
+    fn lend<T: Copy + Debug + PartialEq, E: Copy + Debug + PartialEq>(
         &self,
         function: &'static str,
         before: &Lent,
         input: impl Fn() -> String + Copy,
-        call: impl Fn(&dyn Library, &mut [u8]) -> Result<T, Refusal>,
-    ) -> Outcome<(Result<T, Refusal>, Lent)> {
+        call: impl Fn(&dyn Library, &mut [u8]) -> Result<T, E>,
+    ) -> Outcome<(Result<T, E>, Lent)> {
         let mut left = before.clone();
         let mut right = before.clone();
         let answer = call(self.library, left.bytes_mut());

@@ -37,7 +37,7 @@ pub enum Dated {
 }
 
 /// Whether 02, 32 and 33 are in force.
-type List = [bool; 3];
+pub type List = [bool; 3];
 
 /// The order's date, and the entries of the record.
 #[derive(Clone, Copy, Debug, PartialEq, Eq, PartialOrd, Ord)]
@@ -157,7 +157,7 @@ impl fmt::Display for Dated {
 }
 
 /// The three statuses that are in force.
-fn shown(list: List) -> String {
+pub fn shown(list: List) -> String {
     let of_three = ["02", "32", "33"].into_iter().zip(list);
     let names: Vec<&str> = of_three
         .filter_map(|(status, allowed)| allowed.then_some(status))

@@ -6,6 +6,7 @@ use kieselbrot::{Completed, Refusal};
 use crate::comparison::{hex, same, Comparison, Difference, Lent};
 use crate::library::Library;
 use crate::pretest::fits_fillings;
+use crate::quick;
 
 /// What completing a budget payment should answer, by trying every filling.
 fn search(
@@ -50,5 +51,8 @@ pub fn complete<L: Library>(
     let input = || format!("draft {}, {dates:?}, by all fillings", hex(draft));
     same("complete", answer, expected, input)?;
     let filling = filling.unwrap_or([0xEE; 390]);
-    same("complete", sheet.bytes(), &filling[..], input)
+    same("complete", sheet.bytes(), &filling[..], input)?;
+    let quickened = library.quick(draft, &mut [0; 390], dates);
+    let skipped = quick::skipped(library, draft, dates, expected, sheet.bytes());
+    same("quick", quickened.skipped, skipped, input)
 }

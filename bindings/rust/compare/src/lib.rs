@@ -19,6 +19,7 @@ mod planted;
 mod pools;
 mod pretest;
 mod queues;
+mod quick;
 mod reached;
 mod run;
 mod shares;

@@ -1,11 +1,11 @@
 //! The library and the second implementation under one trait.
 
 use cases::{Dates, Queue};
-use kieselbrot::{Broken, Class, Completed, Message, Paid, Part, Posted, Refusal};
+use kieselbrot::{Broken, Class, Completed, Message, Paid, Part, Posted, Quickened, Refusal};
 use kieselbrot::{PAYMENT_PLACES, SHARE_PLACES};
 
-/// The seven functions of document 01, the test ahead of completion, the bank's
-/// charge, part of a year, pooling a register, and which payments leave first.
+/// The seven functions of document 01, the test ahead of completion, completing quickly, the
+/// bank's charge, part of a year, pooling a register, and which payments leave first.
 pub trait Library: Sync {
     /// Checks a sheet at these dates.
     fn check(&self, sheet: &[u8], dates: Dates) -> Result<Class, Refusal>;
@@ -29,6 +29,8 @@ pub trait Library: Sync {
     fn pretest(&self, draft: &[u8]) -> Result<Option<Broken>, Refusal>;
     /// Completes a draft at these dates.
     fn complete(&self, draft: &[u8], sheet: &mut [u8], dates: Dates) -> Result<Completed, Refusal>;
+    /// Completes a draft quickly at these dates.
+    fn quick(&self, draft: &[u8], sheet: &mut [u8], dates: Dates) -> Quickened;
     /// The bank's charge for an amount.
     fn charge(&self, amount: u64, rate: u64, least: u64, greatest: u64) -> Result<u64, Refusal>;
     /// The part of a year's amount for so many days.
@@ -89,6 +91,11 @@ impl Library for Linked {
     fn complete(&self, draft: &[u8], sheet: &mut [u8], dates: Dates) -> Result<Completed, Refusal> {
         let (date, record) = library_dates(dates);
         kieselbrot::complete(draft, sheet, date, record)
+    }
+
+    fn quick(&self, draft: &[u8], sheet: &mut [u8], dates: Dates) -> Quickened {
+        let (date, record) = library_dates(dates);
+        kieselbrot::quick(draft, sheet, date, record)
     }
 
     fn charge(&self, amount: u64, rate: u64, least: u64, greatest: u64) -> Result<u64, Refusal> {
@@ -176,13 +183,17 @@ impl Library for Reference {
 
     fn complete(&self, draft: &[u8], sheet: &mut [u8], dates: Dates) -> Result<Completed, Refusal> {
         let (date, record) = reference_dates(dates);
-        let reference::Completed { count, set, ones } =
-            reference::complete(draft, sheet, date, record).map_err(refusal)?;
-        Ok(Completed {
-            count: count as usize,
-            set,
-            ones,
-        })
+        let answer = reference::complete(draft, sheet, date, record);
+        answer.map(completed).map_err(refusal)
+    }
+
+    fn quick(&self, draft: &[u8], sheet: &mut [u8], dates: Dates) -> Quickened {
+        let (date, record) = reference_dates(dates);
+        let reference::Quick { answer, skipped } = reference::quick(draft, sheet, date, record);
+        Quickened {
+            completed: answer.map(completed).map_err(refusal),
+            skipped: skipped as usize,
+        }
     }
 
     fn charge(&self, amount: u64, rate: u64, least: u64, greatest: u64) -> Result<u64, Refusal> {
@@ -270,6 +281,15 @@ const fn posted(posted: reference::Posted) -> Posted {
         reference::Posted::Newer => Posted::Newer,
         reference::Posted::Same => Posted::Same,
         reference::Posted::Older => Posted::Older,
+    }
+}
+
+fn completed(completed: reference::Completed) -> Completed {
+    let reference::Completed { count, set, ones } = completed;
+    Completed {
+        count: count as usize,
+        set,
+        ones,
     }
 }
 

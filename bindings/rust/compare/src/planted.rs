@@ -4,11 +4,12 @@ use cases::{day_after, day_before, is_day, Dates, ORDER_DATE_MIN};
 use cases::{inn_remainder, slot_of, snils_remainder, Text, Texts};
 use cases::{Line, Payment, Pooling, Queue};
 use cases::{KOPECKS_MAX, LINE_SIZE, POOL_SIZE, RATE_MAX, YEARS};
-use kieselbrot::{Broken, Class, Completed, Message, Paid, Part, Posted, Refusal};
+use kieselbrot::{Broken, Class, Completed, Message, Paid, Part, Posted, Quickened, Refusal};
 use kieselbrot::{PAYMENT_PLACES, SHARE_PLACES};
 
 use crate::library::{Library, Reference};
-use crate::pretest::is_blank;
+use crate::pretest::{is_blank, VARYING};
+use crate::quick::tried;
 
 /// The second implementation with one thing changed.
 #[derive(Clone, Copy, Debug, PartialEq, Eq)]
@@ -85,6 +86,18 @@ pub enum Planted {
     Never02,
     /// Rule 19 does not know 02.
     Rule19Without02,
+    /// One status less is skipped.
+    OneShort,
+    /// A status that fails by rule 29 alone is skipped.
+    SkippedBy29,
+    /// The fillings of a skipped status are not in the count.
+    Uncounted,
+    /// With 10 the last status is not counted among those skipped.
+    BeforeTheLast,
+    /// The sheet's status is counted among those skipped.
+    OwnStatus,
+    /// A given 101 is never counted.
+    Given101,
     /// A charge is rounded down.
     RoundedDown,
     /// Half a kopeck goes downward.
@@ -160,7 +173,7 @@ pub enum Planted {
 }
 
 /// All of them.
-pub const PLANTS: [Planted; 72] = [
+pub const PLANTS: [Planted; 78] = [
     Planted::Century,
     Planted::Status01,
     Planted::Without03252,
@@ -197,6 +210,12 @@ pub const PLANTS: [Planted; 72] = [
     Planted::End02,
     Planted::Never02,
     Planted::Rule19Without02,
+    Planted::OneShort,
+    Planted::SkippedBy29,
+    Planted::Uncounted,
+    Planted::BeforeTheLast,
+    Planted::OwnStatus,
+    Planted::Given101,
     Planted::RoundedDown,
     Planted::HalvesDownward,
     Planted::Rate10001,
@@ -376,6 +395,36 @@ impl Planted {
             _ => Err(Refusal::Undated),
         }
     }
+}
+
+impl Planted {
+    /// How many statuses a changed quick completion skips, with a sheet or 10, where so many
+    /// should be.
+    fn changed_skips(self, draft: &[u8], dates: Dates, answer: Quickened, sheet: &[u8]) -> usize {
+        let Quickened { completed, skipped } = answer;
+        match self {
+            Self::OneShort => skipped.saturating_sub(1),
+            Self::SkippedBy29 => {
+                let tried = tried(draft, dates, completed, sheet).into_iter();
+                skipped + tried.filter(|&rule| rule == 29).count()
+            }
+            Self::BeforeTheLast if completed.is_err() => skipped - last_skipped(draft, dates),
+            Self::OwnStatus if completed.is_ok() => skipped + 1,
+            Self::Given101 if !is_blank(draft, 101) => 0,
+            _ => skipped,
+        }
+    }
+}
+
+/// 1 if the last status is skipped of a draft that none completes, else 0.
+fn last_skipped(draft: &[u8], dates: Dates) -> usize {
+    let mut given = draft.to_vec();
+    if let (true, Some(last)) = (is_blank(draft, 101), dates.statuses().last()) {
+        let slot = &mut given[30 * slot_of(101)..][..30];
+        slot[..4].copy_from_slice(&[1; 4]);
+        slot[4..].copy_from_slice(&Text::new(last.as_bytes()).slot());
+    }
+    Reference.quick(&given, &mut [0; 390], dates).skipped
 }
 
 impl Planted {
@@ -625,6 +674,26 @@ impl Library for Planted {
                 answer
             }
             _ => answer,
+        }
+    }
+
+    fn quick(&self, draft: &[u8], sheet: &mut [u8], dates: Dates) -> Quickened {
+        let answer = Reference.quick(draft, sheet, dates);
+        let mut completed = answer.completed;
+        if !matches!(completed, Ok(_) | Err(Refusal::NoFilling { .. })) {
+            return answer;
+        }
+        if let (Self::Uncounted, Ok(Completed { count, .. }) | Err(Refusal::NoFilling { count })) =
+            (self, &mut completed)
+        {
+            let others = VARYING.into_iter().filter(|&field| field != 101);
+            let blank = others.filter(|&field| is_blank(draft, field));
+            let each: usize = blank.map(|field| cases::list(field).len()).product();
+            *count -= answer.skipped * each;
+        }
+        Quickened {
+            completed,
+            skipped: self.changed_skips(draft, dates, answer, sheet),
         }
     }
 

@@ -5,7 +5,7 @@ use std::fmt;
 
 use cases::{Charge, Dates, Parting, Pooling, Queue, Sharing};
 use cases::{ALL_STATUSES, BASES, CLASS_A, CLASS_B, PAYMENT_PLACES, SHARE_PLACES};
-use kieselbrot::{Class, Completed, Paid, Part, Posted, Refusal};
+use kieselbrot::{Class, Completed, Paid, Part, Posted, Quickened, Refusal};
 
 use crate::charges::{self, Charged};
 use crate::dates::{self, Dated};
@@ -13,6 +13,7 @@ use crate::parts::{self, Parted};
 use crate::pools::{self, Pooled};
 use crate::pretest::{Tested, NAMED};
 use crate::queues::{self, Queued};
+use crate::quick::{self, Skipped};
 use crate::shares::{self, Shared};
 
 /// How often each thing was reached. What a thing is called is part of the
@@ -35,6 +36,7 @@ pub struct Reached {
     dates: BTreeMap<Dated, u64>,
     named: BTreeMap<(u8, u8), u64>,
     unnamed: BTreeMap<u8, u64>,
+    skipped: BTreeMap<Skipped, u64>,
     charges: BTreeMap<Charged, u64>,
     parts: BTreeMap<Parted, u64>,
     shares: BTreeMap<Shared, u64>,
@@ -134,7 +136,7 @@ enum Accepted {
 }
 
 /// The numbers that each function returns.
-const ANSWERS: [(&str, &[u8]); 13] = [
+const ANSWERS: [(&str, &[u8]); 14] = [
     ("check", &[0, 1, 12, 8]),
     ("read", &[0, 2, 3, 4, 5]),
     ("write", &[0, 2, 4, 5, 7]),
@@ -143,6 +145,7 @@ const ANSWERS: [(&str, &[u8]); 13] = [
     ("copy", &[0, 1, 7]),
     ("pretest", &[0, 1, 8, 9]),
     ("complete", &[0, 1, 7, 12, 8, 9, 10]),
+    ("quick", &[0, 1, 7, 12, 8, 9, 10]),
     ("charge", &[0, 14]),
     ("part", &[0, 15]),
     ("shares", &[0, 15]),
@@ -361,6 +364,14 @@ impl Reached {
         }
     }
 
+    /// A quick completion, by the sheet afterwards.
+    pub fn quick(&mut self, draft: &[u8], dates: Dates, answer: Quickened, sheet: &[u8]) {
+        self.answer("quick", answer.completed);
+        for what in quick::reached(draft, dates, answer, sheet) {
+            *self.skipped.entry(what).or_default() += 1;
+        }
+    }
+
     /// What the test of a draft named, or where it named nothing what its
     /// completion answered.
     fn pretest(&mut self, tested: Tested, completed: Result<Completed, Refusal>) {
@@ -456,6 +467,7 @@ impl Reached {
         add(&mut self.dates, &other.dates);
         add(&mut self.named, &other.named);
         add(&mut self.unnamed, &other.unnamed);
+        add(&mut self.skipped, &other.skipped);
         add(&mut self.charges, &other.charges);
         add(&mut self.parts, &other.parts);
         add(&mut self.shares, &other.shares);
@@ -517,6 +529,9 @@ impl Reached {
         list.push((format!("{sets} of 1024 sets of blanks"), sets / 1024));
         for what in dates::all() {
             list.push((format!("dates: {what}"), get(&self.dates, what)));
+        }
+        for what in quick::all() {
+            list.push((format!("skipped: {what}"), get(&self.skipped, what)));
         }
         for what in charges::all() {
             list.push((format!("a charge: {what}"), get(&self.charges, what)));
@@ -593,9 +608,16 @@ impl Reached {
             .keys()
             .filter(|count| !COUNTS.contains(count))
             .map(|count| format!("count {count} is not in the list"));
+        let listed: Vec<Skipped> = quick::all().collect();
+        let strange_skips = self
+            .skipped
+            .keys()
+            .filter(|what| !listed.contains(what))
+            .map(|what| format!("skipped: {what} is not in the list"));
         never
             .map(|(name, _)| format!("never reached: {name}"))
             .chain(strange)
+            .chain(strange_skips)
             .collect()
     }
 }

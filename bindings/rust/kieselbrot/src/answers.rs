@@ -57,6 +57,16 @@ pub struct Completed {
     pub ones: u32,
 }
 
+/// What a quick completion answered.
+#[derive(Clone, Copy, Debug, PartialEq, Eq, Hash)]
+pub struct Quickened {
+    /// What [`complete`](crate::complete) answers.
+    pub completed: Result<Completed, Refusal>,
+    /// How many statuses were skipped: with a sheet of those up to the sheet's, with
+    /// [`Refusal::NoFilling`] of all; 0 with any other refusal.
+    pub skipped: usize,
+}
+
 /// A part of a year's amount: kopecks times year plus remainder is amount times days
 /// exactly.
 #[derive(Clone, Copy, Debug, PartialEq, Eq, Hash)]
@@ -133,9 +143,10 @@ pub enum Refusal {
         /// The count of all fillings.
         count: usize,
     },
-    /// 12: for [`check`](crate::check) and [`complete`](crate::complete), the order's
-    /// date or an entry of the record is no Gregorian date of the years 1900 to 2099, or
-    /// the order's date is before 20230925; tested just before 8.
+    /// 12: for [`check`](crate::check), [`complete`](crate::complete) and
+    /// [`quick`](crate::quick), the order's date or an entry of the record is no Gregorian
+    /// date of the years 1900 to 2099, or the order's date is before 20230925; tested just
+    /// before 8.
     Undated,
     /// 14: for [`charge`](crate::charge()), an argument is out of range or the least
     /// is above the greatest.
@@ -345,6 +356,23 @@ impl From<ffi::Complete> for Result<Completed, Refusal> {
     }
 }
 
+impl From<ffi::Quick> for Quickened {
+    fn from(answer: ffi::Quick) -> Self {
+        let ffi::Quick { complete, skipped } = answer;
+        let number = complete.number;
+        let completed = complete.into();
+        match (completed, skipped) {
+            (Ok(_) | Err(Refusal::NoFilling { .. }), 0..=23) | (Err(_), 0) => {
+                Self { completed, skipped }
+            }
+            _ => Self {
+                completed: Err(Refusal::Unknown { number }),
+                skipped: 0,
+            },
+        }
+    }
+}
+
 impl From<ffi::Charge> for Result<u64, Refusal> {
     fn from(answer: ffi::Charge) -> Self {
         let ffi::Charge { number, kopecks } = answer;
@@ -490,6 +518,33 @@ mod tests {
                 pretest(number, field, rule),
                 Err(Refusal::Unknown { number })
             );
+        }
+    }
+
+    #[test]
+    fn statuses_are_skipped_with_a_sheet_or_10() {
+        let quick = |number, count, skipped| {
+            let complete = ffi::Complete {
+                number,
+                field: 0,
+                rule: 0,
+                set: 0,
+                ones: 0,
+                count,
+            };
+            let quickened = Quickened::from(ffi::Quick { complete, skipped });
+            let counted = quickened.completed.map(|completed| completed.count);
+            (counted, quickened.skipped)
+        };
+        for skipped in [0, 1, 23] {
+            assert_eq!(quick(0, 97, skipped), (Ok(97), skipped));
+            let none = Err(Refusal::NoFilling { count: 1104 });
+            assert_eq!(quick(10, 1104, skipped), (none, skipped));
+        }
+        assert_eq!(quick(9, 0, 0), (Err(Refusal::Ordinary), 0));
+        for (number, count, skipped) in [(0, 97, 24), (10, 1104, 24), (9, 0, 1), (9, 1, 0)] {
+            let unknown = Err(Refusal::Unknown { number });
+            assert_eq!(quick(number, count, skipped), (unknown, 0));
         }
     }
 

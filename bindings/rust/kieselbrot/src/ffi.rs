@@ -3,6 +3,8 @@
 //! The functions are total: a slice of any length may be lent, and no byte
 //! outside it is touched.
 
+use std::mem::offset_of;
+
 use crate::{Date, Record, PAYMENT_PLACES, SHARE_PLACES};
 
 /// The answer of a check.
@@ -52,7 +54,7 @@ pub struct Pretest {
     pub rule: u8,
 }
 
-/// The answer of completing.
+/// The answer of completing, without the number of skipped statuses.
 #[repr(C)]
 #[derive(Clone, Copy)]
 pub struct Complete {
@@ -62,6 +64,14 @@ pub struct Complete {
     pub set: u16,
     pub ones: u32,
     pub count: usize,
+}
+
+/// The answer of completing: the header has the first six fields in one row with the last.
+#[repr(C)]
+#[derive(Clone, Copy)]
+pub struct Quick {
+    pub complete: Complete,
+    pub skipped: usize,
 }
 
 /// The answer of a charge.
@@ -109,6 +119,7 @@ const _: () = assert!(size_of::<Write>() == 16);
 const _: () = assert!(size_of::<Post>() == 2);
 const _: () = assert!(size_of::<Pretest>() == 3);
 const _: () = assert!(size_of::<Complete>() == 24);
+const _: () = assert!(size_of::<Quick>() == 32 && offset_of!(Quick, skipped) == 24);
 const _: () = assert!(size_of::<Charge>() == 16);
 const _: () = assert!(size_of::<Part>() == 16);
 const _: () = assert!(size_of::<Pool>() == 24);
@@ -141,7 +152,7 @@ extern "C" {
         sheet_len: usize,
         date: Date,
         record: Record,
-    ) -> Complete;
+    ) -> Quick;
     fn kieselbrot_charge(amount: u64, rate: u64, least: u64, greatest: u64) -> Charge;
     fn kieselbrot_part(amount: u64, days: u32, year: u32) -> Part;
     fn kieselbrot_shares(
@@ -221,6 +232,10 @@ pub fn pretest(draft: &[u8]) -> Pretest {
 }
 
 pub fn complete(draft: &[u8], sheet: &mut [u8], date: Date, record: Record) -> Complete {
+    quick(draft, sheet, date, record).complete
+}
+
+pub fn quick(draft: &[u8], sheet: &mut [u8], date: Date, record: Record) -> Quick {
     unsafe {
         kieselbrot_complete(
             draft.as_ptr(),

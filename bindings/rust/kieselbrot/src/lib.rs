@@ -75,8 +75,8 @@ mod ffi;
 mod fillings;
 pub mod words;
 
-pub use answers::Refusal;
 pub use answers::{Broken, Class, Completed, Leaving, Message, Paid, Part, Payment, Posted};
+pub use answers::{Quickened, Refusal};
 pub use dates::{Date, Record};
 
 /// The numbers of the fifteen fields, in the order of their slots.
@@ -271,6 +271,59 @@ pub fn complete(
     record: Record,
 ) -> Result<Completed, Refusal> {
     ffi::complete(draft, sheet, date, record).into()
+}
+
+/// Completes a draft as [`complete`] does, with its sheet, count, set and refusal, but skips
+/// all fillings of a status if one of rules 5, 7 to 14, 16, 19 to 24, 27, 28 and 30, which
+/// read neither 106, 108 nor 109, fails for it. The count has them.
+///
+/// Also tells how many statuses were skipped: exactly those for which such a rule fails,
+/// with a sheet of those up to the sheet's, with [`Refusal::NoFilling`] of all that the
+/// date allows. A given 101 is the only one.
+///
+/// # Examples
+///
+/// A payer without INN and KPP, then one with "0" for a KBK:
+///
+/// ```
+/// use kieselbrot::{post, quick, write, Date, Record, Refusal};
+///
+/// # fn main() -> Result<(), Refusal> {
+/// let order: [(u8, &[u8]); 8] = [
+///     (14, b"004525987"),
+///     (15, b"40102810845370000004"),
+///     (17, b"03100643000000014800"),
+///     (60, b"0"),
+///     (61, b"6730054024"),
+///     (102, b"0"),
+///     (103, b"772801001"),
+///     (104, b"18201061201010000510"),
+/// ];
+/// let mut draft = [0; kieselbrot::DRAFT_SIZE];
+/// let mut message = [0; kieselbrot::MESSAGE_MAX];
+/// for (field, text) in order {
+///     let length = write(field, 1, text, &mut message)?;
+///     post(&mut draft, &message[..length])?;
+/// }
+///
+/// let mut sheet = [0; kieselbrot::SHEET_SIZE];
+/// let quickened = quick(&draft, &mut sheet, Date(20240115), Record::GIVEN);
+/// // Rule 23 fails for status 01. Status 03, which rule 25 refuses, was tried.
+/// assert_eq!((quickened.completed?.count, quickened.skipped), (97, 1));
+///
+/// let length = write(104, 2, b"0", &mut message)?;
+/// post(&mut draft, &message[..length])?;
+/// let quickened = quick(&draft, &mut sheet, Date(20240115), Record::GIVEN);
+/// // Rule 28 fails for all.
+/// let count = 1_056;
+/// assert_eq!(quickened.completed, Err(Refusal::NoFilling { count }));
+/// assert_eq!(quickened.skipped, 22);
+/// # Ok(())
+/// # }
+/// ```
+#[inline]
+pub fn quick(draft: &[u8], sheet: &mut [u8], date: Date, record: Record) -> Quickened {
+    ffi::quick(draft, sheet, date, record).into()
 }
 
 /// The bank's charge for an amount, in kopecks: amount times rate over 10,000, halves

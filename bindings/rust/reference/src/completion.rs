@@ -41,13 +41,26 @@ pub fn complete(
     date: Date,
     record: Record,
 ) -> Result<Completed, Refusal> {
+    complete_skipping(draft, sheet, date, record, |_, _, _| false)
+}
+
+/// Completes a draft as [`complete`] does, but passes over a status if `skips` says
+/// so, as [`first_filling`] does.
+pub(crate) fn complete_skipping(
+    draft: &[u8],
+    sheet: &mut [u8],
+    date: Date,
+    record: Record,
+    mut skips: impl FnMut(&Sheet<'_>, Class, Dates) -> bool,
+) -> Result<Completed, Refusal> {
     let given = sheet_of(draft)?;
     let output = sheet::output(sheet).ok_or(Refusal::Output)?;
     let dates = Dates::new(date, record)?;
-    budget_class(&given)?;
+    let class = budget_class(&given)?;
     let (filling, count) = first_filling(
         &given,
         |status| dates.allow(status),
+        |filling| skips(filling, class, dates),
         |filling| judge(filling, dates).is_ok(),
     )?;
     filling.write_to(output);
@@ -125,14 +138,24 @@ fn status_candidates<'a>(
         .filter(move |status| !open || allowed(status))
 }
 
+/// How many fillings each status has.
+fn fillings_of_status(given: &Sheet<'_>) -> u32 {
+    [Field::Basis, Field::Document, Field::Date]
+        .into_iter()
+        .map(|field| candidates(given, field).len() as u32)
+        .product()
+}
+
 /// The first filling that passes and its place; refusal 10 with the count of
 /// all fillings if none does. No filling after it is looked at.
 ///
 /// "Order: 101 varies slowest, then 106, 108, 109." A blank 101 gets the allowed
-/// statuses only.
+/// statuses only. A status is passed over whole if `skips`, which looks at neither
+/// 106, 108 nor 109, says so; "skipped fillings included in the count".
 pub(crate) fn first_filling<'a>(
     given: &'a Sheet<'a>,
     allowed: impl Fn(&[u8]) -> bool,
+    mut skips: impl FnMut(&Sheet<'a>) -> bool,
     mut passes: impl FnMut(&Sheet<'a>) -> bool,
 ) -> Result<(Sheet<'a>, u32), Refusal> {
     let mut filling = *given;
@@ -143,6 +166,10 @@ pub(crate) fn first_filling<'a>(
     let mut count = 0;
     for status in status_candidates(given, allowed) {
         filling[Field::Status] = status;
+        if skips(&filling) {
+            count += fillings_of_status(given);
+            continue;
+        }
         for basis in candidates(given, Field::Basis) {
             filling[Field::Basis] = basis;
             for document in candidates(given, Field::Document) {

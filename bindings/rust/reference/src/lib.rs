@@ -1,16 +1,17 @@
 //! Budget payment orders under 107n: field messages, the draft, the rules,
-//! completion and the test ahead of it, the message writer, the report of one
-//! program, the bank's charge, the part of a year, the register of an order and the
-//! payments that leave first.
+//! completion, the test ahead of it and a quick search, the message writer, the
+//! report of one program, the bank's charge, the part of a year, the register of an
+//! order and the payments that leave first.
 //!
 //! This is a second implementation of the paper "Budget payment orders under
 //! 107n: draft, check and completion" and its change requests, which shares no
 //! code with the library. Doc comments quote the sentence of the paper or the request they
 //! follow. Of the requests it has R-1 (pension numbers), R-2 (letters in a KPP),
 //! R-3 (a test ahead of the search), R-4 (check digits of the INN), R-5 (rule
-//! 22 ahead of rule 21), R-7 (the order's date chooses the rules), R-10 (the
-//! bank's charge), R-11 (part of a year), R-12 (status 15 with its register) and
-//! R-13 (which payments leave first).
+//! 22 ahead of rule 21), R-7 (the order's date chooses the rules), R-9 (taking
+//! up part of a proposal, a claim about completion and posting as they are), R-10
+//! (the bank's charge), R-11 (part of a year), R-12 (status 15 with its register),
+//! R-13 (which payments leave first) and R-14 (passing over a status whole).
 //!
 //! Every public function is total, and "Refusals change no buffer".
 
@@ -27,6 +28,7 @@ mod message;
 mod part;
 mod pretest;
 mod program;
+mod quick;
 mod refusal;
 mod register;
 mod rules;
@@ -41,6 +43,7 @@ pub use message::{read, write, Message};
 pub use part::{part, shares, Part};
 pub use pretest::pretest;
 pub use program::report;
+pub use quick::{quick, Quick};
 pub use refusal::{Broken, Refusal};
 pub use register::pool;
 pub use rules::{check, statuses, Class};

@@ -34,14 +34,14 @@ pub fn pretest(draft: &[u8]) -> Result<Option<Broken>, Refusal> {
 /// rules reads which status it is, so a blank 101 gets those of all dates.
 fn broken_by_all(given: &Sheet<'_>, class: Class, rule: LoneRule) -> Option<Broken> {
     let mut named = None;
-    let any_status = |_: &[u8]| true;
-    let kept = first_filling(given, any_status, |filling| match rule(filling, class) {
+    let keeps = |filling: &Sheet<'_>| match rule(filling, class) {
         Ok(()) => true,
         Err(broken) => {
             named = Some(broken);
             false
         }
-    });
+    };
+    let kept = first_filling(given, |_| true, |_| false, keeps);
     if kept.is_ok() {
         None
     } else {

@@ -564,57 +564,58 @@ fn rule_28(sheet: &Sheet<'_>) -> Result<(), Broken> {
     require(kept, Field::Kbk, Rule(28))
 }
 
-/// A budget payment, with what rules 5 to 18 find out about it for rules 19 to
-/// 35.
-struct Order<'a> {
+/// Rule 10, on field 101; gives its number.
+fn rule_10(sheet: &Sheet<'_>, dates: Dates) -> Result<Status, Broken> {
+    Status::parse(sheet[Field::Status], dates).ok_or(broken(Field::Status, Rule(10)))
+}
+
+/// Whether "a rule that reads neither 106, 108 nor 109 (5, 7 to 14, 16, 19 to 24,
+/// 27, 28, 30) fails" for a filling of class A or B, and so for all fillings of its
+/// status.
+pub(crate) fn fails_for_status(sheet: &Sheet<'_>, class: Class, dates: Dates) -> bool {
+    status_rules(sheet, class, dates).is_err()
+}
+
+/// Rules 5, 7 to 14, 16, 19 to 24, 27, 28 and 30.
+fn status_rules(sheet: &Sheet<'_>, class: Class, dates: Dates) -> Result<(), Broken> {
+    rule_5(sheet, class)?;
+    let code = rule_7(sheet)?;
+    let payer = rule_8(sheet)?;
+    rule_9(sheet)?;
+    let status = rule_10(sheet, dates)?;
+    rule_11(sheet)?;
+    rule_12(sheet)?;
+    rule_13(sheet)?;
+    rule_14(sheet)?;
+    rule_16(sheet)?;
+    let frame = Frame {
+        sheet,
+        class,
+        code,
+        payer,
+        status,
+    };
+    frame.rules_19_to_24()?;
+    frame.rule_27()?;
+    rule_28(sheet)?;
+    frame.rule_30()
+}
+
+/// A budget payment without 106, 108 and 109, with what rules 7, 8 and 10 find out
+/// about it for rules 19 to 35.
+struct Frame<'a> {
     sheet: &'a Sheet<'a>,
     class: Class,
     code: Code,
     payer: Payer,
     status: Status,
-    basis: Basis,
-    document: Document<'a>,
-    date: DocumentDate,
 }
 
-impl<'a> Order<'a> {
-    /// Rules 5 to 18: each field's own form.
-    fn parse(sheet: &'a Sheet<'a>, class: Class, dates: Dates) -> Result<Self, Broken> {
-        rule_5(sheet, class)?;
-        rule_6(sheet)?;
-        let code = rule_7(sheet)?;
-        let payer = rule_8(sheet)?;
-        rule_9(sheet)?;
-        let status =
-            Status::parse(sheet[Field::Status], dates).ok_or(broken(Field::Status, Rule(10)))?;
-        rule_11(sheet)?;
-        rule_12(sheet)?;
-        rule_13(sheet)?;
-        rule_14(sheet)?;
-        let basis = Basis::parse(sheet[Field::Basis]).ok_or(broken(Field::Basis, Rule(15)))?;
-        rule_16(sheet)?;
-        let document =
-            Document::parse(sheet[Field::Document]).ok_or(broken(Field::Document, Rule(17)))?;
-        let date = DocumentDate::parse(sheet[Field::Date]).ok_or(broken(Field::Date, Rule(18)))?;
-
-        Ok(Self {
-            sheet,
-            class,
-            code,
-            payer,
-            status,
-            basis,
-            document,
-            date,
-        })
-    }
-
-    /// Rules 19 to 35, 22 ahead of 21: what the fields demand of one another.
-    fn relations(&self) -> Result<(), Broken> {
+impl Frame<'_> {
+    /// Rules 19 to 24, 22 ahead of 21.
+    fn rules_19_to_24(&self) -> Result<(), Broken> {
         let class_a = self.class == Class::A;
         let account = self.sheet[Field::RecipientAccount];
-        let customs = self.status.is_customs();
-
         require(
             !(class_a && self.status.is_treasury()) || account.starts_with(TREASURY),
             Field::RecipientAccount,
@@ -641,25 +642,94 @@ impl<'a> Order<'a> {
             self.status != Status(13) || self.payer.is_inn() || self.code == Code::Uin,
             Field::PayerInn,
             Rule(24),
-        )?;
+        )
+    }
+
+    /// Rule 27: "60 of 12 digits: "0"; of 5: not "0"; of 10: not "0" unless
+    /// status 01". With rule 8 kept, 10 or 12 digits are an INN. By rule 11 "a
+    /// KPP other than "0" has this form", [`is_kpp`].
+    fn rule_27(&self) -> Result<(), Broken> {
+        let zero = self.sheet[Field::PayerKpp] == ZERO;
+        let kept = match self.payer {
+            Payer::Zero => true,
+            Payer::Foreign => !zero,
+            Payer::Inn10 => !zero || self.status == Status(1),
+            Payer::Inn12 => zero,
+        };
+        require(kept, Field::PayerKpp, Rule(27))
+    }
+
+    /// Rule 30: "(107) customs group: 8 digits; otherwise "0"". With rule 16 kept,
+    /// what isn't "0" is 8 digits.
+    fn rule_30(&self) -> Result<(), Broken> {
+        let office = self.sheet[Field::CustomsOffice] != ZERO;
+        let kept = self.status.is_customs() == office;
+        require(kept, Field::CustomsOffice, Rule(30))
+    }
+}
+
+/// A budget payment, with what rules 5 to 18 find out about it for rules 19 to
+/// 35.
+struct Order<'a> {
+    frame: Frame<'a>,
+    basis: Basis,
+    document: Document<'a>,
+    date: DocumentDate,
+}
+
+impl<'a> Order<'a> {
+    /// Rules 5 to 18: each field's own form.
+    fn parse(sheet: &'a Sheet<'a>, class: Class, dates: Dates) -> Result<Self, Broken> {
+        rule_5(sheet, class)?;
+        rule_6(sheet)?;
+        let code = rule_7(sheet)?;
+        let payer = rule_8(sheet)?;
+        rule_9(sheet)?;
+        let status = rule_10(sheet, dates)?;
+        rule_11(sheet)?;
+        rule_12(sheet)?;
+        rule_13(sheet)?;
+        rule_14(sheet)?;
+        let basis = Basis::parse(sheet[Field::Basis]).ok_or(broken(Field::Basis, Rule(15)))?;
+        rule_16(sheet)?;
+        let document =
+            Document::parse(sheet[Field::Document]).ok_or(broken(Field::Document, Rule(17)))?;
+        let date = DocumentDate::parse(sheet[Field::Date]).ok_or(broken(Field::Date, Rule(18)))?;
+
+        Ok(Self {
+            frame: Frame {
+                sheet,
+                class,
+                code,
+                payer,
+                status,
+            },
+            basis,
+            document,
+            date,
+        })
+    }
+
+    /// Rules 19 to 35, 22 ahead of 21: what the fields demand of one another.
+    fn relations(&self) -> Result<(), Broken> {
+        let frame = &self.frame;
+        let customs = frame.status.is_customs();
+
+        frame.rules_19_to_24()?;
         require(
-            !self.status.is_person() || self.names_person(),
+            !frame.status.is_person() || self.names_person(),
             Field::Document,
             Rule(25),
         )?;
         require(
-            !self.status.needs_uin() || self.document == Document::Zero,
+            !frame.status.needs_uin() || self.document == Document::Zero,
             Field::Document,
             Rule(26),
         )?;
-        require(self.keeps_payer_kpp(), Field::PayerKpp, Rule(27))?;
-        rule_28(self.sheet)?;
+        frame.rule_27()?;
+        rule_28(frame.sheet)?;
         require(customs || self.basis == Basis::Zero, Field::Basis, Rule(29))?;
-        require(
-            customs == (self.sheet[Field::CustomsOffice] != ZERO),
-            Field::CustomsOffice,
-            Rule(30),
-        )?;
+        frame.rule_30()?;
         require(
             customs || self.date == DocumentDate::Zero,
             Field::Date,
@@ -688,21 +758,8 @@ impl<'a> Order<'a> {
     fn names_person(&self) -> bool {
         match self.document {
             Document::Snils(_) | Document::Person => true,
-            Document::Zero => self.payer == Payer::Inn12 || self.code == Code::Uin,
+            Document::Zero => self.frame.payer == Payer::Inn12 || self.frame.code == Code::Uin,
             Document::DoubleZero | Document::Other => false,
-        }
-    }
-
-    /// Rule 27: "60 of 12 digits: "0"; of 5: not "0"; of 10: not "0" unless
-    /// status 01". With rule 8 kept, 10 or 12 digits are an INN. By rule 11 "a
-    /// KPP other than "0" has this form", [`is_kpp`].
-    fn keeps_payer_kpp(&self) -> bool {
-        let zero = self.sheet[Field::PayerKpp] == ZERO;
-        match self.payer {
-            Payer::Zero => true,
-            Payer::Foreign => !zero,
-            Payer::Inn10 => !zero || self.status == Status(1),
-            Payer::Inn12 => zero,
         }
     }
 

@@ -5,6 +5,7 @@ mod r10;
 mod r11;
 mod r12;
 mod r13;
+mod r14;
 mod r1_r2;
 mod r3;
 mod r4;

@@ -133,13 +133,13 @@ fn ends() -> Vec<Example> {
 }
 
 /// An order that status 02 completes, or 04 where 02 is not allowed.
-fn found() -> Texts {
+pub fn found() -> Texts {
     let open = Texts::s().without(&BLANKS);
     open.with(60, b"0").with(102, b"0")
 }
 
 /// An order that no status completes.
-fn hopeless() -> Texts {
+pub fn hopeless() -> Texts {
     Texts::s().without(&BLANKS).with(17, INSTITUTION)
 }
 
@@ -230,14 +230,11 @@ fn completions() -> Vec<Example> {
 #[cfg(test)]
 mod tests {
     use super::*;
+    use crate::example::has_line;
 
-    /// The example with this name has this line.
     #[track_caller]
     fn is(name: &str, line: &str) {
-        let mut examples = all().into_iter();
-        let example = examples.find(|example| example.name == name);
-        let output = example.expect(name).output();
-        assert_eq!(output, format!("{line}\n").as_bytes(), "{name}");
+        has_line(&all(), name, line);
     }
 
     #[test]

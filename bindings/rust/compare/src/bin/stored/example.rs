@@ -3,7 +3,7 @@
 
 use cases::{Dates, Draft, Sheet};
 use compare::{Library, Reference};
-use kieselbrot::Refusal;
+use kieselbrot::{Completed, Quickened, Refusal};
 use reference::{read, report};
 
 /// What an example asks for.
@@ -15,6 +15,8 @@ pub enum Kind {
     CheckAt,
     /// Complete the order of these messages at the dates before them.
     CompleteAt,
+    /// Complete it quickly.
+    QuickAt,
     /// Read a message.
     Message,
     /// Report on an input of the program `budgetorder`.
@@ -27,6 +29,7 @@ impl Kind {
             Self::Check => b'c',
             Self::CheckAt => b'd',
             Self::CompleteAt => b'o',
+            Self::QuickAt => b'q',
             Self::Message => b'm',
             Self::Report => b'r',
         }
@@ -43,6 +46,10 @@ impl Kind {
             Self::CompleteAt => {
                 let (dates, messages) = dated(bytes);
                 line(completed(messages, dates))
+            }
+            Self::QuickAt => {
+                let (dates, messages) = dated(bytes);
+                line(quickened(messages, dates))
             }
             Self::Message => line(message_read(bytes)),
             Self::Report => report(bytes),
@@ -78,7 +85,24 @@ pub fn with_dates(dates: Dates, bytes: &[u8]) -> Vec<u8> {
 /// refusal's number and what it returns. Messages are read as the program reads them.
 fn completed(messages: &[u8], dates: Dates) -> Vec<u8> {
     let mut sheet: Sheet = [0; 390];
-    match Reference.complete(&posted(messages), &mut sheet, dates) {
+    let completed = Reference.complete(&posted(messages), &mut sheet, dates);
+    completion(completed, &sheet)
+}
+
+/// The same, and with a sheet or 10 how many statuses a quick completion skips.
+fn quickened(messages: &[u8], dates: Dates) -> Vec<u8> {
+    let mut sheet: Sheet = [0; 390];
+    let Quickened { completed, skipped } = Reference.quick(&posted(messages), &mut sheet, dates);
+    let line = completion(completed, &sheet);
+    match completed {
+        Ok(_) | Err(Refusal::NoFilling { .. }) => [line, format!(" {skipped}").into()].concat(),
+        Err(_) => line,
+    }
+}
+
+/// The line of a completion, by the sheet afterwards.
+fn completion(completed: Result<Completed, Refusal>, sheet: &Sheet) -> Vec<u8> {
+    match completed {
         Ok(completed) => {
             let (count, set, ones) = (completed.count, completed.set, completed.ones);
             let slot = &sheet[26 * cases::slot_of(101)..];
@@ -169,6 +193,15 @@ impl Example {
     }
 }
 
+/// The example with this name has this line.
+#[cfg(test)]
+#[track_caller]
+pub fn has_line(examples: &[Example], name: &str, line: &str) {
+    let example = examples.iter().find(|example| example.name == name);
+    let output = example.expect(name).output();
+    assert_eq!(output, format!("{line}\n").as_bytes(), "{name}");
+}
+
 #[cfg(test)]
 mod tests {
     use super::*;
@@ -183,6 +216,7 @@ mod tests {
         assert_eq!(letter(Kind::Report), [b'r', 0, 0]);
         assert_eq!(letter(Kind::CheckAt), [b'd', 0, 0]);
         assert_eq!(letter(Kind::CompleteAt), [b'o', 0, 0]);
+        assert_eq!(letter(Kind::QuickAt), [b'q', 0, 0]);
     }
 
     #[test]

@@ -13,6 +13,7 @@ use std::process::ExitCode;
 mod dates;
 mod example;
 mod messages;
+mod quick;
 mod reports;
 mod sheets;
 
@@ -37,7 +38,14 @@ fn main() -> ExitCode {
 
 /// All examples, in the order in which they are stored.
 fn all() -> Vec<Example> {
-    [sheets::all(), messages::all(), reports::all(), dates::all()].concat()
+    [
+        sheets::all(),
+        messages::all(),
+        reports::all(),
+        dates::all(),
+        quick::all(),
+    ]
+    .concat()
 }
 
 fn input(examples: &[Example]) -> Vec<u8> {
