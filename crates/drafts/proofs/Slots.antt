@@ -1,13 +1,13 @@
 -- Slots: what one of a revision and a text reads as, and the slots after one was put in. Assumes nothing.
 use mathlib.Core.Path.{_≡_, refl, sym, ap, _∙_}
-use mathlib.Core.Bool.{Bool, true, false, not, _&&_, _||_}
+use mathlib.Core.Bool.{Bool, true, false, not, cond, _&&_, false≢true}
 use mathlib.Core.List.{List, [], _∷_}
 use mathlib.Core.Logic.{inl, inr}
 use Prim.Native.Nat.{ℕ, zero, suc, _+_, _-_, _*_, _^_, _<_, _≤_, zero-le}
 use native.Mathlib.Numerals.{add-one}
 use native.Mathlib.Decide.{decLt}
 use native.Mathlib.Omega.{arith}
-use borrow.Author.Tests.{ltb-true, le-leb, eq-eqb, ne-eqb, eqb-true}
+use borrow.Author.Tests.{ltb-true, le-leb, eq-eqb, ne-eqb, eqb-true, not-true, not-false}
 use borrow.Author.Needs.{needs}
 use lib.Dec.{eqb, ltb}
 use lib.ListN.{length, getD, take, drop, replicate, length-append, length-drop, length-replicate}
@@ -23,7 +23,7 @@ use Rattle.sheets.specs.Sheet.{slotCount, textMax, cellSize, cell, cellText, ce
 use Rattle.sheets.specs.Working.Cells.{cellAt, cellsAt}
 use Rattle.drafts.specs.Message.{revisionSize}
 use Rattle.drafts.specs.Draft.{cellPlace, slotSize, draftSize, slotIn, slotRevision, slotCell, slotText, slotBytes, slotFormed, slotsFormed, draftFormed}
-use Rattle.drafts.specs.Working.Steps.{headFits, headsFit}
+use Rattle.drafts.specs.Working.Steps.{unrevised, unrevisedAll}
 
 -- ---- a slot of a revision and a text
 
@@ -83,14 +83,23 @@ pub formed-other : (d : List ℕ) → (length d ≡ draftSize → ⊥) → false
 unfolding draftFormed
 formed-other d e = simp (ne-eqb (length d) draftSize e)
 
--- the loop: the first n slots fit
-pub heads-none : (d : List ℕ) → true ≡ headsFit d 0
-unfolding headsFit
-heads-none d = refl
+-- the loop: the lengths of texts without a revision, summed
+pub unrevised-none : (d : List ℕ) → 0 ≡ unrevisedAll d 0
+unfolding unrevisedAll
+unrevised-none d = refl
 
-pub heads-more : (d s : List ℕ) (n : ℕ) (f b : Bool) → f ≡ headsFit d n → s ≡ slotIn d n → b ≡ headFits s → (f && b) ≡ headsFit d (n + 1)
-unfolding headsFit
-heads-more d s n f b e es eb = rw (add-one n, e, eb, es)
+pub unrevised-more : (d s : List ℕ) (n k m : ℕ) → k ≡ unrevisedAll d n → s ≡ slotIn d n → m ≡ unrevised s → k + m ≡ unrevisedAll d (n + 1)
+unfolding unrevisedAll
+unrevised-more d s n k m e es em = rw (add-one n, e, em, es)
+
+-- the ways out of `unrevised`
+pub unrevised-text : (s : List ℕ) (r m n : ℕ) → r ≡ slotRevision s → r ≡ 0 → m ≡ getD s cellPlace 0 → n ≡ m → n ≡ unrevised s
+unfolding unrevised
+unrevised-text s r m n e z g w = rw (eq-eqb _ _ (sym e ∙ z)) (w ∙ g)
+
+pub unrevised-given : (s : List ℕ) (r : ℕ) → r ≡ slotRevision s → (r ≡ 0 → ⊥) → 0 ≡ unrevised s
+unfolding unrevised
+unrevised-given s r e z = rw (ne-eqb _ _ (λ q. z (e ∙ q)))
 
 pub record Formed (d : List ℕ) : Type 0 where
   pub sized : length d ≡ draftSize
@@ -134,20 +143,20 @@ slot-inside : (d : List ℕ) → length d ≡ draftSize → (i : ℕ) → i < sl
 unfolding cellAt
 slot-inside d z i h = rw (le-leb (cellPlace + i * slotSize + cellSize) (length d) (omega arith), slot-cell-at d z i h)
 
-heads-each : (d : List ℕ) (n : ℕ) → headsFit d n ≡ true → (i : ℕ) → i < n → headFits (slotIn d i) ≡ true
-unfolding headsFit
-heads-each d zero e i h = absurd (omega arith)
-heads-each d (suc n) e i h =
-    let p = both (headsFit d n) (headFits (slotIn d n)) e in
+-- a sum is 0 exactly if each of its numbers is
+sum-none : (d : List ℕ) (n : ℕ) → unrevisedAll d n ≡ 0 → (i : ℕ) → i < n → unrevised (slotIn d i) ≡ 0
+unfolding unrevisedAll
+sum-none d zero e i h = absurd (omega arith)
+sum-none d (suc n) e i h =
     elim (decLt i n) [
-      | yes l ↦ heads-each d n (p .0) i l
-      | no q ↦ let k : i ≡ n = omega arith in rw k (p .1)
+      | yes l ↦ sum-none d n (omega arith) i l
+      | no q ↦ let k : i ≡ n = omega arith in rw k (omega arith)
     ]
 
-heads-by : (d : List ℕ) (n : ℕ) → ((i : ℕ) → i < n → headFits (slotIn d i) ≡ true) → headsFit d n ≡ true
-unfolding headsFit
-heads-by d zero f = refl
-heads-by d (suc n) f = and2 (headsFit d n) (headFits (slotIn d n)) (heads-by d n (λ i h. f i (omega arith))) (f n (omega arith))
+none-sum : (d : List ℕ) (n : ℕ) → ((i : ℕ) → i < n → unrevised (slotIn d i) ≡ 0) → unrevisedAll d n ≡ 0
+unfolding unrevisedAll
+none-sum d zero f = refl
+none-sum d (suc n) f = rw (none-sum d n (λ i h. f i (omega arith)), f n (omega arith))
 
 -- a text is blank exactly if its length is 0
 short-blank : (c : List ℕ) → 2 ≤ length c → eqb (length (take (1 + getD c 0 0 - 1) (drop 1 c))) 0 ≡ eqb (getD c 0 0) 0
@@ -167,41 +176,36 @@ text-blank s l =
     short-blank c k ∙ ap (λ (n : ℕ). eqb n 0) g
 
 -- "revision 0 with a text", as the definition and as the code ask it
-no-text : (z b : Bool) → not (z && not b) ≡ (not z || b)
-no-text true true = refl
-no-text true false = refl
-no-text false b = refl
+twice : (b : Bool) → not (not b) ≡ b
+twice true = refl
+twice false = refl
 
-slot-is : (s : List ℕ) → length s ≡ slotSize → slotFormed s ≡ (cellOk (slotCell s) && headFits s)
-unfolding slotFormed headFits
-slot-is s l = rw (← text-blank s l, no-text (eqb (slotRevision s) 0) (blank (slotText s)))
+no-text : (z : Bool) (n : ℕ) → not (z && not (eqb n 0)) ≡ eqb (cond z n 0) 0
+no-text true n = twice (eqb n 0)
+no-text false n = refl
 
-pub tested : (d : List ℕ) (n : ℕ) (f q : Bool) → f ≡ headsFit d n → n ≤ slotCount → slotCount ≤ n → length d ≡ draftSize → q ≡ cellsAt slotSize slotCount d cellPlace → (f && q) ≡ draftFormed d
-tested d n f q c l h z e = alike (f && q) (draftFormed d) forth back
-  where
-    k : n ≡ slotCount
-    k = omega arith
+slot-is : (s : List ℕ) → length s ≡ slotSize → slotFormed s ≡ (cellOk (slotCell s) && eqb (unrevised s) 0)
+unfolding slotFormed unrevised
+slot-is s l = rw (text-blank s l, no-text (eqb (slotRevision s) 0) (getD s cellPlace 0))
 
-    all : headsFit d slotCount ≡ f
-    all = rw (← k) (sym c)
+module _ (d : List ℕ) (z : length d ≡ draftSize) (q : Bool) (e : q ≡ cellsAt slotSize slotCount d cellPlace) where
+  slot-at : (i : ℕ) → i < slotCount → slotFormed (slotIn d i) ≡ (cellAt d (cellPlace + i * slotSize) && eqb (unrevised (slotIn d i)) 0)
+  slot-at i h = slot-is (slotIn d i) (length-slot-in d z i h) ∙ rw (slot-inside d z i h)
 
-    slot-at : (i : ℕ) → i < slotCount → slotFormed (slotIn d i) ≡ (cellAt d (cellPlace + i * slotSize) && headFits (slotIn d i))
-    slot-at i h = slot-is (slotIn d i) (length-slot-in d z i h) ∙ rw (slot-inside d z i h)
+  both-formed : draftFormed d ≡ true → (q ≡ true) × (unrevisedAll d slotCount ≡ 0)
+  both-formed t =
+      let w = formed-means d t in
+      let each : (i : ℕ) → i < slotCount → (cellAt d (cellPlace + i * slotSize) ≡ true) × (eqb (unrevised (slotIn d i)) 0 ≡ true) = λ i j. both _ _ (sym (slot-at i j) ∙ w .slot i j) in
+      (e ∙ cells-by slotSize d slotCount cellPlace (λ i j. each i j .0), none-sum d slotCount (λ i j. eqb-true _ _ (each i j .1)))
 
-    forth : (f && q) ≡ true → draftFormed d ≡ true
-    forth t =
-        let p = both f q t in
-        formed-by d (
-        record {
-          sized = z;
-          slot = λ i j. slot-at i j ∙ and2 _ (headFits (slotIn d i)) (cells-each slotSize d slotCount cellPlace (sym e ∙ p .1) i j) (heads-each d slotCount (all ∙ p .0) i j);
-        }
-        )
+  pub cells-not : not q ≡ true → false ≡ draftFormed d
+  cells-not f = alike false (draftFormed d) (λ x. absurd (false≢true x)) (λ t. sym (not-true q f) ∙ both-formed t .0)
 
-    back : draftFormed d ≡ true → (f && q) ≡ true
-    back t =
-        let w = formed-means d t in
-        let each : (i : ℕ) → i < slotCount → (cellAt d (cellPlace + i * slotSize) ≡ true) × (headFits (slotIn d i) ≡ true) = λ i j. both _ (headFits (slotIn d i)) (sym (slot-at i j) ∙ w .slot i j) in
-        and2 f q (sym all ∙ heads-by d slotCount (λ i j. each i j .1)) (e ∙ cells-by slotSize d slotCount cellPlace (λ i j. each i j .0))
+  pub tested : (n k : ℕ) → not q ≡ false → k ≡ unrevisedAll d n → n ≤ slotCount → slotCount ≤ n → eqb k 0 ≡ draftFormed d
+  tested n k t c l h =
+      let all : unrevisedAll d slotCount ≡ k = let m : n ≡ slotCount = omega arith in rw (← m) (sym c) in
+      alike (eqb k 0) (draftFormed d)
+      (λ u. formed-by d (record { sized = z; slot = λ i j. slot-at i j ∙ and2 _ _ (cells-each slotSize d slotCount cellPlace (sym e ∙ not-false q t) i j) (eq-eqb _ _ (sum-none d slotCount (all ∙ eqb-true _ _ u) i j)) }))
+      (λ u. eq-eqb _ _ (sym all ∙ both-formed u .1))
 
-pub ruleset forms = (needs, formed-other, heads-none, heads-more, tested)
+pub ruleset forms = (needs, formed-other, cells-not, unrevised-none, unrevised-more, unrevised-text, unrevised-given, tested)

@@ -5,7 +5,7 @@ ghost use lib.ListN.{length};
 ghost use Rattle.texts.specs.Buffers.{putAt};
 ghost use Rattle.sheets.specs.Sheet.{textMax};
 ghost use Rattle.drafts.specs.Draft.{slotSize, slotIn, slotRevision, slotCell, draftFormed, slotComparison, slotBytes};
-ghost use Rattle.drafts.specs.Working.Steps.{headFits, sheetInto};
+ghost use Rattle.drafts.specs.Working.Steps.{unrevised, sheetInto};
 ghost use Rattle.drafts.specs.Promises.{Freshens, Posts, Copies};
 use crate::message::REVISION_SIZE;
 use crate::message::Reading;
@@ -85,27 +85,36 @@ fn slot_cell(slot: &[u8]) -> &[u8]
     part(slot, CELL_PLACE, SLOT_SIZE)
 }
 
-// Not "revision 0 with a text": the text's length is asked, and no branch is taken, since which slots are given is hard to foretell.
-fn head_fits(slot: &[u8]) -> bool
-    ensures { λ r. ⌜ r ≡ headFits (now (slot .entry)) ⌝ }
+// "Revision 0 with a text": the length of such a text, 0 where there is none.
+fn unrevised(slot: &[u8]) -> usize
+    ensures { λ r. ⌜ (r ≡ unrevised (now (slot .entry))) × (r ≤ 255) ⌝ }
 {
-    (slot_revision(slot).number != 0) | (at(slot, CELL_PLACE) == 0)
+    let n = wide(at(slot, CELL_PLACE));
+    if slot_revision(slot).number == 0 {
+        n
+    } else {
+        0
+    }
 }
 
-// "Malformed: another size, a length above 25, a nonzero pad byte; in a draft also revision 0 with a text".
+// "Malformed: another size, a length above 25, a nonzero pad byte; in a draft also revision 0 with a text". The lengths of texts without a
+// revision are summed: a test for each slot is compiled to a branch, and which slots are given is hard to foretell.
 pub fn well_formed(draft: &[u8]) -> bool
     ensures { λ r. ⌜ r ≡ draftFormed (now (draft .entry)) ⌝ }
 {
     if draft.len() != DRAFT_SIZE {
         return false;
     }
-    let mut fits = true;
+    if !cells_ok(draft, FIRST_CELL, SLOT_STEP) {
+        return false;
+    }
+    let mut sum = 0;
     let mut slot: u8 = 0;
     while slot < SLOT_COUNT {
-        fits = fits & head_fits(slot_in(draft, slot));
+        sum += unrevised(slot_in(draft, slot));
         slot += 1;
     }
-    fits & cells_ok(draft, FIRST_CELL, SLOT_STEP)
+    sum == 0
 }
 
 // "Fresh: all zero".

@@ -1,8 +1,8 @@
 -- What the account of a list of postings asks of a slot, what the test of a draft asks of it beside its cell, and what `put_sheet` leaves.
 -- Assumes nothing.
-use mathlib.Core.Bool.{Bool, true, not, cond, _&&_, _||_}
+use mathlib.Core.Bool.{cond, _&&_}
 use mathlib.Core.List.{List}
-use Prim.Native.Nat.{ℕ, zero, suc}
+use Prim.Native.Nat.{ℕ, zero, suc, _+_}
 use lib.Dec.{eqb}
 use lib.ListN.{length, getD}
 use Rattle.sheets.specs.Sheet.{sheetSize}
@@ -16,10 +16,10 @@ slotRank s = slotRevision s
 unfoldable pub sheetInto : List ℕ → List ℕ → List ℕ
 sheetInto d s = cond (eqb (length d) draftSize && eqb (length s) sheetSize) (draftSheet d) s
 
--- a slot of revision 0 has a text of length 0; the first n slots are so
-unfoldable pub headFits : List ℕ → Bool
-headFits s = not (eqb (slotRevision s) 0) || eqb (getD s cellPlace 0) 0
+-- the length of a text in a slot of revision 0, 0 where there is none; and in the first n slots together
+unfoldable pub unrevised : List ℕ → ℕ
+unrevised s = cond (eqb (slotRevision s) 0) (getD s cellPlace 0) 0
 
-unfoldable pub headsFit : List ℕ → ℕ → Bool
-headsFit d zero = true
-headsFit d (suc n) = headsFit d n && headFits (slotIn d n)
+unfoldable pub unrevisedAll : List ℕ → ℕ → ℕ
+unrevisedAll d zero = 0
+unrevisedAll d (suc n) = unrevisedAll d n + unrevised (slotIn d n)
