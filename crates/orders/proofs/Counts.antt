@@ -14,7 +14,7 @@ use Rattle.texts.proofs.Bools.{both}
 use Rattle.sheets.specs.Sheet.{cell}
 use Rattle.rules.specs.Rules.{firstBlank, rules, order, ahead, testOf, fieldOf, keeps, firstNot}
 use Rattle.rules.specs.R4.{rulesBefore}
-use Rattle.rules.specs.R7.{datesOf, given}
+use Rattle.sheets.specs.DatesTable.{datesOf, given}
 use Rattle.sheets.specs.Working.Entries.{filledAt}
 use Rattle.sheets.specs.Dates.{textsIn, statusCount, programDates}
 use Rattle.sheets.specs.declared.dates.Dates.{Dates}

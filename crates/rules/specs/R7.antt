@@ -11,6 +11,7 @@ use Rattle.sheets.specs.Sheet.{Sheet, wellFormed, _⟨_⟩}
 use Rattle.sheets.specs.Forms.{_⇒_}
 use Rattle.sheets.specs.Lists.{account03100}
 use Rattle.sheets.specs.Dates.{programDates}
+use Rattle.sheets.specs.DatesTable.{datesOf, given}
 use Rattle.sheets.specs.declared.dates.Dates.{Dates}
 use Rattle.rules.specs.Rules.{Rule, general, special, forBudget, order, classOf, classA, status, testOf, keepsAll}
 use Rattle.rules.specs.Verdicts.{className, brokenRule, checked}
@@ -58,14 +59,6 @@ beforehand :
     ≡ accepted "A" ∷ broken 101 10 ∷ broken 101 10 ∷ broken 17 19 ∷ broken 101 10 ∷ []
 unfolding answer was rulesBefore checkedBefore testsBefore
 beforehand = refl
-
--- the order's date; the first for 32, the first for 33, the last for 02
-abbrev pub datesOf : ℕ → ℕ → ℕ → ℕ → Dates
-datesOf n a b c = record { order = record { 0 = n }; first32 = record { 0 = a }; first33 = record { 0 = b }; last02 = record { 0 = c } }
-
--- with the record that R-7 gives
-abbrev pub given : ℕ → Dates
-given n = datesOf n 20231001 20240101 20231231
 
 undated : Answer
 undated = refusal 12 []

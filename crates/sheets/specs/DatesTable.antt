@@ -9,11 +9,17 @@ use Rattle.sheets.specs.Dates.{datesFit, statusTexts, programDates}
 use Rattle.sheets.specs.Working.Computing.{sheetsComputing}
 use Rattle.sheets.specs.declared.dates.Dates.{Dates}
 
-abbrev datesOf : ℕ → ℕ → ℕ → ℕ → Dates
+-- the order's date; the first for 32, the first for 33, the last for 02
+abbrev pub datesOf : ℕ → ℕ → ℕ → ℕ → Dates
 datesOf n a b c = record { order = record { 0 = n }; first32 = record { 0 = a }; first33 = record { 0 = b }; last02 = record { 0 = c } }
 
-abbrev given : ℕ → Dates
+-- with the record that R-7 gives
+abbrev pub given : ℕ → Dates
 given n = datesOf n 20231001 20240101 20231231
+
+-- "The program uses 20240101 and 20231001, 20240101, 20231231"
+program : (programDates .order .0 ∷ programDates .first32 .0 ∷ programDates .first33 .0 ∷ programDates .last02 .0 ∷ []) ≡ 20240101 ∷ 20231001 ∷ 20240101 ∷ 20231231 ∷ []
+program = refl
 
 pub programs : statusTexts programDates ≡ words "01 03 04 05 06 07 08 13 15 16 17 19 20 23 24 27 28 29 30 31 32 33"
 unfolding sheetsComputing
