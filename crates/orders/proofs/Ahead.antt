@@ -68,7 +68,7 @@ module _ (D : Dates) (s : Sheet) where
         let q = Memᴰ·of-map (pickedOf D (baseOf s)) (picks D (baseOf s)) m in
         subst (AlikeBut varying (baseOf s)) (q .2) (picked-alike D (baseOf s) (q .0) (base-length D s size) .1)
 
-    alike : AlikeBut varying g h
+    pub alike : AlikeBut varying g h
     alike k e = sym (of-base g wg k e) ∙ of-base h wh k e
 
     -- rule 6 asks of the four only whether they are blank

@@ -8,6 +8,7 @@ pub mod Ahead
 pub mod Whole
 pub mod Completing
 pub mod Skipping
+pub mod Caught
 pub mod SkippedList
 pub mod Quickening
 pub mod Pretesting

@@ -16,6 +16,7 @@ use Rattle.fillings.specs.Filled.{tally}
 use Rattle.fillings.proofs.Distinct.{choice-once}
 use Rattle.orders.specs.Fillings.{firstFilling}
 use Rattle.orders.specs.Skipping.{statusSlot, statusesOf, fails, upTo, skippedOf, AreSkipped}
+use Rattle.orders.proofs.Caught.{alike-by, fails-each, all-skipped}
 use Rattle.orders.proofs.Lists.{proper}
 
 module _ (p : List ℕ → Bool) where
@@ -105,4 +106,6 @@ are-skipped D s =
       count = tally-those (fails D s) us;
       holds = λ x. (of-those (fails D s) us x, λ h. in-those (fails D s) us x (h .0) (h .1));
       once = once-those (fails D s) us (once-up (statusesOf D s) (firstFilling D s) (choice-once (proper D) s statusSlot));
+      alike = alike-by D s;
+      caught = λ z b n. (fails-each D s z b n, all-skipped D s z b n);
     }

@@ -86,7 +86,7 @@ module _ (D : Dates) (s : Sheet) (size : length s ≡ 390) where
   unfolding baseOf any are among
   base-cell = cell-left zeroEntries s size zeros-fit 6 (omega arith) refl
 
-  length-statuses : length (statusesOf D s) ≡ wide
+  pub length-statuses : length (statusesOf D s) ≡ width (blank (textOf (baseOf s) 6)) (statusCount D)
   unfolding listOf
   length-statuses = length-choices (listOf D) s 6 ∙ ap (λ (b : Bool). width b (statusCount D)) (status-blank D s ∙ ap blank (sym base-status))
 
@@ -156,6 +156,9 @@ module _ (D : Dates) (s : Sheet) (size : length s ≡ 390) where
         (each-holds (first-place (blank (textOf (baseOf s) 13)) zeroCount (omega arith)) _ _
         (each-holds (first-place (blank (textOf (baseOf s) 14)) zeroCount (omega arith)) ([] ∷ []) [] (List·Memᴰ·head refl))))))
 
+    pub with-status : (f : Sheet) × Filling D s f × (cellOf f 6 ≡ getD (statusesOf D s) a [])
+    with-status = (_, filling-of (proper D) s size _ one-with, pick-status a l (0 ∷ 0 ∷ 0 ∷ []))
+
     pub fails-is : skips D (baseOf s) a ≡ fails D s (getD (statusesOf D s) a [])
     unfolding skips fails
     fails-is = go (every (keeps D (withStatus D (baseOf s) a)) earlyRules) refl
@@ -178,6 +181,11 @@ module _ (D : Dates) (s : Sheet) (size : length s ≡ 390) where
             let y : same (cellOf f 6) x ≡ true = ap (λ (k : List ℕ). same k x) c ∙ same-self x in
             let k = verdict f (filling-of (proper D) s size f one-with) c ∙ e in
             sym (any-member test one-with (rw (y, k)))
+
+    -- so the status fails by what any of its fillings breaks
+    pub fails-by : (f : Sheet) → Filling D s f → cellOf f 6 ≡ getD (statusesOf D s) a [] → not (every (keeps D f) quickRules) ≡ fails D s (getD (statusesOf D s) a [])
+    unfolding skips
+    fails-by f w e = ap not (verdict f w e) ∙ fails-is
 
   -- ---- how many
 

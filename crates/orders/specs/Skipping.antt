@@ -7,16 +7,17 @@ use Prim.Native.Nat.{ℕ, suc}
 use lib.ListN.{length, take}
 use Rattle.texts.specs.Texts.{every, any, same}
 use Rattle.texts.specs.Answers.{Answer, success, refusal}
-use Rattle.sheets.specs.Sheet.{Sheet, cellOf}
+use Rattle.sheets.specs.Sheet.{Sheet, sheetSize, cellOf}
 use Rattle.sheets.specs.declared.dates.Dates.{Dates}
-use Rattle.rules.specs.Rules.{keeps}
+use Rattle.rules.specs.Rules.{budget, keeps}
 use Rattle.drafts.specs.Draft.{draftSheet}
 use Rattle.fillings.specs.Fillings as of
 use Rattle.fillings.specs.Fillings.{Look, found, none, entryPlace, distinct}
 use Rattle.fillings.specs.Filled.{tally}
-use Rattle.orders.specs.Fillings.{listOf, fillings, firstFilling}
+use Rattle.orders.specs.Fillings.{listOf, Filling, fillings, firstFilling}
 use Rattle.orders.specs.Complete.{completeAnswer, completing}
 use Rattle.orders.specs.Whole.{Completes}
+use Rattle.orders.specs.Pretest.{brokenByAll}
 use Rattle.orders.specs.declared.complete.Completed.the-variants.{Filled, Impossible}
 use Rattle.orders.specs.declared.quick.Quickened.{Quickened}
 
@@ -31,7 +32,7 @@ statusSlot = 6
 abbrev pub statusesOf : Dates → Sheet → List (List ℕ)
 statusesOf D s = of.choices (listOf D) s statusSlot
 
--- "such a rule fails" for the status x: a filling that has it breaks one of these rules (and so does each that has it)
+-- "such a rule fails" for the status x: a filling that has it breaks one of these rules (and so does each that has it: `AreSkipped .alike`)
 unfoldable pub fails : Dates → Sheet → List ℕ → Bool
 fails D s x = any (λ (f : Sheet). same (cellOf f statusSlot) x && not (every (keeps D f) quickRules)) (fillings D s)
 
@@ -50,6 +51,14 @@ pub record AreSkipped (D : Dates) (s : Sheet) (n : ℕ) : Type 0 where
   pub count : n ≡ length list
   pub holds : (x : List ℕ) → List·Memᴰ x list ↔ (List·Memᴰ x (upTo (statusesOf D s) (firstFilling D s)) × (fails D s x ≡ true))
   pub once : distinct list ≡ true
+  -- a rule fails for a status exactly if it fails for each of its fillings, so that none that keeps the rules is passed over
+  pub alike : length s ≡ sheetSize → (f : Sheet) → Filling D s f → not (every (keeps D f) quickRules) ≡ fails D s (cellOf f statusSlot)
+  -- where the test ahead names a rule (R-3), every status is skipped
+  pub caught :
+      length s ≡ sheetSize
+      → budget s ≡ true
+      → (brokenByAll D s ≡ 0 → ⊥)
+      → ((x : List ℕ) → List·Memᴰ x (statusesOf D s) → fails D s x ≡ true) × (n ≡ length (statusesOf D s))
 
 -- an answer with k after its count: beside a sheet, and beside 10, whose only value is the count
 unfoldable pub withSkipped : ℕ → Answer → Answer

@@ -196,42 +196,41 @@ fn pretest(drafts: &[Draft]) -> Row {
     )
 }
 
-// A closure makes the answer with its sheet: handed through a function for both kinds of
-// rows, the sheet was copied once more, for 30 nanoseconds.
-
 fn complete(name: String, goal: Goal, drafts: &[Draft], dated: Dated) -> Row {
-    Row::measure(
+    into_one_sheet(
         name,
         goal,
         drafts,
-        |draft| {
-            let mut sheet = [0; 390];
-            let answer = dated.complete(draft, &mut sheet);
-            (answer, sheet)
-        },
-        |draft| {
-            let mut sheet = [0; 390];
-            let answer = dated.complete_by_second(draft, &mut sheet);
-            (answer, sheet)
-        },
+        |draft, sheet| dated.complete(draft, sheet),
+        |draft, sheet| dated.complete_by_second(draft, sheet),
     )
 }
 
 fn quick(name: String, goal: Goal, drafts: &[Draft], dated: Dated) -> Row {
+    into_one_sheet(
+        name,
+        goal,
+        drafts,
+        |draft, sheet| dated.quick(draft, sheet),
+        |draft, sheet| dated.quick_by_second(draft, sheet),
+    )
+}
+
+/// One sheet for all calls: the caller has no need to clear or to copy it.
+fn into_one_sheet<A, B>(
+    name: String,
+    goal: Goal,
+    drafts: &[Draft],
+    library: impl Fn(&Draft, &mut [u8]) -> A,
+    reference: impl Fn(&Draft, &mut [u8]) -> B,
+) -> Row {
+    let sheet = RefCell::new([0; 390]);
     Row::measure(
         name,
         goal,
         drafts,
-        |draft| {
-            let mut sheet = [0; 390];
-            let answer = dated.quick(draft, &mut sheet);
-            (answer, sheet)
-        },
-        |draft| {
-            let mut sheet = [0; 390];
-            let answer = dated.quick_by_second(draft, &mut sheet);
-            (answer, sheet)
-        },
+        |draft| library(draft, &mut sheet.borrow_mut()[..]),
+        |draft| reference(draft, &mut sheet.borrow_mut()[..]),
     )
 }
 
