@@ -39,7 +39,7 @@ use Rattle.drafts.specs.declared.draft.Posted.{Posted}
 use Rattle.drafts.specs.declared.draft.Posted.the-variants as posted
 use Rattle.drafts.specs.declared.draft.Copied.{Copied}
 use Rattle.drafts.specs.declared.draft.Copied.the-variants as copied
-use Rattle.texts.proofs.Refusals.{no-success, none-of, succeeds, succeeded, refused, unchanged, never}
+use Rattle.texts.proofs.Refusals.{no-success, none-of, succeeds, succeeded, refused, unchanged, never, Way, way-out, tested}
 use Rattle.drafts.proofs.Messages.{readable-means, slotted, reading-is, read-found, text-short, message-is}
 use Rattle.drafts.proofs.Ranks.{clashTest}
 use Rattle.drafts.proofs.EndSlots.{post-read}
@@ -286,27 +286,16 @@ copies-by d s r e p q = record {
       rw u (sheet-made d (c .0));
 }
 
-module _ (d s : List ℕ) (b : Bool) (eb : b ≡ draftFormed d) where
-  pub copy-malformed : not b ≡ true → Copies d s (copied.Refused (record { 0 = 1 })) s
-  unfolding copyingOf copiedTo copyTests
-  copy-malformed n = copies-by d s _ s (rw (← eb, not-true b n)) (rw (← eb, not-true b n))
+pub copy-out : (k : ℕ) (d s : List ℕ) (r : Copied) (e : List ℕ) → Way [] (draftSheet d) s (copyAnswer r) e (Copies d s r e) k (copyTests d s)
+unfolding copyingOf copiedTo
+copy-out k d s r e = way-out _ _ _ _ e _ k (copyTests d s) (copies-by d s r e)
 
-  module _ (nb : not b ≡ false) where
-    whole : draftFormed d ≡ true
-    whole = sym eb ∙ not-false b nb
-
-    pub copy-size : (length s ≡ sheetSize → ⊥) → Copies d s (copied.Refused (record { 0 = 7 })) s
-    unfolding copyingOf copiedTo copyTests
-    copy-size n = copies-by d s _ s (simp (whole, ne-eqb _ _ n)) (simp (whole, ne-eqb _ _ n))
-
-    pub copy-made : (o x e : List ℕ) → length o ≡ sheetSize → length s ≡ sheetSize → x ≡ sheetInto d o → e ≡ putAt s 0 x → Copies d s copied.Made e
-    unfolding copyingOf copiedTo copyTests
-    copy-made o x e lo z ex ee =
-        let sized = formed-means d whole .sized in
-        let ed : x ≡ draftSheet d = ex ∙ sheet-into d o sized lo in
-        let l = length-sheet d sized in
-        let p : putAt s 0 (draftSheet d) ≡ draftSheet d = put-fits s 0 (draftSheet d) (omega arith) ∙ put-whole s (draftSheet d) (l ∙ sym z) in
-        copies-by d s copied.Made e (simp (whole, eq-eqb _ _ z)) (ee ∙ rw (ed, p) (simp (whole, eq-eqb _ _ z)))
+pub copy-made : (d s : List ℕ) (b : Bool) (o x e : List ℕ) → e ≡ putAt s 0 x → x ≡ sheetInto d o → length o ≡ sheetSize → length s ≡ sheetSize → b ≡ draftFormed d → not b ≡ false → e ≡ draftSheet d
+copy-made d s b o x e ee ex lo z eb nb =
+    let sized = formed-means d (sym eb ∙ not-false b nb) .sized in
+    let ed : x ≡ draftSheet d = ex ∙ sheet-into d o sized lo in
+    let l = length-sheet d sized in
+    ee ∙ rw ed (put-fits s 0 (draftSheet d) (omega arith) ∙ put-whole s (draftSheet d) (l ∙ sym z))
 
 pub ruleset compares = (needs, lt-ltb, le-ltb, stand-is)
 
@@ -316,4 +305,4 @@ pub ruleset posts = (needs, post-malformed, post-unread, post-short, post-newer,
 
 pub ruleset sheets = (needs, cells-none, cells-more, cells-length, cells-all)
 
-pub ruleset copies = (needs, copy-malformed, copy-size, copy-made)
+pub ruleset copies = (needs, tested, copy-made)

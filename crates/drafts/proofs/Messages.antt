@@ -1,19 +1,19 @@
 -- Messages: what is known of a readable one, and the two ways round. Assumes nothing.
 use mathlib.Core.Path.{_≡_, refl, sym, ap, _∙_}
 use mathlib.Core.Logic.{_⊎_, inl, inr, ⊎-elim}
-use mathlib.Core.Bool.{Bool, true, false}
+use mathlib.Core.Bool.{Bool, true, false, not}
 use mathlib.Core.List.{List, [], _∷_, _++_, List·Memᴰ, List·Memᴰ·head, List·Memᴰ·tail, List·Memᴰ·cases-cons, List·Memᴰ·not-nil}
 use Prim.Native.Nat.{ℕ, zero, suc, _+_, _-_, _^_, _<_, _≤_}
 use native.Mathlib.Nat.{add-zero}
 use native.Mathlib.Omega.{arith}
-use borrow.Author.Tests.{lt-ltb, le-ltb, eq-eqb, ne-eqb, ltb-false, eqb-true, eqb-false, not-false}
+use borrow.Author.Tests.{le-ltb, eq-eqb, ne-eqb, ltb-false, eqb-true, eqb-false, not-false}
 use borrow.Author.Needs.{needs}
 use mir.Syntax.{w8, w32}
 use mir.Val.{Fits}
-use lib.Dec.{eqb}
+use lib.Dec.{eqb, ltb}
 use lib.ListN.{length, take, drop, getD, length-drop}
 use lib.Seq.{take-all, drop-cons}
-use Rattle.texts.specs.Answers.{success, refusal, passes}
+use Rattle.texts.specs.Answers.{success, passes}
 use Rattle.texts.specs.Texts.{between}
 use Rattle.texts.specs.Numbers.{Bytes, big, bytesOf, bytesAt}
 use Rattle.texts.specs.Buffers.{put, putAt}
@@ -28,7 +28,7 @@ use Rattle.drafts.specs.declared.message.Reading.{Reading}
 use Rattle.drafts.specs.declared.message.Reading.the-variants.{Message, Refused}
 use Rattle.drafts.specs.declared.message.Written.{Written}
 use Rattle.drafts.specs.declared.message.Written.the-variants as written
-use Rattle.texts.proofs.Refusals.{no-success, none-of, succeeds, succeeded, unchanged}
+use Rattle.texts.proofs.Refusals.{no-success, none-of, succeeds, succeeded, unchanged, Way, way-out, tested}
 
 -- ---- a listed field has a slot, and no other has one
 
@@ -218,69 +218,43 @@ reads-by m r h e = record {
       rw (p .1, p .2) (written-again m b (λ k. h k .fits) (p .0) u);
 }
 
--- the ways out of `read`; l is the number of the first two bytes
-module _ (m : List ℕ) (h : (k : ℕ) → Fits w8 (getD m k 0)) (a b l : ℕ) (ea : a ≡ getD m 0 0) (eb : b ≡ getD m 1 0) (el : l ≡ big (a ∷ b ∷ [])) where
-  pub read-under : length m < 2 → Reads m (Refused (record { 0 = 2 }))
-  unfolding readingOf readTests
-  read-under u = reads-by m _ h (simp (lt-ltb _ _ u))
+-- the ways out of `read`
+pub read-out : (k : ℕ) (m : List ℕ) (r : Reading) → ((i : ℕ) → Fits w8 (getD m i 0)) → Way (messageField m ∷ revisionOf m ∷ []) [] [] (readAnswer r) [] (Reads m r) k (readTests m)
+unfolding readingOf
+read-out k m r h = way-out _ [] [] _ [] _ k (readTests m) (λ p q. reads-by m r h p)
 
-  module _ (two : 2 ≤ length m) where
-    pub read-rest : (l + 2 ≡ length m → ⊥) → Reads m (Refused (record { 0 = 2 }))
-    unfolding readingOf readTests
-    read-rest n =
-        let x : lengthOf m + 2 ≡ length m → ⊥ = λ e. n (omega arith) in
-        reads-by m _ h (simp (le-ltb _ _ two, ne-eqb _ _ x))
+-- its tests, by what the code has for the parts of the message
+pub field-as : (g f k : ℕ) (z : Bool) → k ≡ slotOf f → f ≡ g → eqb k slotCount ≡ z → eqb (slotOf g) slotCount ≡ z
+field-as g f k z ek ef h = rw (← ef, ← ek) h
 
-    module _ (all : l + 2 ≡ length m) where
-      all-is : lengthOf m + 2 ≡ length m
-      all-is = omega arith
+module _ (m : List ℕ) where
+  module _ (a b l : ℕ) (el : l ≡ big (a ∷ b ∷ [])) (ea : a ≡ getD m 0 0) (eb : b ≡ getD m 1 0) (z : Bool) where
+    length-is : l ≡ lengthOf m
+    length-is = cc
 
-      pub read-low : l < leastL → Reads m (Refused (record { 0 = 2 }))
-      unfolding readingOf readTests
-      read-low u =
-          let x : lengthOf m < leastL = omega arith in
-          reads-by m _ h (simp (le-ltb _ _ two, eq-eqb _ _ all-is, lt-ltb _ _ x))
+    pub rest-as : not (eqb (l + 2) (length m)) ≡ z → not (eqb (lengthOf m + 2) (length m)) ≡ z
+    rest-as h = rw (← length-is) h
 
-      module _ (low : leastL ≤ l) where
-        low-is : leastL ≤ lengthOf m
-        low-is = omega arith
+    pub low-as : ltb l leastL ≡ z → ltb (lengthOf m) leastL ≡ z
+    low-as h = rw (← length-is) h
 
-        pub read-high : mostL < l → Reads m (Refused (record { 0 = 2 }))
-        unfolding readingOf readTests
-        read-high u =
-            let x : mostL < lengthOf m = omega arith in
-            reads-by m _ h (simp (le-ltb _ _ two, eq-eqb _ _ all-is, le-ltb _ _ low-is, lt-ltb _ _ x))
+    pub high-as : ltb mostL l ≡ z → ltb mostL (lengthOf m) ≡ z
+    high-as h = rw (← length-is) h
 
-        module _ (high : l ≤ mostL) (v : ℕ) (ev : v ≡ getD m 2 0) where
-          high-is : lengthOf m ≤ mostL
-          high-is = omega arith
+  pub version-as : (v : ℕ) (z : Bool) → v ≡ getD m 2 0 → not (eqb v 1) ≡ z → not (eqb (versionOf m) 1) ≡ z
+  version-as v z e h = rw (← e) h
 
-          pub read-version : (v ≡ 1 → ⊥) → Reads m (Refused (record { 0 = 3 }))
-          unfolding readingOf readTests
-          read-version n =
-              reads-by m _ h (simp (le-ltb _ _ two, eq-eqb _ _ all-is, le-ltb _ _ low-is, le-ltb _ _ high-is, ← ev, ne-eqb _ _ n))
+  module _ (p q r s n : ℕ) (en : n ≡ big (p ∷ q ∷ r ∷ s ∷ [])) (ep : p ≡ getD m revisionPlace 0) (eq : q ≡ getD m (revisionPlace + 1) 0) (er : r ≡ getD m (revisionPlace + 2) 0) (es : s ≡ getD m (revisionPlace + 3) 0) where
+    number-is : n ≡ revisionOf m
+    number-is = cc
 
-          module _ (one : v ≡ 1) (f k : ℕ) (ef : f ≡ getD m 3 0) (ek : k ≡ slotOf f) where
-            pub read-unlisted : k ≡ slotCount → Reads m (Refused (record { 0 = 4 }))
-            unfolding readingOf readTests
-            read-unlisted e =
-                reads-by m _ h (simp (le-ltb _ _ two, eq-eqb _ _ all-is, le-ltb _ _ low-is, le-ltb _ _ high-is, ← ev, eq-eqb _ _ one, ← ef, ← ek, eq-eqb _ _ e))
+    pub number-as : (z : Bool) → eqb n 0 ≡ z → eqb (revisionOf m) 0 ≡ z
+    number-as z h = rw (← number-is) h
 
-            module _ (listed : k ≡ slotCount → ⊥) (p q r s n : ℕ) (ep : p ≡ getD m revisionPlace 0) (eq : q ≡ getD m (revisionPlace + 1) 0) (er : r ≡ getD m (revisionPlace + 2) 0) (es : s ≡ getD m (revisionPlace + 3) 0) (en : n ≡ big (p ∷ q ∷ r ∷ s ∷ [])) where
-              number-is : n ≡ revisionOf m
-              number-is = cc
+    pub values-as : (f : ℕ) → f ≡ getD m 3 0 → success (f ∷ n ∷ []) ≡ success (messageField m ∷ revisionOf m ∷ [])
+    values-as f e = rw (← number-is, ← e)
 
-              pub read-zero : n ≡ 0 → Reads m (Refused (record { 0 = 5 }))
-              unfolding readingOf readTests
-              read-zero e =
-                  reads-by m _ h (simp (le-ltb _ _ two, eq-eqb _ _ all-is, le-ltb _ _ low-is, le-ltb _ _ high-is, ← ev, eq-eqb _ _ one, ← ef, ← ek, ne-eqb _ _ listed, ← number-is, eq-eqb _ _ e))
-
-              pub read-whole : (n ≡ 0 → ⊥) → Reads m (Message (record { 0 = f }) (record { number = n }))
-              unfolding readingOf readTests
-              read-whole z =
-                  reads-by m _ h (simp (le-ltb _ _ two, eq-eqb _ _ all-is, le-ltb _ _ low-is, le-ltb _ _ high-is, ← ev, eq-eqb _ _ one, ← ef, ← ek, ne-eqb _ _ listed, ← number-is, ne-eqb _ _ z))
-
-pub ruleset reading = (needs, read-under, read-rest, read-low, read-high, read-version, read-unlisted, read-zero, read-whole)
+pub ruleset reading = (tested, field-as, rest-as, low-as, high-as, version-as, number-as, values-as)
 
 pub text-is : (m t : List ℕ) → t ≡ between m headSize (length m) → t ≡ messageText m
 unfolding between messageText
@@ -325,37 +299,15 @@ unfolding headBytes
 head-is f r n d e = rw e
 
 -- the ways out of `write`
-module _ (f r k : ℕ) (t b : List ℕ) (h : Fits w32 r) where
-  not-written : (n : ℕ) → refusal n [] ≡ writingOf f r t b → Writes f r t b (written.Refused (record { 0 = n })) b
-  unfolding writingOf writtenOf
-  not-written n e = writes-by f r t b _ b h e (sym (unchanged _ _ _ (writeTests f r t b) (λ s. no-success n [] _ (e ∙ s))))
+pub write-out : (k f r : ℕ) (t b : List ℕ) (w : Written) (e : List ℕ) → Fits w32 r → Way ((length t + headSize) ∷ []) (put b 0 (messageOf f r t)) b (writeAnswer w) e (Writes f r t b w e) k (writeTests f r t b)
+unfolding writingOf writtenOf
+write-out k f r t b w e h = way-out _ _ _ _ e _ k (writeTests f r t b) (writes-by f r t b w e h)
 
-  pub write-over : textMax < length t → Writes f r t b (written.Refused (record { 0 = 2 })) b
-  unfolding writingOf writeTests
-  write-over u = not-written 2 (simp (lt-ltb _ _ u))
+pub message-put : (f r : ℕ) (t b d x e : List ℕ) → e ≡ putAt x headSize t → x ≡ putAt b 0 d → d ≡ headBytes f r (length t) → length t + headSize ≤ length b → e ≡ put b 0 (messageOf f r t)
+unfolding messageOf headBytes
+message-put f r t b d x e ee ex ed u =
+    let ld : length d ≡ headSize = ap length ed in
+    let fx : x ≡ put b 0 d = ex ∙ put-fits b 0 d (omega arith) in
+    ee ∙ put-next b d t x headSize ld (omega arith) fx ∙ rw ed
 
-  module _ (short : length t ≤ textMax) (ek : k ≡ slotOf f) where
-    pub write-unlisted : k ≡ slotCount → Writes f r t b (written.Refused (record { 0 = 4 })) b
-    unfolding writingOf writeTests
-    write-unlisted e = not-written 4 (simp (le-ltb _ _ short, ← ek, eq-eqb _ _ e))
-
-    module _ (listed : k ≡ slotCount → ⊥) where
-      pub write-zero : r ≡ 0 → Writes f r t b (written.Refused (record { 0 = 5 })) b
-      unfolding writingOf writeTests
-      write-zero e = not-written 5 (simp (le-ltb _ _ short, ← ek, ne-eqb _ _ listed, eq-eqb _ _ e))
-
-      module _ (z : r ≡ 0 → ⊥) where
-        pub write-room : length b < length t + headSize → Writes f r t b (written.Refused (record { 0 = 7 })) b
-        unfolding writingOf writeTests
-        write-room u = not-written 7 (simp (le-ltb _ _ short, ← ek, ne-eqb _ _ listed, ne-eqb _ _ z, lt-ltb _ _ u))
-
-        pub write-whole : (d x e : List ℕ) → length t + headSize ≤ length b → d ≡ headBytes f r (length t) → x ≡ putAt b 0 d → e ≡ putAt x headSize t → Writes f r t b (written.Bytes (length t + headSize)) e
-        unfolding writingOf writtenOf messageOf headBytes
-        write-whole d x e u ed ex ee =
-            let ld : length d ≡ headSize = ap length ed in
-            let fx : x ≡ put b 0 d = ex ∙ put-fits b 0 d (omega arith) in
-            let fe : e ≡ put b 0 (d ++ t) = ee ∙ put-next b d t x headSize ld (omega arith) fx in
-            let w = written-by f r t b (record { short = short; listed = slotted f (λ q. listed (ek ∙ q)) .0; given = z; room = u }) in
-            writes-by f r t b _ e h (sym (succeeds _ [] (writeTests f r t b) w)) (fe ∙ rw (w, ed))
-
-pub ruleset writing = (needs, head-is, text-is, write-over, write-unlisted, write-zero, write-room, write-whole)
+pub ruleset writing = (needs, tested, head-is, text-is, field-as, message-put)

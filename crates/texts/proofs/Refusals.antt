@@ -2,12 +2,12 @@
 use mathlib.Core.Path.{_≡_, refl, sym, ap, _∙_}
 use mathlib.Core.Bool.{Bool, true, false, not, _&&_, false≢true, true≢false}
 use mathlib.Core.List.{List, [], _∷_, _++_}
-use Prim.Native.Nat.{ℕ}
+use Prim.Native.Nat.{ℕ, zero, suc}
 use native.Mathlib.Omega.{arith}
-use borrow.Author.Tests.{eq-eqb}
+use borrow.Author.Tests.{lt-ltb, le-ltb, eq-eqb, ne-eqb}
 use lib.Dec.{eqb}
 use Rattle.texts.proofs.Bools.{both}
-use Rattle.texts.specs.Answers.{success, refusal, numberOf, Test, test, passes, answerBy, bufferBy}
+use Rattle.texts.specs.Answers.{Answer, success, refusal, numberOf, Test, test, passes, answerBy, bufferBy}
 
 -- a refusal is no success
 pub no-success : (n : ℕ) (vs ws : List ℕ) → refusal n vs ≡ success ws → ⊥
@@ -68,3 +68,29 @@ module _ (us : List Test) (vs : List ℕ) where
   more [] e = (refl, refl)
   more (test true n ws ∷ ts) e = absurd (false≢true e)
   more (test false n ws ∷ ts) e = more ts e
+
+-- the ways out of a list of tests: a test that is true behind tests that are not gives its refusal, one that is not leads on, and past the
+-- last is success; R is what follows from the answer a and from what is left, e
+module _ (ws new old : List ℕ) (a : Answer) (e : List ℕ) (R : Type 0) where
+  abbrev pub Way : ℕ → List Test → Type 0
+  Way k [] = a ≡ success ws → e ≡ new → R
+  Way zero (test b n vs ∷ ts) = b ≡ true → a ≡ refusal n vs → e ≡ old → R
+  Way (suc k) (test b n vs ∷ ts) = b ≡ false → Way k ts
+
+  pub way-out : (k : ℕ) (ts : List Test) → (a ≡ answerBy ts ws → e ≡ bufferBy ts new old → R) → Way k ts
+  way-out k [] f = f
+  way-out zero (test b n vs ∷ ts) f = λ w p q. f (rw w p) (rw w q)
+  way-out (suc k) (test b n vs ∷ ts) f = λ w. way-out k ts (λ p q. f (rw w p) (rw w q))
+
+-- what the code compared, as a test says it; w is its outcome in a call
+module _ (b : Bool) where
+  pub not-of-true : b ≡ true → not b ≡ false
+  not-of-true e = rw e
+
+  pub not-of-false : b ≡ false → not b ≡ true
+  not-of-false e = rw e
+
+  pub not-as : (w z : Bool) → w ≡ b → not w ≡ z → not b ≡ z
+  not-as w z e h = rw (← e) h
+
+pub ruleset tested = (lt-ltb, le-ltb, eq-eqb, ne-eqb, not-of-true, not-of-false, not-as)
