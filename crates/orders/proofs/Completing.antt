@@ -4,15 +4,15 @@ use mathlib.Core.Bool.{Bool, true, false, not, cond}
 use mathlib.Core.List.{List, [], _∷_}
 use Prim.Native.Nat.{ℕ}
 use native.Mathlib.Omega.{arith}
-use borrow.Author.Tests.{eq-eqb, ne-eqb, not-true, not-false}
+use borrow.Author.Tests.{ne-eqb, not-false}
 use lib.Count.{ones}
 use lib.ListN.{length}
 use Rattle.texts.specs.Texts.{every}
 use Rattle.texts.specs.Answers.{refusal}
 use Rattle.texts.specs.Buffers.{putAt}
 use Rattle.texts.proofs.Puts.{put-fits, put-whole}
-use Rattle.texts.proofs.Refusals.{no-success, unchanged}
-use Rattle.rules.specs.Rules.{budget, rules, basic, fieldOf, keeps, firstNot, firstBroken}
+use Rattle.texts.proofs.Refusals.{Way, way-out}
+use Rattle.rules.specs.Rules.{budget, rules, testOf, basic, fieldOf, keeps, firstNot, firstBroken}
 use Rattle.sheets.specs.Working.Facts.{Read}
 use Rattle.rules.proofs.First.{none-kept}
 use Rattle.sheets.specs.declared.facts.Facts.{Facts}
@@ -30,7 +30,7 @@ use Rattle.orders.specs.Fillings.{firstFilling, setOf}
 use Rattle.orders.specs.Working.Search.{Payment, firstPick}
 use Rattle.orders.specs.Working.Found.{pickOf}
 use Rattle.orders.specs.Working.Entering.{baseOf, pickedOf}
-use Rattle.orders.specs.Complete.{budgetPayment, completeAnswer, sheetTests, completeTests, completing, completed}
+use Rattle.orders.specs.Complete.{budgetPayment, completeAnswer, counted, sheetIn, sheetTests, completeTests, completing, completed}
 use Rattle.orders.specs.Whole.{Completes}
 use Rattle.orders.specs.declared.search.Pick.{Pick}
 use Rattle.orders.specs.declared.complete.Completed.{Completed}
@@ -78,6 +78,14 @@ module _ {D : Dates} {d s u : List ℕ} {x : Facts} {g : RuleNumber} (B : Prepar
   pub class-is : (r : Bool) → ((D : Dates) (t : List ℕ) → Read D x t → r ≡ budget t) → r ≡ budget (draftSheet d)
   class-is r hr = hr D (baseOf (draftSheet d)) (B .read) ∙ base-budget D (draftSheet d) (B .size)
 
+  -- the same at all dates
+  pub first-at : (F : Dates) → firstBroken F (draftSheet d) basic ≡ g .0
+  unfolding firstNot keeps rules testOf
+  first-at F = B .first
+
+  pub beside-8 : (F : Dates) (f : Field) → f .0 ≡ fieldOf rules (g .0) u → refusal 8 (f .0 ∷ g .0 ∷ []) ≡ refusal 8 (fieldOf rules (firstBroken F (draftSheet d) basic) (draftSheet d) ∷ firstBroken F (draftSheet d) basic ∷ [])
+  beside-8 F f j = rw (first-at F) (ap (λ (n : ℕ). refusal 8 (n ∷ g .0 ∷ [])) (sym (field-is f j)))
+
   pub kept-by : g .0 ≡ 0 → every (keeps D (draftSheet d)) basic ≡ true
   kept-by y = none-kept (keeps D (draftSheet d)) basic basic-numbered (B .first ∙ y)
 
@@ -87,73 +95,48 @@ module _ {D : Dates} {d s u : List ℕ} {x : Facts} {g : RuleNumber} (B : Prepar
 
 -- ---- what `quick` completes to
 
--- a refusal leaves the buffer
-refuses : (D : Dates) (d b : List ℕ) (r : Completed) (n : ℕ) (vs : List ℕ) → completeAnswer r ≡ refusal n vs → refusal n vs ≡ completing D d b → Completes D d b r b
+-- the ways out of completion
+pub complete-out : (k : ℕ) (D : Dates) (d b : List ℕ) (r : Completed) (t : List ℕ)
+    → Way (counted (firstFilling D (draftSheet d)) ∷ setOf D (draftSheet d) ∷ ones (setOf D (draftSheet d)) ∷ []) (sheetIn b (firstFilling D (draftSheet d))) b (completeAnswer r) t (Completes D d b r t) k (completeTests D d b)
 unfolding completing completed
-refuses D d b r n vs a p = completes-by D d b r b (a ∙ p) (sym (unchanged _ _ _ (completeTests D d b) (λ e. no-success n vs _ (p ∙ e))))
+complete-out k D d b r t = way-out _ _ _ _ t _ k (completeTests D d b) (completes-by D d b r t)
 
-module _ (D : Dates) (d b : List ℕ) (w : Bool) (hw : w ≡ draftFormed d) where
-  pub refused-1 : not w ≡ true → Completes D d b (Refused (record { 0 = 1 })) b
-  unfolding completing completeTests completeAnswer
-  refused-1 h = let f : draftFormed d ≡ false = sym hw ∙ not-true w h in refuses D d b (Refused (record { 0 = 1 })) 1 [] refl (sym (simp f))
-
-  pub refused-7 : not w ≡ false → (length b ≡ 390 → ⊥) → Completes D d b (Refused (record { 0 = 7 })) b
-  unfolding completing completeTests completeAnswer
-  refused-7 h z =
-      let f : draftFormed d ≡ true = sym hw ∙ not-false w h in
-      refuses D d b (Refused (record { 0 = 7 })) 7 [] refl (sym (simp (f, ne-eqb (length b) 390 z)))
-
-  pub refused-12 : not w ≡ false → length b ≡ 390 → (v : Bool) → v ≡ datesFit D → not v ≡ true → Completes D d b (Refused (record { 0 = 12 })) b
-  unfolding completing completeTests completeAnswer
-  refused-12 h z v hv m =
-      let f : draftFormed d ≡ true = sym hw ∙ not-false w h in
-      let t : datesFit D ≡ false = sym hv ∙ not-true v m in
-      refuses D d b (Refused (record { 0 = 12 })) 12 [] refl (sym (simp (f, eq-eqb (length b) 390 z, t)))
-
-module _ {D : Dates} {d s u : List ℕ} {x : Facts} {g : RuleNumber} (b : List ℕ) (z : length b ≡ 390) (v : Bool) (hv : v ≡ datesFit D) (mv : not v ≡ false) (B : Prepared D d s u x g) where
-  fit : datesFit D ≡ true
-  fit = sym hv ∙ not-false v mv
-
+module _ {D : Dates} {d s u : List ℕ} {x : Facts} {g : RuleNumber} (b : List ℕ) (E : (length b ≡ 390) × (datesFit D ≡ true)) (B : Prepared D d s u x g) where
   pub broken-8 : (f : Field) → (g .0 ≡ 0 → ⊥) → f .0 ≡ fieldOf rules (g .0) u → Completes D d b (Broken f g) b
-  unfolding completing completeTests sheetTests completeAnswer
-  broken-8 f y j =
-      refuses D d b (Broken f g) 8 (f .0 ∷ g .0 ∷ []) refl
-      (sym (simp (B .formed, eq-eqb (length b) 390 z, fit, B .first, ne-eqb (g .0) 0 y) (ap (λ (n : ℕ). refusal 8 (n ∷ g .0 ∷ [])) (field-is B f j))))
+  unfolding completeAnswer completeTests sheetTests
+  broken-8 f y j = complete-out 3 D d b (Broken f g) b (rw (B .formed)) (rw (E .0)) (rw (E .1)) (rw (B .first, ne-eqb (g .0) 0 y)) (beside-8 B D f j) refl
 
-  module _ (y : g .0 ≡ 0) (r : Bool) (hr : (D : Dates) (t : List ℕ) → Read D x t → r ≡ budget t) where
-    pub refused-9 : not r ≡ true → Completes D d b (Refused (record { 0 = 9 })) b
-    unfolding completing completeTests sheetTests completeAnswer
-    refused-9 t =
-        let p : budget (draftSheet d) ≡ false = sym (class-is B r hr) ∙ not-true r t in
-        refuses D d b (Refused (record { 0 = 9 })) 9 [] refl (sym (simp (B .formed, eq-eqb (length b) 390 z, fit, B .first ∙ y, p)))
+  pub refused-9 : g .0 ≡ 0 → (r : Bool) → ((D : Dates) (t : List ℕ) → Read D x t → r ≡ budget t) → not r ≡ true → Completes D d b (Refused (record { 0 = 9 })) b
+  unfolding completeAnswer completeTests sheetTests
+  refused-9 y r hr t = complete-out 4 D d b (Refused (record { 0 = 9 })) b (rw (B .formed)) (rw (E .0)) (rw (E .1)) (rw (B .first, y)) (rw (← (class-is B r hr)) t) refl refl
 
-    module _ (t : not r ≡ false) where
-      pays : budget (draftSheet d) ≡ true
-      pays = sym (class-is B r hr) ∙ not-false r t
+module _ {D : Dates} {d s u : List ℕ} {x : Facts} {g : RuleNumber} (b : List ℕ) (E : (length b ≡ 390) × (datesFit D ≡ true)) (B : Prepared D d s u x g) (y : g .0 ≡ 0) (r : Bool) (hr : (D : Dates) (t : List ℕ) → Read D x t → r ≡ budget t) (t : not r ≡ false) where
+  pays : budget (draftSheet d) ≡ true
+  pays = sym (class-is B r hr) ∙ not-false r t
 
-      -- the facts are a payment's
-      pub payment-is : Payment D x (baseOf (draftSheet d))
-      payment-is = record { read = B .read; class = base-budget D (draftSheet d) (B .size) ∙ pays; basics = base-basic D (draftSheet d) (B .size) ∙ kept-by B y }
+  -- the facts are a payment's
+  pub payment-is : Payment D x (baseOf (draftSheet d))
+  payment-is = record { read = B .read; class = base-budget D (draftSheet d) (B .size) ∙ pays; basics = base-basic D (draftSheet d) (B .size) ∙ kept-by B y }
 
-      -- what the search found, as a look through the fillings
-      looks : (l : Look (List ℕ)) → firstPick D (baseOf (draftSheet d)) ≡ l → (o : Look (List ℕ)) → o ≡ mapLook (pickedOf D (baseOf (draftSheet d))) l
-          → (lookAnswer D (draftSheet d) o ≡ completing D d b) × (lookSheet b o ≡ completed D d b)
-      looks l e o q =
-          let f : firstFilling D (draftSheet d) ≡ o = first-is D (draftSheet d) (B .size) ∙ ap (mapLook (pickedOf D (baseOf (draftSheet d)))) e ∙ sym q in
-          let paid = pays-by B y pays in
-          (ap (lookAnswer D (draftSheet d)) (sym f) ∙ sym (answer-is D d b (B .formed) z fit paid), ap (lookSheet b) (sym f) ∙ sym (sheet-is D d b (B .formed) z fit paid))
+  -- what the search found, as a look through the fillings
+  looks : (l : Look (List ℕ)) → firstPick D (baseOf (draftSheet d)) ≡ l → (o : Look (List ℕ)) → o ≡ mapLook (pickedOf D (baseOf (draftSheet d))) l
+      → (lookAnswer D (draftSheet d) o ≡ completing D d b) × (lookSheet b o ≡ completed D d b)
+  looks l e o q =
+      let f : firstFilling D (draftSheet d) ≡ o = first-is D (draftSheet d) (B .size) ∙ ap (mapLook (pickedOf D (baseOf (draftSheet d)))) e ∙ sym q in
+      let paid = pays-by B y pays in
+      (ap (lookAnswer D (draftSheet d)) (sym f) ∙ sym (answer-is D d b (B .formed) (E .0) (E .1) paid), ap (lookSheet b) (sym f) ∙ sym (sheet-is D d b (B .formed) (E .0) (E .1) paid))
 
-      pub refused-10 : (n : ℕ) → firstPick D (baseOf (draftSheet d)) ≡ none n → Completes D d b (Impossible n) b
-      unfolding completeAnswer
-      refused-10 n e = let l = looks (none n) e (none n) refl in completes-by D d b (Impossible n) b (l .0) (l .1)
+  pub refused-10 : (n : ℕ) → firstPick D (baseOf (draftSheet d)) ≡ none n → Completes D d b (Impossible n) b
+  unfolding completeAnswer
+  refused-10 n e = let l = looks (none n) e (none n) refl in completes-by D d b (Impossible n) b (l .0) (l .1)
 
-      pub filled-first : (n set : ℕ) (q : List ℕ) (p : Pick) (v f : List ℕ) → ((D : Dates) → set ≡ setOf D s) → firstPick D (baseOf (draftSheet d)) ≡ found n q → p ≡ pickOf q
-          → v ≡ pickedOf D u (p .status ∷ p .basis ∷ p .document ∷ p .day ∷ []) → f ≡ putAt b 0 v → Completes D d b (Filled n set (ones set)) f
-      unfolding completeAnswer pickedOf
-      filled-first n set q p v f hset lq pq hv hf =
-          let c1 : v ≡ pickedOf D (baseOf (draftSheet d)) q = hv ∙ (λ i. pickedOf D (B .base i) (pq i .status ∷ pq i .basis ∷ pq i .document ∷ pq i .day ∷ [])) in
-          let c2 : length v ≡ 390 = ap length c1 ∙ picked-length D (draftSheet d) (B .size) q in
-          let c3 : f ≡ v = hf ∙ put-fits b 0 v (omega arith) ∙ put-whole b v (omega arith) in
-          let hs : set ≡ setOf D (draftSheet d) = hset D ∙ ap (setOf D) (B .sheet) in
-          let l = looks (found n q) lq (found n v) (ap (found n) c1) in
-          completes-by D d b (Filled n set (ones set)) f ((λ i. completeAnswer (Filled n (hs i) (ones (hs i)))) ∙ l .0) (c3 ∙ l .1)
+  pub filled-first : (n set : ℕ) (q : List ℕ) (p : Pick) (v f : List ℕ) → ((D : Dates) → set ≡ setOf D s) → firstPick D (baseOf (draftSheet d)) ≡ found n q → p ≡ pickOf q
+      → v ≡ pickedOf D u (p .status ∷ p .basis ∷ p .document ∷ p .day ∷ []) → f ≡ putAt b 0 v → Completes D d b (Filled n set (ones set)) f
+  unfolding completeAnswer pickedOf
+  filled-first n set q p v f hset lq pq hv hf =
+      let c1 : v ≡ pickedOf D (baseOf (draftSheet d)) q = hv ∙ (λ i. pickedOf D (B .base i) (pq i .status ∷ pq i .basis ∷ pq i .document ∷ pq i .day ∷ [])) in
+      let c2 : length v ≡ 390 = ap length c1 ∙ picked-length D (draftSheet d) (B .size) q in
+      let c3 : f ≡ v = hf ∙ put-fits b 0 v (omega arith) ∙ put-whole b v (omega arith) in
+      let hs : set ≡ setOf D (draftSheet d) = hset D ∙ ap (setOf D) (B .sheet) in
+      let l = looks (found n q) lq (found n v) (ap (found n) c1) in
+      completes-by D d b (Filled n set (ones set)) f ((λ i. completeAnswer (Filled n (hs i) (ones (hs i)))) ∙ l .0) (c3 ∙ l .1)

@@ -5,14 +5,14 @@ use mathlib.Core.Bool.{Bool, true, false, not}
 use mathlib.Core.List.{List, [], _∷_, List·Memᴰ, List·Memᴰ·head, Memᴰ·append-left, Memᴰ·append-right}
 use Prim.Native.Nat.{ℕ}
 use native.Mathlib.Omega.{arith}
-use borrow.Author.Tests.{eqb-true, eq-eqb, ne-eqb, not-true, not-false}
+use borrow.Author.Tests.{eqb-true, eq-eqb, ne-eqb, not-false}
 use lib.Count.{ones}
 use lib.Dec.{eqb}
 use lib.ListN.{length, getD}
 use Rattle.texts.specs.Texts.{every, any, are, among}
 use Rattle.texts.specs.Answers.{success, refusal, numberOf, Test, _refuses_, _refuses_with_, answerBy}
 use Rattle.texts.proofs.Bools.{both}
-use Rattle.texts.proofs.Refusals.{no-success, none-of, succeeded}
+use Rattle.texts.proofs.Refusals.{no-success, none-of, succeeded, Way, way-out}
 use Rattle.rules.specs.Rules.{budget, rules, testOf, order, basic, ahead, fieldOf, keeps, firstNot, firstBroken}
 use Rattle.texts.specs.Quoted.{Text}
 use Rattle.sheets.specs.Sheet.{Sheet, cell}
@@ -38,7 +38,7 @@ use Rattle.orders.specs.declared.pretest.Pretested.the-variants.{Named, 
 use Rattle.orders.proofs.Ahead.{every-alike, earliest, first-filling, first-budget, like-first, fields-first, first-broken, named-field}
 use Rattle.orders.proofs.Keeping.{picked-length}
 use Rattle.orders.proofs.Passing.{unkept}
-use Rattle.orders.proofs.Completing.{Prepared, field-is, class-is, pays-by}
+use Rattle.orders.proofs.Completing.{Prepared, class-is, first-at, beside-8, pays-by}
 use Rattle.orders.proofs.Whole.{basic-numbered, length-draftSheet, answer-is, lookAnswer, refused-by, all-by}
 
 -- refusals come in the same order
@@ -70,7 +70,7 @@ ruleNamed Unnamed = 1
 ruleNamed (Broken f n) = 1
 ruleNamed (Refused n) = 1
 
-not-named : _≡_ {A = ℕ} 1 0 → ⊥
+pub not-named : _≡_ {A = ℕ} 1 0 → ⊥
 not-named e = omega arith
 
 module _ (D : Dates) (d : List ℕ) where
@@ -188,10 +188,6 @@ module _ (D : Dates) (d : List ℕ) where
 
 -- ---- the ways through `pretest`: it reads the facts at some dates E, and what it says holds at all dates
 
-basic-same : (D E : Dates) (s : Sheet) → firstBroken D s basic ≡ firstBroken E s basic
-unfolding firstNot keeps rules testOf
-basic-same D E s = refl
-
 ahead-same : (D E : Dates) (s : Sheet) → firstBroken D s ahead ≡ firstBroken E s ahead
 unfolding firstNot keeps rules testOf
 ahead-same D E s = refl
@@ -207,53 +203,44 @@ zeros-same D E u =
     ap (λ (t : Text). filledWith u ((6, cell t) ∷ (11, cell (getD basisTexts 0 [])) ∷ (13, cell (getD zeroTexts 0 [])) ∷ (14, cell (getD zeroTexts 0 [])) ∷ []))
     (first-in (forceOf D) ∙ sym (first-in (forceOf E)))
 
-pub ahead-1 : (d : List ℕ) (w : Bool) → w ≡ draftFormed d → not w ≡ true → (D : Dates) → Pretests D d (Refused (record { 0 = 1 }))
-unfolding pretestAnswer pretesting pretestTests
-ahead-1 d w hw h D = let f : draftFormed d ≡ false = sym hw ∙ not-true w h in pretests-by D d (Refused (record { 0 = 1 })) (sym (simp f)) not-named
+pub pretest-out : (k : ℕ) (D : Dates) (d : List ℕ) (r : Pretested) → (ruleNamed r ≡ 0 → ⊥)
+    → Way (namedField D (draftSheet d) ∷ brokenByAll D (draftSheet d) ∷ []) [] [] (pretestAnswer r) [] (Pretests D d r) k (pretestTests D d)
+unfolding pretesting
+pretest-out k D d r y = way-out _ [] [] _ [] _ k (pretestTests D d) (λ p q. pretests-by D d r p y)
 
 module _ {E : Dates} {d s u : List ℕ} {x : Facts} {g : RuleNumber} (B : Prepared E d s u x g) where
-  formed : draftFormed d ≡ true
-  formed = B .formed
-
-  first : (D : Dates) → firstBroken D (draftSheet d) basic ≡ g .0
-  first D = basic-same D E (draftSheet d) ∙ B .first
-
   pub ahead-8 : (f : Field) → (g .0 ≡ 0 → ⊥) → f .0 ≡ fieldOf rules (g .0) u → (D : Dates) → Pretests D d (Broken f g)
-  unfolding pretestAnswer pretesting pretestTests
-  ahead-8 f y j D =
-      pretests-by D d (Broken f g) (sym (simp (formed, first D, ne-eqb (g .0) 0 y) (ap (λ (n : ℕ). refusal 8 (n ∷ g .0 ∷ [])) (field-is B f j)))) not-named
+  unfolding pretestAnswer pretestTests
+  ahead-8 f y j D = pretest-out 1 D d (Broken f g) not-named (rw (B .formed)) (rw (first-at B D, ne-eqb (g .0) 0 y)) (beside-8 B D f j) refl
 
-  module _ (y : g .0 ≡ 0) (r : Bool) (hr : (D : Dates) (t : List ℕ) → Read D x t → r ≡ budget t) where
-    pub ahead-9 : not r ≡ true → (D : Dates) → Pretests D d (Refused (record { 0 = 9 }))
-    unfolding pretestAnswer pretesting pretestTests
-    ahead-9 t D =
-        let p : budget (draftSheet d) ≡ false = sym (class-is B r hr) ∙ not-true r t in
-        pretests-by D d (Refused (record { 0 = 9 })) (sym (simp (formed, first D ∙ y, p))) not-named
+  pub ahead-9 : g .0 ≡ 0 → (r : Bool) → ((D : Dates) (t : List ℕ) → Read D x t → r ≡ budget t) → not r ≡ true → (D : Dates) → Pretests D d (Refused (record { 0 = 9 }))
+  unfolding pretestAnswer pretestTests
+  ahead-9 y r hr t D = pretest-out 2 D d (Refused (record { 0 = 9 })) not-named (rw (B .formed)) (rw (first-at B D, y)) (rw (← (class-is B r hr)) t) refl refl
 
-    module _ (t : not r ≡ false) (v : List ℕ) (hv : v ≡ pickedOf E u (0 ∷ 0 ∷ 0 ∷ 0 ∷ [])) (fx : Facts) (hfx : length v ≡ 390 → Read E fx v) (m : RuleNumber) (hm : (D : Dates) (k : List ℕ) → Read D fx k → budget k ≡ true → m .0 ≡ firstBroken D k ahead) where
-      pays : budget (draftSheet d) ≡ true
-      pays = sym (class-is B r hr) ∙ not-false r t
+module _ {E : Dates} {d s u : List ℕ} {x : Facts} {g : RuleNumber} (B : Prepared E d s u x g) (y : g .0 ≡ 0) (r : Bool) (hr : (D : Dates) (t : List ℕ) → Read D x t → r ≡ budget t) (t : not r ≡ false) (v : List ℕ) (hv : v ≡ pickedOf E u (0 ∷ 0 ∷ 0 ∷ 0 ∷ [])) (fx : Facts) (hfx : length v ≡ 390 → Read E fx v) (m : RuleNumber) (hm : (D : Dates) (k : List ℕ) → Read D fx k → budget k ≡ true → m .0 ≡ firstBroken D k ahead) where
+  pays : budget (draftSheet d) ≡ true
+  pays = sym (class-is B r hr) ∙ not-false r t
 
-      paid : (D : Dates) → budgetPayment D (draftSheet d) ≡ true
-      paid D = payment-same D E (draftSheet d) ∙ pays-by B y pays
+  paid : (D : Dates) → budgetPayment D (draftSheet d) ≡ true
+  paid D = payment-same D E (draftSheet d) ∙ pays-by B y pays
 
-      filled : (D : Dates) → v ≡ earliest D (draftSheet d) (B .size)
-      unfolding earliest
-      filled D = hv ∙ zeros-same E D u ∙ ap (λ (k : List ℕ). pickedOf D k (0 ∷ 0 ∷ 0 ∷ 0 ∷ [])) (B .base)
+  filled : (D : Dates) → v ≡ earliest D (draftSheet d) (B .size)
+  unfolding earliest
+  filled D = hv ∙ zeros-same E D u ∙ ap (λ (k : List ℕ). pickedOf D k (0 ∷ 0 ∷ 0 ∷ 0 ∷ [])) (B .base)
 
-      by-all : (D : Dates) → m .0 ≡ brokenByAll D (draftSheet d)
-      unfolding earliest
-      by-all D =
-          let seen = subst (Read E fx) (filled D) (hfx (ap length (filled D) ∙ picked-length D (draftSheet d) (B .size) (0 ∷ 0 ∷ 0 ∷ 0 ∷ []))) in
-          hm E (earliest D (draftSheet d) (B .size)) seen (first-budget D (draftSheet d) (B .size) ∙ pays)
-          ∙ ahead-same E D (earliest D (draftSheet d) (B .size)) ∙ sym (first-broken D (draftSheet d) (B .size))
+  by-all : (D : Dates) → m .0 ≡ brokenByAll D (draftSheet d)
+  unfolding earliest
+  by-all D =
+      let seen = subst (Read E fx) (filled D) (hfx (ap length (filled D) ∙ picked-length D (draftSheet d) (B .size) (0 ∷ 0 ∷ 0 ∷ 0 ∷ []))) in
+      hm E (earliest D (draftSheet d) (B .size)) seen (first-budget D (draftSheet d) (B .size) ∙ pays)
+      ∙ ahead-same E D (earliest D (draftSheet d) (B .size)) ∙ sym (first-broken D (draftSheet d) (B .size))
 
-      pub ahead-none : m .0 ≡ 0 → (D : Dates) → Pretests D d Unnamed
-      unfolding pretestAnswer
-      ahead-none z D = pretests-by D d Unnamed (sym (none-answer D d formed (paid D) (sym (by-all D) ∙ z))) not-named
+  pub ahead-none : m .0 ≡ 0 → (D : Dates) → Pretests D d Unnamed
+  unfolding pretestAnswer
+  ahead-none z D = pretests-by D d Unnamed (sym (none-answer D d (B .formed) (paid D) (sym (by-all D) ∙ z))) not-named
 
-      pub ahead-named : (f : Field) → (m .0 ≡ 0 → ⊥) → f .0 ≡ fieldOf rules (m .0) v → (D : Dates) → Pretests D d (Named f m)
-      unfolding pretestAnswer
-      ahead-named f z j D =
-          let n0 : f .0 ≡ namedField D (draftSheet d) = j ∙ (λ i. fieldOf rules (by-all D i) (filled D i)) ∙ sym (named-field D (draftSheet d) (B .size)) in
-          pretests-by D d (Named f m) (sym (paid-is D d formed (paid D) ∙ (λ i. success (sym n0 i ∷ sym (by-all D) i ∷ [])))) z
+  pub ahead-named : (f : Field) → (m .0 ≡ 0 → ⊥) → f .0 ≡ fieldOf rules (m .0) v → (D : Dates) → Pretests D d (Named f m)
+  unfolding pretestAnswer
+  ahead-named f z j D =
+      let n0 : f .0 ≡ namedField D (draftSheet d) = j ∙ (λ i. fieldOf rules (by-all D i) (filled D i)) ∙ sym (named-field D (draftSheet d) (B .size)) in
+      pretests-by D d (Named f m) (sym (paid-is D d (B .formed) (paid D) ∙ (λ i. success (sym n0 i ∷ sym (by-all D) i ∷ [])))) z

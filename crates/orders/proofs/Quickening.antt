@@ -71,17 +71,17 @@ place-cases : (p : ℕ → Bool) (w : ℕ) (l : Look (List ℕ)) (n : ℕ) (c : 
 place-cases p w (found m q) n c k e = (q, cc, cc, cc)
 place-cases p w (none m) n c k e = let z : _≡_ {A = ℕ} 0 1 = cc in absurd (omega arith)
 
-module _ {D : Dates} {d s u : List ℕ} {x : Facts} {g : RuleNumber} (b : List ℕ) (z : length b ≡ 390) (v : Bool) (hv : v ≡ datesFit D) (mv : not v ≡ false) (B : Prepared D d s u x g) (y : g .0 ≡ 0) (r : Bool) (hr : (D : Dates) (t : List ℕ) → Read D x t → r ≡ budget t) (t : not r ≡ false) (m : Found) (hm : (D : Dates) (v : List ℕ) → Payment D x v → m ≡ foundOf D v) where
+module _ {D : Dates} {d s u : List ℕ} {x : Facts} {g : RuleNumber} (b : List ℕ) (E : (length b ≡ 390) × (datesFit D ≡ true)) (B : Prepared D d s u x g) (y : g .0 ≡ 0) (r : Bool) (hr : (D : Dates) (t : List ℕ) → Read D x t → r ≡ budget t) (t : not r ≡ false) (m : Found) (hm : (D : Dates) (v : List ℕ) → Payment D x v → m ≡ foundOf D v) where
   sought : m ≡ foundBy (skips D (baseOf (draftSheet d))) (width (blank (textOf (baseOf (draftSheet d)) 6)) (statusCount D)) (firstPick D (baseOf (draftSheet d)))
   unfolding foundOf
-  sought = hm D (baseOf (draftSheet d)) (payment-is b z v hv mv B y r hr t)
+  sought = hm D (baseOf (draftSheet d)) (payment-is b E B y r hr t)
 
   pub quick-10 : (n k : ℕ) → m ≡ Nothing n k → Quickens D d b (record { completed = Impossible n; skipped = k }) b
   unfolding quickAnswer quickening
   quick-10 n k e =
       let (l, h) = nothing-cases _ _ (firstPick D (baseOf (draftSheet d))) n k (sym e ∙ sought) in
       let q : k ≡ skippedOf D (draftSheet d) = h ∙ skipped-none D (draftSheet d) (B .size) n l in
-      let w = refused-10 b z v hv mv B y r hr t n l in
+      let w = refused-10 b E B y r hr t n l in
       record {
         answer = λ i. withSkipped (q i) (w .answer i);
         completes = w;
@@ -97,7 +97,7 @@ module _ {D : Dates} {d s u : List ℕ} {x : Facts} {g : RuleNumber} (b : List �
   quick-filled n set k p w f hset e hw hf =
       let (q, l, pq, h) = place-cases _ _ (firstPick D (baseOf (draftSheet d))) n p k (sym e ∙ sought) in
       let c : k ≡ skippedOf D (draftSheet d) = h ∙ skipped-found D (draftSheet d) (B .size) n q l in
-      let a = filled-first b z v hv mv B y r hr t n set q p w f hset l pq hw hf in
+      let a = filled-first b E B y r hr t n set q p w f hset l pq hw hf in
       record {
         answer = λ i. withSkipped (c i) (a .answer i);
         completes = a;

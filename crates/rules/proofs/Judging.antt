@@ -5,12 +5,14 @@ use mathlib.Core.List.{List, [], _∷_, _++_, map}
 use Prim.Native.Nat.{ℕ, zero, suc, _+_, _≤_, _<_}
 use native.Mathlib.Numerals.{add-one}
 use native.Mathlib.Omega.{arith}
-use borrow.Author.Tests.{eqb-true, ne-eqb, not-true, not-false}
+use borrow.Author.Tests.{eqb-true, not-true, not-false}
 use lib.Dec.{eqb}
 use lib.ListN.{length, getD, set, drop, drop-of-length-le}
 use lib.Seq.{drop-cons, getD-set-other}
 use Rattle.texts.specs.Texts.{every, any, are, among, blank}
+use Rattle.texts.specs.Answers.{success, refusal}
 use Rattle.texts.proofs.Bools.{both}
+use Rattle.texts.proofs.Refusals.{Way, way-out, tested}
 use Rattle.texts.proofs.Every.{every-append, every-same}
 use Rattle.sheets.specs.Sheet.{slots, slotOk, wellFormed, fieldIn, slotOf, Sheet, given, _⟨_⟩}
 use Rattle.sheets.specs.Dates.{datesFit}
@@ -19,12 +21,12 @@ use Rattle.rules.specs.Rules.{Rule, classA, classB, budget, testOf, keep
 use Rattle.sheets.specs.Working.Facts.{accountOf, factsBy, factsOf, generalOf, standingOf, Read}
 use Rattle.rules.specs.Working.Tests.{ordinary, classOn, kept, holds, allTrue, generalOn, outcomesOn, judgedOn}
 use Rattle.rules.specs.Working.Groups.{fixedRules, statusRules, basisRules, documentRules, dayRules, grouped}
-use Rattle.rules.specs.Verdicts.{verdictAnswer, checkTests, checked, Checked}
+use Rattle.rules.specs.Verdicts.{className, verdictAnswer, checkTests, checked, Checked}
 use Rattle.rules.specs.declared.class.Class.{Class}
 use Rattle.rules.specs.declared.class.Class.the-variants.{A, B, O}
 use Rattle.rules.specs.declared.rules.RuleNumber.{RuleNumber}
 use Rattle.sheets.specs.declared.sheet.Field.{Field}
-use Rattle.rules.specs.declared.check.Verdict.the-variants.{Malformed, Undated, Broken, Accepted}
+use Rattle.rules.specs.declared.check.Verdict.{Verdict}
 use Rattle.sheets.specs.declared.facts.Facts.{Facts}
 use Rattle.rules.proofs.On.{rules-counted, counted-at, budget-keeps, judged-keeps, class-on}
 use Rattle.rules.proofs.First.{all-held}
@@ -161,35 +163,26 @@ module _ (s : Sheet) where
       go false true e = absurd (false≢true (sym e))
       go false false e = refl
 
-module _ (D : Dates) (s : Sheet) where
-  pub check-malformed : (w : Bool) → w ≡ wellFormed s → not w ≡ true → Checked D s Malformed
-  unfolding checked checkTests verdictAnswer
-  check-malformed w e n = let o : wellFormed s ≡ false = sym e ∙ not-true w n in checked-by D s Malformed (sym (rw o))
+-- its ways out
+pub check-out : (k : ℕ) (D : Dates) (s : Sheet) (v : Verdict) → Way (className (classOf s)) [] [] (verdictAnswer v) [] (Checked D s v) k (checkTests D s)
+unfolding checked
+check-out k D s v = way-out _ [] [] _ [] _ k (checkTests D s) (λ p q. checked-by D s v p)
 
-  pub check-undated : (w v : Bool) → w ≡ wellFormed s → not w ≡ false → v ≡ datesFit D → not v ≡ true → Checked D s Undated
-  unfolding checked checkTests verdictAnswer
-  check-undated w v e n ev m =
-      let o : wellFormed s ≡ true = sym e ∙ not-false w n in
-      let p : datesFit D ≡ false = sym ev ∙ not-true v m in
-      checked-by D s Undated (sym (rw (o, p)))
+-- the last test and what is answered, by what the code has for them
+module _ (D : Dates) (s : Sheet) (w : Bool) (x : Facts) (g : RuleNumber) (e : w ≡ wellFormed s) (n : not w ≡ false) (j : length s ≡ 390 → Read D x s) (i : g .0 ≡ firstNot (kept (judgedOn x)) order) where
+  h : x ≡ factsOf D s
+  h = j (eqb-true (length s) 390 (both (eqb (length s) 390) (every (slotOk s) slots) (sym e ∙ not-false w n) .0)) .facts
 
-  module _ (w v : Bool) (x : Facts) (g : RuleNumber) (e : w ≡ wellFormed s) (n : not w ≡ false) (ev : v ≡ datesFit D) (m : not v ≡ false) (j : length s ≡ 390 → Read D x s) (i : g .0 ≡ firstNot (kept (judgedOn x)) order) where
-    formed : wellFormed s ≡ true
-    formed = sym e ∙ not-false w n
+  first-is : firstBroken D s order ≡ g .0
+  first-is = ap (λ (p : ℕ → Bool). firstNot p order) (fun-ext (judged-keeps D s)) ∙ cc h
 
-    dated : datesFit D ≡ true
-    dated = sym ev ∙ not-false v m
+  pub first-as : (z : Bool) → not (eqb (g .0) 0) ≡ z → not (eqb (firstBroken D s order) 0) ≡ z
+  first-as z k = rw first-is k
 
-    h : x ≡ factsOf D s
-    h = j (eqb-true (length s) 390 (both (eqb (length s) 390) (every (slotOk s) slots) formed .0)) .facts
+  pub beside-as : (f : Field) → f .0 ≡ fieldOf rules (g .0) s → refusal 8 (f .0 ∷ g .0 ∷ []) ≡ refusal 8 (fieldOf rules (firstBroken D s order) s ∷ firstBroken D s order ∷ [])
+  beside-as f k = rw (first-is, k)
 
-    first-is : firstBroken D s order ≡ g .0
-    first-is = ap (λ (p : ℕ → Bool). firstNot p order) (fun-ext (judged-keeps D s)) ∙ cc h
+  pub class-as : (v : Bool) → v ≡ datesFit D → (k : Class) → k ≡ classOn x → success (className k) ≡ success (className (classOf s))
+  class-as v ev k q = rw (q ∙ ap classOn h ∙ class-on D s)
 
-    pub check-broken : (f : Field) → (g .0 ≡ 0 → ⊥) → f .0 ≡ fieldOf rules (g .0) s → Checked D s (Broken f g)
-    unfolding checked checkTests verdictAnswer
-    check-broken f z k = checked-by D s (Broken f g) (sym (rw (formed, dated, first-is, ne-eqb (g .0) 0 z, k)))
-
-    pub check-accepted : (k : Class) → g .0 ≡ 0 → k ≡ classOn x → Checked D s (Accepted k)
-    unfolding checked checkTests verdictAnswer
-    check-accepted k z q = checked-by D s (Accepted k) (sym (rw (formed, dated, first-is ∙ z, q ∙ ap classOn h ∙ class-on D s)))
+pub ruleset checks = (tested, first-as, beside-as, class-as)

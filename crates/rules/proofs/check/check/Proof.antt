@@ -1,7 +1,9 @@
 use borrow.Author.Needs.{needs}
-use Rattle.rules.proofs.Judging.{check-malformed, check-undated, check-broken, check-accepted}
+use Rattle.rules.specs.Verdicts.{verdictAnswer, checkTests}
+use Rattle.rules.proofs.Judging.{check-out, checks}
 use Rattle.rules.proofs.check.check.Statement.{statement}
 use Rattle.rules.proofs.check.check.Tie as tie
 
 pub check-spec : {M : Type 1} → statement M
-check-spec = tie.close (tie.spec (λ c κs. search needs) (λ c. search (needs, check-malformed)) (λ c κs. search needs) (λ c. search (needs, check-undated)) (λ c κs. search needs) (λ c κs. search needs) (λ c κs. search needs) (λ c. search (needs, check-broken)) (λ c κs. search needs) (λ c. search (needs, check-accepted)))
+unfolding verdictAnswer checkTests
+check-spec = tie.close (tie.spec (λ c κs. search needs) (λ c. search (checks, check-out 0)) (λ c κs. search needs) (λ c. search (checks, check-out 1)) (λ c κs. search needs) (λ c κs. search needs) (λ c κs. search needs) (λ c. search (checks, check-out 2)) (λ c κs. search needs) (λ c. search (checks, check-out 3)))
