@@ -5,15 +5,14 @@ use mathlib.Core.List.{[], _∷_}
 use Prim.Native.Nat.{ℕ, _*_, _≤_}
 use native.Mathlib.Nat.{mul-le-mul, mul-le-mul-right}
 use native.Mathlib.Omega.{arith}
-use borrow.Author.Tests.{leb-true, le-leb, ltb-true, ltb-false, not-true, not-false}
+use borrow.Author.Tests.{leb-true, le-leb, ltb-true, ltb-false, not-false}
 use lib.Dec.{leb, ltb}
 use Rattle.texts.specs.Answers.{success, numberOf}
 use Rattle.texts.proofs.Bools.{both, and2}
-use Rattle.texts.proofs.Refusals.{none-of, succeeded}
+use Rattle.texts.proofs.Refusals.{none-of, succeeded, Way, way-out}
 use Rattle.amounts.specs.Amount.{mostKopecks, isAmount}
 use Rattle.amounts.specs.Charge.{chargeable, rounded, raisedTo, loweredTo, limited, chargeTests, charging, chargeAnswer, InRange, IsCharge, Charges}
 use Rattle.amounts.specs.declared.charge.Charged.{Charged}
-use Rattle.amounts.specs.declared.charge.Charged.the-variants.{Made, Refused}
 use Rattle.amounts.proofs.Ranges.{sole, no-number, amount-is, is-amount}
 
 -- the product fits in 64 bits, and so does what is added
@@ -129,18 +128,15 @@ module _ (a r l g : ℕ) where
         omega (arith, p, q1, limited-rises l g (rounded a r) (rounded m r) o2);
   }
 
-  -- ---- the ways through `charge`: w is what `is_chargeable` answered
+  -- w is what `is_chargeable` answered
+  pub ranged : (w : Bool) → w ≡ chargeable a r l g → not w ≡ false → (a ≤ mostKopecks) × (r ≤ 10000)
+  ranged w hw h = let i = in-range (sym hw ∙ not-false w h) in (i .most, i .rates)
 
-  module _ (w : Bool) (hw : w ≡ chargeable a r l g) where
-    pub refused-14 : not w ≡ true → Charges a r l g (Refused (record { 0 = 14 }))
-    unfolding charging chargeTests chargeAnswer
-    refused-14 h = charges-by (Refused (record { 0 = 14 })) (sym (simp (sym hw ∙ not-true w h)))
+-- ---- the ways out of `charge`
 
-    pub ranged : not w ≡ false → (a ≤ mostKopecks) × (r ≤ 10000)
-    ranged h = let i = in-range (sym hw ∙ not-false w h) in (i .most, i .rates)
+pub charge-out : (k a r l g : ℕ) (x : Charged) → Way (limited l g (rounded a r) ∷ []) [] [] (chargeAnswer x) [] (Charges a r l g x) k (chargeTests a r l g)
+unfolding charging
+charge-out k a r l g x = way-out _ [] [] _ [] _ k (chargeTests a r l g) (λ p q. charges-by a r l g x p)
 
-    pub charged : not w ≡ false → (k u c : ℕ) → k ≡ rounded a r → u ≡ raisedTo l k → c ≡ loweredTo g u → Charges a r l g (Made (record { 0 = c }))
-    unfolding chargeAnswer
-    charged h k u c ek eu ec =
-        charges-by (Made (record { 0 = c }))
-        (ap (λ (n : ℕ). success (n ∷ [])) (ec ∙ ap (loweredTo g) (eu ∙ ap (raisedTo l) ek)) ∙ sym (answered (in-range (sym hw ∙ not-false w h))))
+pub charged : (a r l g k u c : ℕ) → c ≡ loweredTo g u → u ≡ raisedTo l k → k ≡ rounded a r → success (c ∷ []) ≡ success (limited l g (rounded a r) ∷ [])
+charged a r l g k u c ec eu ek = ap (λ (n : ℕ). success (n ∷ [])) (ec ∙ ap (loweredTo g) (eu ∙ ap (raisedTo l) ek))

@@ -5,14 +5,14 @@ use mathlib.Core.List.{[], _∷_}
 use Prim.Native.Nat.{ℕ, _+_, _*_, _≤_, _<_}
 use native.Mathlib.Nat.{mul-le-mul, div-add-mod', mod-lt}
 use native.Mathlib.Omega.{arith}
-use borrow.Author.Tests.{leb-true, le-leb, not-true, not-false}
+use borrow.Author.Tests.{leb-true, le-leb, not-false}
 use lib.Dec.{leb}
 use Rattle.texts.specs.Answers.{success, numberOf}
 use Rattle.texts.proofs.Bools.{both, and2}
+use Rattle.texts.proofs.Refusals.{Way, way-out}
 use Rattle.amounts.specs.Amount.{mostKopecks, isAmount}
 use Rattle.amounts.specs.Part.{isYear, partable, quotientOf, remainderOf, partTests, parting, partAnswer, PartRange, IsPart, Parts}
 use Rattle.amounts.specs.declared.part.Parted.{Parted}
-use Rattle.amounts.specs.declared.part.Parted.the-variants.{Made, Refused}
 use Rattle.amounts.proofs.Ranges.{sole, no-number, amount-is, is-amount, year-is, is-year, year-bound}
 
 -- the product fits in 64 bits
@@ -63,20 +63,18 @@ module _ (a d y : ℕ) where
         record { exactly = (λ k. sym zq k * y + sym zr k) ∙ p .exactly; below = subst (λ (n : ℕ). n < y) zr (p .below) };
   }
 
-  -- ---- the ways through `part`: w is what `is_partable` answered
+  -- w is what `is_partable` answered
+  pub ranged : (w : Bool) → w ≡ partable a d y → not w ≡ false → (a ≤ mostKopecks) × (d ≤ 366) × (0 < y) × (y ≤ 366)
+  ranged w hw h =
+      let i = part-range (sym hw ∙ not-false w h) in
+      let b = year-bound y (i .years) in
+      (i .most, omega (arith, i .last, b .1), b .0, b .1)
 
-  module _ (w : Bool) (hw : w ≡ partable a d y) where
-    pub refused-15 : not w ≡ true → Parts a d y (Refused (record { 0 = 15 }))
-    unfolding parting partTests partAnswer
-    refused-15 h = parts-by (Refused (record { 0 = 15 })) (sym (simp (sym hw ∙ not-true w h)))
+-- ---- the ways out of `part`
 
-    pub ranged : not w ≡ false → (a ≤ mostKopecks) × (d ≤ 366) × (0 < y) × (y ≤ 366)
-    ranged h =
-        let i = part-range (sym hw ∙ not-false w h) in
-        let b = year-bound y (i .years) in
-        (i .most, omega (arith, i .last, b .1), b .0, b .1)
+pub part-out : (k a d y : ℕ) (x : Parted) → Way (quotientOf a d y ∷ remainderOf a d y ∷ []) [] [] (partAnswer x) [] (Parts a d y x) k (partTests a d y)
+unfolding parting
+part-out k a d y x = way-out _ [] [] _ [] _ k (partTests a d y) (λ p q. parts-by a d y x p)
 
-    pub parted : not w ≡ false → (q r : ℕ) → q ≡ quotientOf a d y → r ≡ remainderOf a d y → Parts a d y (Made (record { 0 = q }) (record { 0 = r }))
-    unfolding partAnswer
-    parted h q r eq er =
-        parts-by (Made (record { 0 = q }) (record { 0 = r })) ((λ i. success (eq i ∷ er i ∷ [])) ∙ sym (parted-by (part-range (sym hw ∙ not-false w h))))
+pub parted : (a d y q r e z : ℕ) → q ≡ quotientOf a e z → r ≡ remainderOf a e z → e ≡ d → z ≡ y → success (q ∷ r ∷ []) ≡ success (quotientOf a d y ∷ remainderOf a d y ∷ [])
+parted a d y q r e z eq er ee ez = rw (eq, er, ee, ez)

@@ -6,18 +6,18 @@ use Prim.Native.Nat.{ℕ, zero, suc, _+_, _-_, _*_, _/_, _≤_, _<_}
 use native.Mathlib.Nat.{zero-add, mul-zero, zero-div, mul-le-mul-left, le-div-iff-mul-le, div-mul-le-self, mul-div-cancel}
 use native.Mathlib.Numerals.{add-one}
 use native.Mathlib.Omega.{arith}
-use borrow.Author.Tests.{leb-true, le-leb, eqb-true, eq-eqb, not-true, not-false}
+use borrow.Author.Tests.{leb-true, le-leb, eqb-true, eq-eqb, not-false}
 use lib.Dec.{leb, eqb}
 use lib.ListN.{length, take, drop, getD, set, replicate, length-append, length-replicate, drop-of-length-le}
 use lib.Seq.{take-all, drop-cons, sets, sets-eq, getD-append-add}
 use Rattle.texts.specs.Texts.{every}
 use Rattle.texts.specs.Answers.{success, refusal, numberOf}
 use Rattle.texts.proofs.Bools.{both, and2}
+use Rattle.texts.proofs.Refusals.{Way, way-out}
 use Rattle.amounts.specs.Amount.{mostKopecks, isAmount}
 use Rattle.amounts.specs.Part.{isYear, quotientOf}
 use Rattle.amounts.specs.Shares.{total, allSome, arePeriods, sharable, sharesFrom, placesOf, shareTests, sharing, sharedTo, shareAnswer, ShareRange, AreShares, Shares}
 use Rattle.amounts.specs.declared.shares.Shared.{Shared}
-use Rattle.amounts.specs.declared.shares.Shared.the-variants.{Made, Refused}
 use Rattle.amounts.proofs.Ranges.{sole, no-number, amount-is, is-amount, year-is, is-year, year-bound}
 
 zeros-total : (k n : ℕ) → total (take k (replicate n 0)) ≡ 0
@@ -171,23 +171,18 @@ module _ (a y : ℕ) (ps : List ℕ) where
     shares-by : Shares a y ps b x e
     shares-by = record { answer = ha; places = he; exactly = (λ z. share-range (in-range z), accepted); refused = refused-by; shared = shared-by }
 
-  -- ---- the ways through `shares`: w is what `is_sharable` answered
+  -- w is what `is_sharable` answered
+  pub asked : (w : Bool) → w ≡ sharable a y ps → not w ≡ false → (isAmount a ≡ true) × (isYear y ≡ true) × (arePeriods y ps ≡ true)
+  asked w hw h = parts-of (sym hw ∙ not-false w h)
 
-  module _ (b : List ℕ) (w : Bool) (hw : w ≡ sharable a y ps) where
-    pub refused-15 : not w ≡ true → Shares a y ps b (Refused (record { 0 = 15 })) b
-    unfolding sharing sharedTo shareTests shareAnswer
-    refused-15 h =
-        let s : sharable a y ps ≡ false = sym hw ∙ not-true w h in
-        shares-by b b (Refused (record { 0 = 15 })) (sym (simp s)) (sym (simp s))
+-- ---- the ways out of `shares`
 
-    pub asked : not w ≡ false → (isAmount a ≡ true) × (isYear y ≡ true) × (arePeriods y ps ≡ true)
-    asked h = parts-of (sym hw ∙ not-false w h)
+pub share-out : (k a y : ℕ) (ps b : List ℕ) (x : Shared) (e : List ℕ) → Way [] (placesOf a y ps) b (shareAnswer x) e (Shares a y ps b x e) k (shareTests a y ps)
+unfolding sharing sharedTo
+share-out k a y ps b x e = way-out _ _ _ _ e _ k (shareTests a y ps) (shares-by a y ps b e x)
 
-    pub shared : not w ≡ false → (e : List ℕ) → e ≡ placesOf a y ps → Shares a y ps b Made e
-    unfolding sharing sharedTo shareTests shareAnswer
-    shared h e he =
-        let s : sharable a y ps ≡ true = sym hw ∙ not-false w h in
-        shares-by b e Made (sym (simp s)) (he ∙ sym (simp s))
+pub shared : (a y z : ℕ) (ps e : List ℕ) → e ≡ placesOf a z ps → z ≡ y → e ≡ placesOf a y ps
+shared a y z ps e he ez = rw (← ez) he
 
 -- ---- the loops
 

@@ -2,9 +2,9 @@
 use mathlib.Core.Path.{_≡_, refl, ap, sym, _∙_}
 use mathlib.Core.Bool.{Bool, true, false, not, _&&_}
 use mathlib.Core.List.{List, [], _∷_}
-use Prim.Native.Nat.{ℕ, _+_, _-_, _*_, _≤_, _<_}
+use Prim.Native.Nat.{ℕ, _+_, _-_, _*_, _≤_}
 use native.Mathlib.Omega.{arith}
-use borrow.Author.Tests.{lt-ltb, le-ltb, ltb-false, eqb-true, eq-eqb, ne-eqb, not-false}
+use borrow.Author.Tests.{le-ltb, ltb-false, eqb-true, eq-eqb, ne-eqb, not-false}
 use lib.Dec.{ltb, eqb}
 use lib.IntN.{ℤ}
 use lib.ListN.{length, take, drop}
@@ -13,11 +13,11 @@ use Rattle.texts.specs.Answers.{success, refusal, numberOf, Test, _refuses_, _r
 use Rattle.texts.specs.Buffers.{put}
 use Rattle.texts.proofs.Bools.{both}
 use Rattle.texts.proofs.Puts.{mid-put, drop-put}
-use Rattle.texts.proofs.Refusals.{no-success, succeeded, unchanged}
+use Rattle.texts.proofs.Refusals.{no-success, succeeded, unchanged, Way, way-out}
 use Rattle.registers.specs.Register.{Line, linesBytes, linesOf, registerRight, orderRight, pooled, totalOf}
 use Rattle.registers.specs.Pool.{outputSize, poolTests, pooling, pooledTo, poolAnswer, IsRegister, IsPool, Pools}
 use Rattle.registers.specs.declared.pool.Pooled.{Pooled}
-use Rattle.registers.specs.declared.pool.Pooled.the-variants.{Made, Differs, Refused}
+use Rattle.registers.specs.declared.pool.Pooled.the-variants.{Made, Differs}
 use Rattle.registers.proofs.Pooling.{pooled-total, is-pool}
 use Rattle.registers.proofs.Registers.{whole-of, is-register, register-is}
 use Rattle.registers.proofs.Differences.{Difference}
@@ -103,27 +103,20 @@ module _ (t : List ℕ) (a : ℕ) (o : List ℕ) where
       made = made-by;
     }
 
-  -- ---- the ways through `pool`
+-- ---- the ways out of `pool`
 
-  pub short-7 : length o < outputSize → Pools t a o (Refused (record { 0 = 7 })) o
-  unfolding pooling pooledTo poolTests poolAnswer
-  short-7 h = let s = lt-ltb (length o) outputSize h in pools-by o (Refused (record { 0 = 7 })) (simp s) (simp s)
+pub pool-out : (k : ℕ) (t : List ℕ) (a : ℕ) (o : List ℕ) (x : Pooled) (e : List ℕ) → Way (length (pooled (linesOf t)) ∷ []) (put o 0 (linesBytes (pooled (linesOf t)))) o (poolAnswer x) e (Pools t a o x e) k (poolTests t a o)
+unfolding pooling pooledTo
+pool-out k t a o x e = way-out _ _ _ _ e _ k (poolTests t a o) (pools-by t a o e x)
 
-  pub wrong-16 : outputSize ≤ length o → (registerRight t && orderRight a) ≡ false → Pools t a o (Refused (record { 0 = 16 })) o
-  unfolding pooling pooledTo poolTests poolAnswer
-  wrong-16 h s = let l = le-ltb (length o) outputSize h in pools-by o (Refused (record { 0 = 16 })) (simp (l, s)) (simp (l, s))
+pub right-as : (t : List ℕ) (a : ℕ) (p q z : Bool) → p ≡ registerRight t → q ≡ orderRight a → not (p && q) ≡ z → not (registerRight t && orderRight a) ≡ z
+right-as t a p q z ep eq h = rw (← ep, ← eq) h
 
 module _ {t : List ℕ} {a : ℕ} {o : List ℕ} (w : Passed t a o) (s : ℕ) (es : s ≡ totalOf (linesOf t)) where
   pub differs-17 : (s ≡ a → ⊥) → (d : ℤ) → Difference s a d → Pools t a o (Differs d) o
-  unfolding pooling pooledTo poolTests poolAnswer
-  differs-17 n d f =
-      let l = le-ltb (length o) outputSize (w .room) in
-      let m = ne-eqb (totalOf (linesOf t)) a (λ q. n (es ∙ q)) in
-      pools-by t a o o (Differs d) (simp (l, w .right, m, f .0, f .1, es)) (simp (l, w .right, m))
+  unfolding poolTests poolAnswer
+  differs-17 n d f = pool-out 2 t a o (Differs d) o (le-ltb _ _ (w .room)) (rw (w .right)) (rw (← es, ne-eqb s a n)) (rw (f .0, f .1, es)) refl
 
   pub made-0 : s ≡ a → (n : ℕ) (e : List ℕ) → (n ≡ length (pooled (linesOf t))) × (e ≡ put o 0 (linesBytes (pooled (linesOf t)))) → Pools t a o (Made n) e
-  unfolding pooling pooledTo poolTests poolAnswer
-  made-0 q n e f =
-      let l = le-ltb (length o) outputSize (w .room) in
-      let m = eq-eqb (totalOf (linesOf t)) a (sym es ∙ q) in
-      pools-by t a o e (Made n) (simp (l, w .right, m, f .0)) (simp (l, w .right, m, f .1))
+  unfolding poolTests poolAnswer
+  made-0 q n e f = pool-out 3 t a o (Made n) e (le-ltb _ _ (w .room)) (rw (w .right)) (rw (← es, eq-eqb s a q)) (rw (f .0)) (f .1)

@@ -1,13 +1,14 @@
-use mathlib.Core.Path.{_∙_}
 use native.Mathlib.Omega.{arith}
 use borrow.Author.Needs.{needs}
-use Rattle.amounts.specs.Part.{quotientOf, remainderOf}
-use Rattle.amounts.proofs.Parting.{refused-15, ranged, parted}
+use Rattle.texts.proofs.Refusals.{tested}
+use Rattle.amounts.specs.Part.{partTests, partAnswer}
+use Rattle.amounts.proofs.Parting.{ranged, part-out, parted}
 use Rattle.amounts.proofs.part.part.Statement.{statement}
 use Rattle.amounts.proofs.part.part.Tie as tie
 
 returns : tie.Need-returns
-returns c = refused-15 _ _ _ _ (c .before .is-partable .ensures) (c .if1 .taken)
+unfolding partTests partAnswer
+returns c = search (tested, part-out 0)
 
 quotient-of-requires : tie.Need-quotient-of-requires
 quotient-of-requires c κs =
@@ -28,13 +29,8 @@ cast-t12 c =
     record { fits = omega (arith, r .3, c .remainder-of .ensures .1, c .before .before .wide2 .ensures .0) }
 
 returns-2 : tie.Need-returns-2
-returns-2 c =
-    let a = c .before .before .before .before .before .before .args in
-    let ed = c .before .before .before .wide .ensures .0 in
-    let ey = c .before .before .wide2 .ensures .0 in
-    parted (a .amount .0) (a .days .0) (a .year .0) _ (c .before .before .before .before .before .is-partable .ensures) (c .before .before .before .before .if1 .left) _ _
-    (c .before .quotient-of .ensures ∙ (λ i. quotientOf (a .amount .0) (ed i) (ey i)))
-    (c .remainder-of .ensures .0 ∙ (λ i. remainderOf (a .amount .0) (ed i) (ey i)))
+unfolding partTests partAnswer
+returns-2 c = search (tested, parted, part-out 1)
 
 pub part-spec : {M : Type 1} → statement M
 part-spec = tie.close (tie.spec (λ c κs. search needs) returns (λ c κs. search needs) (λ c κs. search needs) quotient-of-requires remainder-of-requires cast-t12 returns-2)

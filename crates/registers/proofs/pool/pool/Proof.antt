@@ -1,20 +1,24 @@
 use borrow.Author.Needs.{needs, sfits-of}
 use native.Mathlib.Omega.{arith}
-use borrow.Author.Tests.{not-true, not-false}
+use borrow.Author.Tests.{not-false}
 use mir.Syntax.{w64}
 use mir.Val.{toZ, ofZ}
 use mir.Facts.{toZ-ofZ}
 use Rattle.texts.proofs.Bools.{both}
+use Rattle.texts.proofs.Refusals.{tested}
+use Rattle.registers.specs.Pool.{poolAnswer, poolTests}
 use Rattle.registers.proofs.Registers.{is-register}
-use Rattle.registers.proofs.Promises.{short-7, wrong-16, Passed, differs-17, made-0}
+use Rattle.registers.proofs.Promises.{Passed, pool-out, right-as, differs-17, made-0}
 use Rattle.registers.proofs.pool.pool.Statement.{statement}
 use Rattle.registers.proofs.pool.pool.Tie as tie
 
 returns : tie.Need-returns
-returns c = short-7 _ _ _ (c .if1 .taken)
+unfolding poolTests poolAnswer
+returns c = search (tested, pool-out 0)
 
 returns-2 : tie.Need-returns-2
-returns-2 c = wrong-16 _ _ _ (c .before .before .before .if1 .left) (rw (← (c .before .before .is-register .ensures), ← (c .before .is-order .ensures)) (not-true _ (c .if2 .taken)))
+unfolding poolTests poolAnswer
+returns-2 c = search (tested, right-as, pool-out 1)
 
 -- what is known once register and order are right
 passed : (c : tie.Else2) → Passed (c .before .before .before .before .before .before .args .register .now) (c .before .before .before .before .before .before .args .amount .0) (c .before .before .before .before .before .before .args .output .now)
