@@ -9,7 +9,7 @@ use lib.Seq.{take-at, drop-at, drop-drop, take-all, take-add, take-append-add, d
 use Rattle.texts.specs.Texts.{between, blank}
 use Rattle.texts.specs.Buffers.{put, putAt}
 use Rattle.texts.proofs.Puts.{put-fits}
-use Rattle.sheets.specs.Sheet.{slots, cellText, cellOf, textOf}
+use Rattle.sheets.specs.Sheet.{slots, cellText, cellOf, textOf, cellSize, sheetSize, slotCount}
 use Rattle.fillings.specs.Fillings.{joined}
 use Rattle.fillings.specs.Working.Places.{places}
 use Rattle.sheets.specs.Working.Entries.{filledAt}
@@ -20,13 +20,13 @@ Cells = List (List ℕ)
 
 abbrev pub Sized : Cells → Type 0
 Sized [] = Unit {0}
-Sized (c ∷ cs) = (length c ≡ 26) × Sized cs
+Sized (c ∷ cs) = (length c ≡ cellSize) × Sized cs
 
-pub sized-by : (cs : Cells) → ((k : ℕ) → k < length cs → length (getD cs k []) ≡ 26) → Sized cs
+pub sized-by : (cs : Cells) → ((k : ℕ) → k < length cs → length (getD cs k []) ≡ cellSize) → Sized cs
 sized-by [] w = tt
 sized-by (c ∷ cs) w = (w 0 (omega arith), sized-by cs (λ k l. w (suc k) (omega arith)))
 
-pub length-joined : (cs : Cells) → Sized cs → length (joined cs) ≡ length cs * 26
+pub length-joined : (cs : Cells) → Sized cs → length (joined cs) ≡ length cs * cellSize
 length-joined [] z = refl
 length-joined (c ∷ cs) z =
     let a = z .0 in
@@ -37,56 +37,56 @@ length-joined (c ∷ cs) z =
 pub cell-joined : (cs : Cells) (k : ℕ) → Sized cs → k < length cs → cellOf (joined cs) k ≡ getD cs k []
 unfolding cellOf between
 cell-joined [] k z h = absurd (omega arith)
-cell-joined (c ∷ cs) zero z h = take-at c (joined cs) 26 (z .0)
+cell-joined (c ∷ cs) zero z h = take-at c (joined cs) cellSize (z .0)
 cell-joined (c ∷ cs) (suc k) z h =
     let a = z .0 in
-    let e : suc k * 26 ≡ length c + k * 26 = omega arith in
-    let f : length c + k * 26 + 26 - (length c + k * 26) ≡ k * 26 + 26 - k * 26 = omega arith in
-    rw (e, f, drop-append-add c (joined cs) (k * 26)) (cell-joined cs k (z .1) (omega arith))
+    let e : suc k * cellSize ≡ length c + k * cellSize = omega arith in
+    let f : length c + k * cellSize + cellSize - (length c + k * cellSize) ≡ k * cellSize + cellSize - k * cellSize = omega arith in
+    rw (e, f, drop-append-add c (joined cs) (k * cellSize)) (cell-joined cs k (z .1) (omega arith))
 
 -- a sheet is its cells
-cells-from : (s : List ℕ) (n i : ℕ) → joined (map (cellOf s) (places n i)) ≡ take (n * 26) (drop (i * 26) s)
+cells-from : (s : List ℕ) (n i : ℕ) → joined (map (cellOf s) (places n i)) ≡ take (n * cellSize) (drop (i * cellSize) s)
 unfolding cellOf between places
 cells-from s zero i = refl
 cells-from s (suc n) i =
-    let e : suc n * 26 ≡ 26 + n * 26 = omega arith in
-    let f : i * 26 + 26 - i * 26 ≡ 26 = omega arith in
-    let g : suc i * 26 ≡ i * 26 + 26 = omega arith in
-    rw (e, f, take-add 26 (n * 26) (drop (i * 26) s)) (ap (λ (x : List ℕ). take 26 (drop (i * 26) s) ++ x) (cells-from s n (suc i) ∙ rw (g, drop-drop 26 (i * 26) s)))
+    let e : suc n * cellSize ≡ cellSize + n * cellSize = omega arith in
+    let f : i * cellSize + cellSize - i * cellSize ≡ cellSize = omega arith in
+    let g : suc i * cellSize ≡ i * cellSize + cellSize = omega arith in
+    rw (e, f, take-add cellSize (n * cellSize) (drop (i * cellSize) s)) (ap (λ (x : List ℕ). take cellSize (drop (i * cellSize) s) ++ x) (cells-from s n (suc i) ∙ rw (g, drop-drop cellSize (i * cellSize) s)))
 
-pub joined-cells : (s : List ℕ) → length s ≡ 390 → joined (map (cellOf s) slots) ≡ s
+pub joined-cells : (s : List ℕ) → length s ≡ sheetSize → joined (map (cellOf s) slots) ≡ s
 unfolding places
-joined-cells s h = cells-from s 15 0 ∙ take-all 390 s (omega arith)
+joined-cells s h = cells-from s slotCount 0 ∙ take-all sheetSize s (omega arith)
 
 -- the cells of a sheet are 26 bytes long
-pub length-cellOf : (s : List ℕ) (k : ℕ) → k * 26 + 26 ≤ length s → length (cellOf s k) ≡ 26
+pub length-cellOf : (s : List ℕ) (k : ℕ) → k * cellSize + cellSize ≤ length s → length (cellOf s k) ≡ cellSize
 unfolding cellOf between
 length-cellOf s k h = simp (length-take, length-drop) (omega arith)
 
-sized-from : (s : List ℕ) (n i : ℕ) → i * 26 + n * 26 ≤ length s → Sized (map (cellOf s) (places n i))
+sized-from : (s : List ℕ) (n i : ℕ) → i * cellSize + n * cellSize ≤ length s → Sized (map (cellOf s) (places n i))
 unfolding places
 sized-from s zero i h = tt
 sized-from s (suc n) i h = (length-cellOf s i (omega arith), sized-from s n (suc i) (omega arith))
 
-pub sized-cells : (s : List ℕ) → length s ≡ 390 → Sized (map (cellOf s) slots)
+pub sized-cells : (s : List ℕ) → length s ≡ sheetSize → Sized (map (cellOf s) slots)
 unfolding places
-sized-cells s h = sized-from s 15 0 (omega arith)
+sized-cells s h = sized-from s slotCount 0 (omega arith)
 
 -- a cell replaced
-put-joined : (cs : Cells) (k : ℕ) (x : List ℕ) → Sized cs → k < length cs → length x ≡ 26 → put (joined cs) (k * 26) x ≡ joined (set cs k x)
+put-joined : (cs : Cells) (k : ℕ) (x : List ℕ) → Sized cs → k < length cs → length x ≡ cellSize → put (joined cs) (k * cellSize) x ≡ joined (set cs k x)
 unfolding put
 put-joined [] k x z h l = absurd (omega arith)
 put-joined (c ∷ cs) zero x z h l =
-    let e : 0 + length x ≡ 26 = omega arith in
-    rw e (ap (λ (t : List ℕ). x ++ t) (drop-at c (joined cs) 26 (z .0)))
+    let e : 0 + length x ≡ cellSize = omega arith in
+    rw e (ap (λ (t : List ℕ). x ++ t) (drop-at c (joined cs) cellSize (z .0)))
 put-joined (c ∷ cs) (suc k) x z h l =
     let a = z .0 in
-    let e : suc k * 26 ≡ length c + k * 26 = omega arith in
-    let f : length c + k * 26 + length x ≡ length c + (k * 26 + length x) = omega arith in
-    rw (e, f, take-append-add c (joined cs) (k * 26), drop-append-add c (joined cs) (k * 26 + length x), append-assoc c (take (k * 26) (joined cs)) x, append-assoc c)
+    let e : suc k * cellSize ≡ length c + k * cellSize = omega arith in
+    let f : length c + k * cellSize + length x ≡ length c + (k * cellSize + length x) = omega arith in
+    rw (e, f, take-append-add c (joined cs) (k * cellSize), drop-append-add c (joined cs) (k * cellSize + length x), append-assoc c (take (k * cellSize) (joined cs)) x, append-assoc c)
     (ap (λ (t : List ℕ). c ++ t) (put-joined cs k x (z .1) (omega arith) l))
 
-sized-set : (cs : Cells) (k : ℕ) (x : List ℕ) → Sized cs → length x ≡ 26 → Sized (set cs k x)
+sized-set : (cs : Cells) (k : ℕ) (x : List ℕ) → Sized cs → length x ≡ cellSize → Sized (set cs k x)
 sized-set [] k x z l = z
 sized-set (c ∷ cs) zero x z l = (l, z .1)
 sized-set (c ∷ cs) (suc k) x z l = (z .0, sized-set cs k x (z .1) l)
@@ -102,17 +102,17 @@ fillCells cs (e ∷ es) = fillCells (fillCell cs e) es
 -- an entry for a slot below n, of 26 bytes
 abbrev pub Fit : ℕ → List Entry → Type 0
 Fit n [] = Unit {0}
-Fit n (e ∷ es) = ((e .0 < n) × (length (e .1) ≡ 26)) × Fit n es
+Fit n (e ∷ es) = ((e .0 < n) × (length (e .1) ≡ cellSize)) × Fit n es
 
-fill-joined : (cs : Cells) (e : Entry) → Sized cs → e .0 < length cs → length (e .1) ≡ 26 → (filledAt (joined cs) (e .0) (e .1) ≡ joined (fillCell cs e)) × Sized (fillCell cs e)
+fill-joined : (cs : Cells) (e : Entry) → Sized cs → e .0 < length cs → length (e .1) ≡ cellSize → (filledAt (joined cs) (e .0) (e .1) ≡ joined (fillCell cs e)) × Sized (fillCell cs e)
 unfolding filledAt textOf
 fill-joined cs e z h l = rw (cell-joined cs (e .0) z h) (go (blank (cellText (getD cs (e .0) []))))
   where
     filled : Bool → Cells
     filled b = set cs (e .0) (cond b (e .1) (getD cs (e .0) []))
 
-    go : (b : Bool) → (cond b (putAt (joined cs) (e .0 * 26) (e .1)) (joined cs) ≡ joined (filled b)) × Sized (filled b)
-    go true = (put-fits (joined cs) (e .0 * 26) (e .1) (omega (arith, length-joined cs z)) ∙ put-joined cs (e .0) (e .1) z h l, sized-set cs (e .0) (e .1) z l)
+    go : (b : Bool) → (cond b (putAt (joined cs) (e .0 * cellSize) (e .1)) (joined cs) ≡ joined (filled b)) × Sized (filled b)
+    go true = (put-fits (joined cs) (e .0 * cellSize) (e .1) (omega (arith, length-joined cs z)) ∙ put-joined cs (e .0) (e .1) z h l, sized-set cs (e .0) (e .1) z l)
     go false = let s = sym (set-getD cs (e .0) []) in (ap joined s, subst Sized s z)
 
 pub filled-joined : (es : List Entry) (cs : Cells) → Sized cs → Fit (length cs) es → (filledWith (joined cs) es ≡ joined (fillCells cs es)) × Sized (fillCells cs es)

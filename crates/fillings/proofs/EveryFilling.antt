@@ -12,7 +12,7 @@ use lib.ListN.{length, getD}
 use Rattle.texts.specs.Quoted.{Text}
 use Rattle.texts.specs.Texts.{every, blank}
 use Rattle.texts.proofs.Bools.{both}
-use Rattle.sheets.specs.Sheet.{Sheet, cell, cellText, slots, cellOf, textOf, textMax, given}
+use Rattle.sheets.specs.Sheet.{Sheet, cell, cellText, slots, cellOf, textOf, textMax, given, cellSize, sheetSize, slotCount}
 use Rattle.sheets.proofs.Frames.{text-cell, length-cell}
 use Rattle.fillings.specs.Fillings.{Lists, entry, Proper, toFill, choices, each, product, joined, fillings, Filling}
 use Rattle.fillings.specs.Working.Places.{places}
@@ -75,9 +75,9 @@ module _ {A : Type 0} where
   at-places g z (suc n) i zero l = ap g (omega arith)
   at-places g z (suc n) i (suc k) l = at-places g z n (suc i) k (omega arith) ∙ ap g (omega arith)
 
-  pub at-slots : (g : ℕ → A) (z : A) (k : ℕ) → k < 15 → getD (map g slots) k z ≡ g k
+  pub at-slots : (g : ℕ → A) (z : A) (k : ℕ) → k < slotCount → getD (map g slots) k z ≡ g k
   unfolding places
-  at-slots g z k l = at-places g z 15 0 k l ∙ ap g (zero-add k)
+  at-slots g z k l = at-places g z slotCount 0 k l ∙ ap g (zero-add k)
 
 pub length-places : (n i : ℕ) → length (places n i) ≡ n
 unfolding places
@@ -94,7 +94,7 @@ entry-sized {L} P k t m =
 
 module _ {L : Lists} (P : Proper L) (s : Sheet) where
   -- a field that is not blank stays
-  pub given-stays : (f : Sheet) → Filling L s f → (k : ℕ) → k < 15 → blank (textOf s k) ≡ false → cellOf f k ≡ cellOf s k
+  pub given-stays : (f : Sheet) → Filling L s f → (k : ℕ) → k < slotCount → blank (textOf s k) ≡ false → cellOf f k ≡ cellOf s k
   unfolding choices toFill
   given-stays f w k l e = List·Memᴰ·eq-of-singleton (rw (e, and-false) at (w .slot k l))
 
@@ -110,23 +110,23 @@ module _ {L : Lists} (P : Proper L) (s : Sheet) where
           ap (λ (y : List ℕ). not (blank (cellText y))) (sym (w .2)) ∙ rw (text-cell (w .0), ne-eqb (length (w .0)) 0 (λ e. omega arith))
       go false m = ap (λ (y : List ℕ). not (blank (cellText y))) (List·Memᴰ·eq-of-singleton m)
 
-  module _ (sized : length s ≡ 390) where
-    pub choice-length : (k : ℕ) → k < 15 → (x : List ℕ) → List·Memᴰ x (choices L s k) → length x ≡ 26
+  module _ (sized : length s ≡ sheetSize) where
+    pub choice-length : (k : ℕ) → k < slotCount → (x : List ℕ) → List·Memᴰ x (choices L s k) → length x ≡ cellSize
     unfolding choices
     choice-length k l x = go (toFill L s k)
       where
-        go : (b : Bool) → List·Memᴰ x (cond b (map cell (L k)) (cellOf s k ∷ [])) → length x ≡ 26
+        go : (b : Bool) → List·Memᴰ x (cond b (map cell (L k)) (cellOf s k ∷ [])) → length x ≡ cellSize
         go true m = let w = Memᴰ·of-map cell (L k) m in ap length (sym (w .2)) ∙ length-cell (w .0) (entry-sized P k (w .0) (w .1) .1)
         go false m = ap length (List·Memᴰ·eq-of-singleton m) ∙ length-cellOf s k (omega arith)
 
     module _ (r : List (List ℕ)) (d : Drawn (map (choices L s) slots) r) where
-      pub drawn-choice : (k : ℕ) → k < 15 → List·Memᴰ (getD r k []) (choices L s k)
+      pub drawn-choice : (k : ℕ) → k < slotCount → List·Memᴰ (getD r k []) (choices L s k)
       drawn-choice k l = subst (List·Memᴰ (getD r k [])) (at-slots (choices L s) [] k l) (drawn-at [] d k l)
 
       drawn-sized : Sized r
-      drawn-sized = sized-by r (λ k l. let h : k < 15 = omega (arith, length-drawn d) in choice-length k h (getD r k []) (drawn-choice k h))
+      drawn-sized = sized-by r (λ k l. let h : k < slotCount = omega (arith, length-drawn d) in choice-length k h (getD r k []) (drawn-choice k h))
 
-      pub drawn-cell : (k : ℕ) → k < 15 → cellOf (joined r) k ≡ getD r k []
+      pub drawn-cell : (k : ℕ) → k < slotCount → cellOf (joined r) k ≡ getD r k []
       drawn-cell k l = cell-joined r k drawn-sized (omega (arith, length-drawn d))
 
       drawn-filling : Filling L s (joined r)
@@ -142,7 +142,7 @@ module _ {L : Lists} (P : Proper L) (s : Sheet) where
         let w = Memᴰ·of-map joined (product (map (choices L s) slots)) h in
         subst (Filling L s) (w .2) (drawn-filling (w .0) (product-drawn (map (choices L s) slots) (w .0) (w .1)))
 
-    cells-drawn : (f : Sheet) → Filling L s f → (n i : ℕ) → i + n ≤ 15 → Drawn (map (choices L s) (places n i)) (map (cellOf f) (places n i))
+    cells-drawn : (f : Sheet) → Filling L s f → (n i : ℕ) → i + n ≤ slotCount → Drawn (map (choices L s) (places n i)) (map (cellOf f) (places n i))
     unfolding places
     cells-drawn f w zero i b = nothing
     cells-drawn f w (suc n) i b = one (w .slot i (omega arith)) (cells-drawn f w n (suc i) (omega arith))
@@ -152,4 +152,4 @@ module _ {L : Lists} (P : Proper L) (s : Sheet) where
     unfolding fillings places
     of-filling f w =
         Memᴰ·cast (sym (joined-cells f (w .sized)))
-        (Memᴰ·map joined (drawn-product (cells-drawn f w 15 0 (omega arith))))
+        (Memᴰ·map joined (drawn-product (cells-drawn f w slotCount 0 (omega arith))))

@@ -6,14 +6,14 @@ use mathlib.Core.Bool.{Bool, true, false, true≢false}
 use mathlib.Core.List.{List}
 use Prim.Native.Nat.{ℕ}
 use lib.ListN.{length}
-use Rattle.sheets.specs.Sheet.{Sheet}
+use Rattle.sheets.specs.Sheet.{Sheet, sheetSize}
 use Rattle.fillings.specs.Fillings.{Lists, Proper, Filling, Place, All, FirstFilling, Look, found, none, fillings, firstFilling}
 use Rattle.fillings.proofs.EveryFilling.{filling-of, of-filling, given-stays}
 use Rattle.fillings.proofs.Looking.{look-found, look-none, look-member}
 use Rattle.fillings.proofs.Order.{earlier-before, place-of, once-all}
 use Rattle.fillings.proofs.Counting.{fillings-most, fillings-one}
 
-module _ {L : Lists} (P : Proper L) (s : Sheet) (z : length s ≡ 390) where
+module _ {L : Lists} (P : Proper L) (s : Sheet) (z : length s ≡ sheetSize) where
   pub all-fillings : All L s (length (fillings L s))
   all-fillings = record {
     list = fillings L s;

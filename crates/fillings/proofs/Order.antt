@@ -10,7 +10,7 @@ use lib.ListN.{length, getD}
 use Rattle.texts.specs.Texts.{any, same}
 use Rattle.texts.proofs.Bools.{both}
 use Rattle.texts.proofs.Codes.{same-self}
-use Rattle.sheets.specs.Sheet.{Sheet, slots, cellOf}
+use Rattle.sheets.specs.Sheet.{Sheet, slots, cellOf, sheetSize, slotCount}
 use Rattle.fillings.specs.Fillings.{Lists, Proper, distinct, toFill, choices, entryPlace, each, product, joined, fillings, Filling, Earlier, Place}
 use Rattle.fillings.proofs.EveryFilling.{Drawn, each-cases, product-drawn, at-slots, drawn-cell, filling-of, of-filling}
 use Rattle.fillings.proofs.Distinct.{choice-once, distinct-not}
@@ -128,12 +128,12 @@ earlier-strict {L} s g f v w =
           ]
     ]
 
-module _ {L : Lists} (P : Proper L) (s : Sheet) (sized : length s ≡ 390) where
+module _ {L : Lists} (P : Proper L) (s : Sheet) (sized : length s ≡ sheetSize) where
   differs-earlier : (r t : List (List ℕ)) → Drawn (map (choices L s) slots) r → Drawn (map (choices L s) slots) t → Differs (map (choices L s) slots) r t → Earlier L s (joined r) (joined t)
   differs-earlier r t dr dt w =
-      let i : w .at < 15 = w .inside in
-      let cr : (k : ℕ) → k < 15 → cellOf (joined r) k ≡ getD r k [] = drawn-cell P s sized r dr in
-      let ct : (k : ℕ) → k < 15 → cellOf (joined t) k ≡ getD t k [] = drawn-cell P s sized t dt in
+      let i : w .at < slotCount = w .inside in
+      let cr : (k : ℕ) → k < slotCount → cellOf (joined r) k ≡ getD r k [] = drawn-cell P s sized r dr in
+      let ct : (k : ℕ) → k < slotCount → cellOf (joined t) k ≡ getD t k [] = drawn-cell P s sized t dt in
       record {
         at = w .at;
         inside = i;

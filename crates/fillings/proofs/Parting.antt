@@ -12,7 +12,7 @@ use lib.ListN.{length, getD, set, length-map, length-set}
 use lib.Seq.{ext-getD, getD-set-same, getD-set-other}
 use Rattle.texts.specs.Texts.{blank}
 use Rattle.texts.proofs.Bools.{both}
-use Rattle.sheets.specs.Sheet.{Sheet, slots, cell, cellText, cellOf, textOf, given}
+use Rattle.sheets.specs.Sheet.{Sheet, slots, cell, cellText, cellOf, textOf, given, cellSize, sheetSize, slotCount}
 use Rattle.sheets.specs.Working.Entries.{filledAt}
 use Rattle.sheets.proofs.Frames.{filled-length}
 use Rattle.fillings.specs.Fillings.{Lists, Proper, toFill, choices, each, product, joined, Filling, width, Look, found, none, look, fillings, firstFilling}
@@ -71,21 +71,21 @@ look-by {A} {X} p part skip (x ∷ xs) n h =
 -- ---- fillings
 
 -- a cell put into a blank slot
-module _ (s : Sheet) (z : length s ≡ 390) (k : ℕ) (lk : k < 15) (x : List ℕ) (lx : length x ≡ 26) where
-  put-cell : (j : ℕ) → j < 15 → cellOf (filledAt s k x) j ≡ getD (fillCell (map (cellOf s) slots) (k, x)) j []
+module _ (s : Sheet) (z : length s ≡ sheetSize) (k : ℕ) (lk : k < slotCount) (x : List ℕ) (lx : length x ≡ cellSize) where
+  put-cell : (j : ℕ) → j < slotCount → cellOf (filledAt s k x) j ≡ getD (fillCell (map (cellOf s) slots) (k, x)) j []
   put-cell j l =
       let w = filled-joined ((k, x) ∷ []) (map (cellOf s) slots) (sized-cells s z) ((lk, lx), tt) in
       ap (λ (t : Sheet). cellOf (filledAt t k x) j) (sym (joined-cells s z)) ∙ ap (λ (t : Sheet). cellOf t j) (w .0)
       ∙ cell-joined (fillCell (map (cellOf s) slots) (k, x)) j (w .1) (omega (arith, length-set (map (cellOf s) slots) k (cond (blank (cellText (getD (map (cellOf s) slots) k []))) x (getD (map (cellOf s) slots) k []))))
 
-  pub put-other : (j : ℕ) → j < 15 → (j ≡ k → ⊥) → cellOf (filledAt s k x) j ≡ cellOf s j
+  pub put-other : (j : ℕ) → j < slotCount → (j ≡ k → ⊥) → cellOf (filledAt s k x) j ≡ cellOf s j
   put-other j l n = put-cell j l ∙ getD-set-other (map (cellOf s) slots) k j _ [] n ∙ at-slots (cellOf s) [] j l
 
   pub put-same : cellOf (filledAt s k x) k ≡ cond (blank (textOf s k)) x (cellOf s k)
   unfolding textOf
   put-same = put-cell k lk ∙ getD-set-same (map (cellOf s) slots) k _ [] lk ∙ rw (at-slots (cellOf s) [] k lk)
 
-module _ {L : Lists} (P : Proper L) (s : Sheet) (z : length s ≡ 390) (k : ℕ) (lk : k < 15) (some : 0 < length (L k)) (ones : (j : ℕ) → j < k → length (L j) ≤ 1) where
+module _ {L : Lists} (P : Proper L) (s : Sheet) (z : length s ≡ sheetSize) (k : ℕ) (lk : k < slotCount) (some : 0 < length (L k)) (ones : (j : ℕ) → j < k → length (L j) ≤ 1) where
   module _ (x : List ℕ) (m : List·Memᴰ x (choices L s k)) where
     -- with an entry put in, no blank is left there
     entry-given : not (blank (cellText x)) ≡ true
@@ -96,10 +96,10 @@ module _ {L : Lists} (P : Proper L) (s : Sheet) (z : length s ≡ 390) (k : ℕ)
         go true = refl
         go false = refl
 
-    pub put-length : length (filledAt s k x) ≡ 390
+    pub put-length : length (filledAt s k x) ≡ sheetSize
     put-length = filled-length s x k z lk (choice-length P s z k lk x m)
 
-    size-of : length x ≡ 26
+    size-of : length x ≡ cellSize
     size-of = choice-length P s z k lk x m
 
     put-there : cellOf (filledAt s k x) k ≡ x

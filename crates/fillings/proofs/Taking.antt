@@ -9,7 +9,7 @@ use lib.Dec.{ltb}
 use lib.ListN.{length, getD}
 use Rattle.texts.specs.Texts.{blank, same}
 use Rattle.texts.proofs.Codes.{same-self}
-use Rattle.sheets.specs.Sheet.{Sheet, slots, cell, cellText, cellOf, textOf}
+use Rattle.sheets.specs.Sheet.{Sheet, slots, cell, cellText, cellOf, textOf, sheetSize, slotCount}
 use Rattle.fillings.specs.Fillings.{Lists, Proper, toFill, choices, product, joined, Filling, Look, found, none, look, fillings, firstFilling}
 use Rattle.fillings.specs.Taken.{Taken, Again}
 use Rattle.fillings.specs.Working.Places.{places}
@@ -37,20 +37,20 @@ fill-given L u k x e h =
     (rw (b, and-false), rw (b, and-false) (ap (λ (c : List ℕ). c ∷ []) e))
 
 -- what is the same of every slot is the same of all
-pub map-slots : {A : Type 0} (f g : ℕ → A) → ((k : ℕ) → k < 15 → f k ≡ g k) → map f slots ≡ map g slots
+pub map-slots : {A : Type 0} (f g : ℕ → A) → ((k : ℕ) → k < slotCount → f k ≡ g k) → map f slots ≡ map g slots
 unfolding places
-map-slots {A} f g e = go 15 0 (omega arith)
+map-slots {A} f g e = go slotCount 0 (omega arith)
   where
-    go : (n i : ℕ) → i + n ≤ 15 → map f (places n i) ≡ map g (places n i)
+    go : (n i : ℕ) → i + n ≤ slotCount → map f (places n i) ≡ map g (places n i)
     go zero i b = refl
     go (suc n) i b = λ j. e i (omega arith) j ∷ go n (suc i) (omega arith) j
 
-module _ {L : Lists} (P : Proper L) (good : Sheet → Bool) (chosen : ℕ → Bool) (s f u : Sheet) (z : length s ≡ 390) (T : Taken L chosen s f u) where
+module _ {L : Lists} (P : Proper L) (good : Sheet → Bool) (chosen : ℕ → Bool) (s f u : Sheet) (z : length s ≡ sheetSize) (T : Taken L chosen s f u) where
   -- the entries that stay possible
   stays : ℕ → List ℕ → Bool
   stays k x = cond (toFill L s k && chosen k) (same x (cellOf f k)) true
 
-  module _ (w : Filling L s f) (k : ℕ) (l : k < 15) where
+  module _ (w : Filling L s f) (k : ℕ) (l : k < slotCount) where
     slot-by : (a c : Bool) → toFill L s k ≡ a → cellOf u k ≡ cond (a && c) (cellOf f k) (cellOf s k)
         → (toFill L u k ≡ (a && not c)) × (choices L u k ≡ keep (λ (x : List ℕ). cond (a && c) (same x (cellOf f k)) true) (choices L s k))
     slot-by true true e h =
@@ -64,7 +64,7 @@ module _ {L : Lists} (P : Proper L) (good : Sheet → Bool) (chosen : ℕ → Bo
     slot-is = slot-by (toFill L s k) (chosen k) refl (T .slot k l)
 
   -- the proposed filling stays possible
-  proposed : (r : List (List ℕ)) → Drawn (map (choices L s) slots) r → joined r ≡ f → (k : ℕ) → k < 15 → stays k (getD r k []) ≡ true
+  proposed : (r : List (List ℕ)) → Drawn (map (choices L s) slots) r → joined r ≡ f → (k : ℕ) → k < slotCount → stays k (getD r k []) ≡ true
   unfolding stays
   proposed r d e k l = go (toFill L s k && chosen k) (sym (drawn-cell P s z r d k l) ∙ ap (λ (g : Sheet). cellOf g k) e)
     where
@@ -85,7 +85,7 @@ module _ {L : Lists} (P : Proper L) (good : Sheet → Bool) (chosen : ℕ → Bo
       let kept : product (map (choices L u) slots) ≡ keep (allPass stays slots) R = ap product (map-slots (choices L u) (λ (k : ℕ). keep (stays k) (choices L s k)) (λ k l. slot-is w k l .1)) ∙ product-keep stays (choices L s) slots in
       let (r, o, j) = look-cases n (look test 0 R) (sym (look-map good joined R 0) ∙ e) in
       let d = product-drawn (map (choices L s) slots) r (look-member test R n r o) in
-      let (m, q, h) = keep-first test (allPass stays slots) R n r (look-found test R n r o) (all-pass stays [] 15 0 r (λ k l. ap (λ (i : ℕ). stays i (getD r k [])) (omega arith) ∙ proposed r d j k l)) in
+      let (m, q, h) = keep-first test (allPass stays slots) R n r (look-found test R n r o) (all-pass stays [] slotCount 0 r (λ k l. ap (λ (i : ℕ). stays i (getD r k [])) (omega arith) ∙ proposed r d j k l)) in
       record {
         count = m;
         same = ap (λ (l : List (List (List ℕ))). look good 0 (map joined l)) kept ∙ look-map good joined (keep (allPass stays slots) R) 0 ∙ ap (mapLook joined) q ∙ ap (found m) j;

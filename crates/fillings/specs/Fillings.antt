@@ -31,8 +31,8 @@ pub record Proper (L : Lists) : Type 0 where
 unfoldable pub toFill : Lists → Sheet → ℕ → Bool
 toFill L s k = ltb 0 (length (L k)) && blank (textOf s k)
 
--- "one list entry put into every blank field that has a list, all other fields unchanged": what slot k of a filling of s may
--- hold, in the list's order
+-- "A filling is the draft's sheet with one list entry put into every blank field that has a list, all other fields unchanged": what slot k of a
+-- filling of s may hold, in the list's order
 unfoldable pub choices : Lists → Sheet → ℕ → List (List ℕ)
 choices L s k = cond (toFill L s k) (map cell (L k)) (cellOf s k ∷ [])
 
@@ -82,7 +82,7 @@ pub record All (L : Lists) (s : Sheet) (n : ℕ) : Type 0 where
   pub most : n ≤ mostFillings L
   pub one : ((k : ℕ) → toFill L s k ≡ false) → n ≡ 1
 
--- t is the first filling of s that passes the test, and n is its place
+-- t is the first filling of s that passes the test, and n is its place (demand 3)
 pub record FirstFilling (L : Lists) (good : Sheet → Bool) (s t : Sheet) (n : ℕ) : Type 0 where
   pub filling : Filling L s t
   pub keeps : good t ≡ true
@@ -95,7 +95,7 @@ pub record FirstFilling (L : Lists) (good : Sheet → Bool) (s t : Sheet) (n : �
 
 -- ---- all fillings, in order
 
--- one of each list, the first list's varying slowest
+-- one of each list, the first list's varying slowest ("101 varies slowest, then 106, 108, 109": the order of their slots)
 abbrev pub each : {A : Type 0} → List A → List (List A) → List (List A)
 each [] rest = []
 each {A} (x ∷ xs) rest = map (λ (r : List A). x ∷ r) rest ++ each xs rest
@@ -121,6 +121,6 @@ unfoldable pub look : {A : Type 0} → (A → Bool) → ℕ → List A → Look 
 look p n [] = none n
 look p n (x ∷ xs) = cond (p x) (found (n + 1) x) (look p (n + 1) xs)
 
--- "the first filling that keeps all rules"
+-- "the first filling that keeps all rules, the count of fillings up to and including it"
 unfoldable pub firstFilling : Lists → (Sheet → Bool) → Sheet → Look Sheet
 firstFilling L good s = look good 0 (fillings L s)

@@ -12,8 +12,8 @@ use Rattle.rules.specs.Rules.{keepsAll}
 use Rattle.fillings.specs.Fillings as of
 use Rattle.fillings.specs.Filled as set
 
--- "Lists: 22, 60, 102, 104, 105, 107: "0". 101: rule 10's order. 106: rule 15's order. 108 and 109: "0", "00"": by slot, no entry for
--- a field that has no list; ts is that of 101
+-- "Lists: 22, 60, 102, 104, 105, 107: "0". 101: rule 10's order. 106: rule 15's order. 108 and 109: "0", "00". Fields 14, 15, 17, 61, 103 have no
+-- list and stay as given": by slot, no entry for a field that has no list; ts is that of 101
 abbrev pub lists : List Text → List (List Text)
 lists ts =
     [] ∷ [] ∷ [] ∷ words "0" ∷ words "0" ∷ [] ∷ ts ∷ words "0" ∷ [] ∷ words "0" ∷ words "0" ∷ basisTexts ∷ words "0" ∷ zeroTexts

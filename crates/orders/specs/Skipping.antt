@@ -51,7 +51,7 @@ pub record AreSkipped (D : Dates) (s : Sheet) (n : ℕ) : Type 0 where
   pub count : n ≡ length list
   pub holds : (x : List ℕ) → List·Memᴰ x list ↔ (List·Memᴰ x (upTo (statusesOf D s) (firstFilling D s)) × (fails D s x ≡ true))
   pub once : distinct list ≡ true
-  -- a rule fails for a status exactly if it fails for each of its fillings, so that none that keeps the rules is passed over
+  -- one of these rules fails in a filling of a status exactly if one fails in each, so that none that keeps the rules is passed over
   pub alike : length s ≡ sheetSize → (f : Sheet) → Filling D s f → not (every (keeps D f) quickRules) ≡ fails D s (cellOf f statusSlot)
   -- where the test ahead names a rule (R-3), every status is skipped
   pub caught :
