@@ -1,7 +1,7 @@
 # The Rust side has its own target folder; `rt ci` removes the repository's.
 # Two proof runs would share one target folder.
 .NOTPARALLEL:
-.PHONY: run test edits lib install uninstall fuzz bench
+.PHONY: run take test edits lib install uninstall fuzz bench
 
 CRATES := $(shell find crates -name '*.rt' -o -name '*.antt') crates.txt
 
@@ -9,6 +9,10 @@ CRATES := $(shell find crates -name '*.rt' -o -name '*.antt') crates.txt
 ORDER ?= bindings/samples/order.txt
 run: target/bin/budgetorder lib
 	@./tools/run "$(ORDER)"
+
+# Takes up what is proposed for some fields of an order, FIELDS="101 106", and prints the lines to append to it.
+take: lib
+	@./tools/take "$(ORDER)" $(FIELDS)
 
 # Layout and lints, every crate proved from nothing, the must-fail edits, the programs, then the checks from outside.
 test:

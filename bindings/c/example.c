@@ -1,7 +1,8 @@
 /* A small order: its messages are written, posted in the order of their arrival,
  * tested and completed, and the sheet is printed; then a correction dated back, also
- * completed quickly; the bank's charge for a few amounts, parts of a year, a year's amount
- * shared among its months, the pooled lines of a register, and which payments leave first.
+ * completed quickly; a proposal of which parts are taken up; the bank's charge for a few
+ * amounts, parts of a year, a year's amount shared among its months, the pooled lines of a
+ * register, and which payments leave first.
  * The program checks its own results and returns 1 if one is not as expected. */
 
 #include <inttypes.h>
@@ -18,6 +19,7 @@ _Static_assert(sizeof(kieselbrot_post_answer) == 2, "the answers' layout");
 _Static_assert(sizeof(kieselbrot_pretest_answer) == 3, "the answers' layout");
 _Static_assert(sizeof(kieselbrot_complete_answer) == 32, "the answers' layout");
 _Static_assert(sizeof(kieselbrot_quick_answer) == 32, "the answers' layout");
+_Static_assert(sizeof(kieselbrot_take_up_answer) == 2, "the answers' layout");
 _Static_assert(sizeof(kieselbrot_charge_answer) == 16, "the answers' layout");
 _Static_assert(sizeof(kieselbrot_part_answer) == 16, "the answers' layout");
 _Static_assert(sizeof(kieselbrot_pool_answer) == 24, "the answers' layout");
@@ -244,6 +246,83 @@ static kieselbrot_complete_answer propose(const uint8_t *draft, uint8_t *sheet, 
     printf("dated %" PRIu32 ": number %d, status %.2s, count %lu\n", dated, proposed.number,
            (const char *)status(sheet), (unsigned long)proposed.count);
     return proposed;
+}
+
+/* The bit of a field's slot in a set. */
+static uint16_t bit(uint8_t field)
+{
+    for (size_t slot = 0; slot < KIESELBROT_FIELDS; slot++)
+        if (fields[slot] == field)
+            return (uint16_t)(1 << slot);
+    return 0;
+}
+
+/* The revision in the slot of field 101. */
+static uint32_t revision_101(const uint8_t *draft)
+{
+    const uint8_t *slot = draft + 6 * KIESELBROT_DRAFT_SLOT_SIZE;
+    return (uint32_t)slot[0] << 24 | (uint32_t)slot[1] << 16 | (uint32_t)slot[2] << 8 | slot[3];
+}
+
+/* Takes up a part of a proposal on a copy of the draft, and completes that again: to the
+ * same sheet, at this count, and without the slots taken up. */
+static void expect_taken_up(const uint8_t *draft, const uint8_t *sheet,
+                            kieselbrot_complete_answer proposed, uint16_t set, size_t count)
+{
+    uint8_t taken[KIESELBROT_DRAFT_SIZE], again[KIESELBROT_SHEET_SIZE];
+    memcpy(taken, draft, sizeof taken);
+    const kieselbrot_take_up_answer answer =
+        kieselbrot_take_up(taken, sizeof taken, sheet, KIESELBROT_SHEET_SIZE, set);
+    expect(answer.number == KIESELBROT_OK && answer.field == 0, "taking up");
+    if ((set & bit(101)) != 0)
+        expect(revision_101(taken) == revision_101(draft) + 1, "the revision after its slot's");
+
+    const kieselbrot_complete_answer completed = propose(taken, again, date);
+    expect(completed.number == KIESELBROT_OK && completed.count == count, "completing again");
+    expect(completed.count <= proposed.count, "a count no larger");
+    expect(completed.set == (proposed.set & ~set), "the set without the slots taken up");
+    expect(memcmp(again, sheet, sizeof again) == 0, "the same sheet");
+}
+
+/* What can't be taken up, and that nothing changes. */
+static void expect_not_taken_up(const uint8_t *draft, const uint8_t *sheet, size_t sheet_len,
+                                uint16_t set, uint8_t number, uint8_t field)
+{
+    uint8_t taken[KIESELBROT_DRAFT_SIZE];
+    memcpy(taken, draft, sizeof taken);
+    const kieselbrot_take_up_answer answer =
+        kieselbrot_take_up(taken, sizeof taken, sheet, sheet_len, set);
+    printf("not taken up: number %d, field %d\n", answer.number, answer.field);
+    expect(answer.number == number && answer.field == field, "what can't be taken up");
+    expect(memcmp(taken, draft, sizeof taken) == 0, "the draft after a refusal");
+}
+
+/* The same order without the payer's INN and KPP: values of its proposal are taken up. */
+static void take_up(const uint8_t *draft)
+{
+    const struct arrival no_inn = {60, 2, "0", 0}, no_kpp = {102, 2, "0", 0};
+    uint8_t open[KIESELBROT_DRAFT_SIZE], sheet[KIESELBROT_SHEET_SIZE];
+
+    memcpy(open, draft, sizeof open);
+    expect(send_message(open, &no_inn).number == KIESELBROT_OK &&
+               send_message(open, &no_kpp).number == KIESELBROT_OK,
+           "a payer without INN and KPP");
+    const kieselbrot_complete_answer proposed = propose(open, sheet, date);
+    expect(proposed.number == KIESELBROT_OK && proposed.count == 97, "a proposal");
+
+    expect_taken_up(open, sheet, proposed, 0, 97);
+    expect_taken_up(open, sheet, proposed, bit(101), 1);
+    expect_taken_up(open, sheet, proposed, bit(106), 9);
+    expect_taken_up(open, sheet, proposed, bit(106) | bit(108) | bit(109), 3);
+    expect_taken_up(open, sheet, proposed, proposed.set, 1);
+
+    /* 61 has no list of fillings, 60 is given, bit 15 is no slot's; the lowest is named */
+    expect_not_taken_up(open, sheet, sizeof sheet, bit(101) | bit(61), KIESELBROT_NOT_TAKEN_UP,
+                        61);
+    expect_not_taken_up(open, sheet, sizeof sheet, bit(101) | bit(60) | bit(61),
+                        KIESELBROT_NOT_TAKEN_UP, 60);
+    expect_not_taken_up(open, sheet, sizeof sheet, bit(101) | 0x8000, KIESELBROT_NOT_TAKEN_UP, 0);
+    expect_not_taken_up(open, sheet, sizeof sheet - 1, bit(101), KIESELBROT_OUTPUT, 0);
 }
 
 /* The same order without the payer's INN and KPP, of this date and dated back to the year
@@ -478,6 +557,7 @@ int main(void)
     printf("class %c\n", checked.class_);
     expect(checked.number == KIESELBROT_OK && checked.class_ == 'A', "the completed sheet");
     date_back(draft);
+    take_up(draft);
     ask_charges();
     ask_parts();
     ask_shares();

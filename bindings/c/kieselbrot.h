@@ -1,6 +1,6 @@
 /* Budget payment orders under 107n: field messages, the draft, the rules,
- * completion, the bank's charge, part of a year, the register of an order, and which
- * payments leave first.
+ * completion, taking up part of what it proposes, the bank's charge, part of a year, the
+ * register of an order, and which payments leave first.
  *
  * The functions are proved: each one's answer, and every buffer that it is lent,
  * equals a definition, for all inputs. They are total: buffers of any length may
@@ -133,7 +133,9 @@ enum {
     KIESELBROT_DISCREPANCY = 17,  /* for pool, the register's total is not the order's amount */
     KIESELBROT_QUEUE = 18,        /* for leave, a balance, priority or amount out of range, over 64
                                      payments, or lists of different lengths */
-    KIESELBROT_EQUAL_ARRIVALS = 19 /* for leave, two equal arrival numbers */
+    KIESELBROT_EQUAL_ARRIVALS = 19, /* for leave, two equal arrival numbers */
+    KIESELBROT_NOT_TAKEN_UP = 20    /* for take_up, a slot of the set that can't take up its
+                                       value */
 };
 
 /* A record of three dates, in any relation to each other. They say which statuses the
@@ -199,6 +201,13 @@ typedef struct {
 
 /* The same: completion is quick. */
 typedef kieselbrot_complete_answer kieselbrot_quick_answer;
+
+/* The answer of taking up part of a proposal. */
+typedef struct {
+    uint8_t number; /* 0, 1, 7 or 20 */
+    uint8_t field;  /* with 20: the field of the lowest slot of the set that can't take up its
+                     * value, or 0 for bit 15, which is no slot's */
+} kieselbrot_take_up_answer;
 
 /* The answer of a charge. */
 typedef struct {
@@ -285,6 +294,22 @@ static inline kieselbrot_quick_answer kieselbrot_quick(const uint8_t *draft, siz
 {
     return kieselbrot_complete(draft, draft_len, sheet, sheet_len, date, record);
 }
+
+/* Takes up part of a proposal: for each slot of the set, bit i for slot i, posts the text
+ * that the sheet has there to the draft, with the revision after its slot's. The sheet need
+ * not be one that completion wrote; its texts outside the set are not taken.
+ *
+ * Refused in this order: 1 for a malformed draft, or a malformed sheet of 390 bytes; 7 for a
+ * sheet of another size; 20 with the field of the lowest slot of the set that can't take up its value: the
+ * bit is no slot's (15), its field has no list of fillings (14, 15, 17, 61, 103), it is not
+ * blank in the draft, the sheet is blank there, or its revision is 4294967295, the greatest.
+ * A refusal takes up none of the values.
+ *
+ * If completing the draft at a date and record gave this sheet, and the set is a part of the
+ * returned one, completing it again at the same date and record gives the very same sheet, a
+ * count no larger, and the returned set without the slots taken up. */
+kieselbrot_take_up_answer kieselbrot_take_up(uint8_t *draft, size_t draft_len,
+                                             const uint8_t *sheet, size_t sheet_len, uint16_t set);
 
 /* The bank's charge for an amount: amount times rate over 10,000, halves upward to
  * the whole kopeck, raised to the least, then lowered to the greatest. The amount is

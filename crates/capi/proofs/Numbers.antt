@@ -34,6 +34,8 @@ use Rattle.orders.specs.Whole.{Completes}
 use Rattle.orders.specs.Skipping.{skippedOf, withSkipped, quickening, quickAnswer, Quickens}
 use Rattle.orders.specs.declared.quick.Quickened.{Quickened}
 use Rattle.drafts.specs.Draft.{draftSheet}
+use Rattle.orders.specs.TakeUp.{takeTests, taking, takeAnswer, TakesUp}
+use Rattle.orders.specs.declared.take_up.TakenUp.{TakenUp}
 use Rattle.orders.specs.Pretest.{pretestAnswer, pretestTests, pretesting, Pretests}
 use Rattle.orders.specs.declared.pretest.Pretested.{Pretested}
 use Rattle.amounts.specs.Charge.{chargeTests, charging, chargeAnswer, Charges}
@@ -53,13 +55,14 @@ use Rattle.orders.specs.declared.complete.Completed.the-variants.{Filled, Impos
 use Rattle.sheets.specs.declared.sheet.Field.{Field}
 use Rattle.rules.specs.declared.rules.RuleNumber.{RuleNumber}
 use Rattle.texts.specs.declared.answers.Refusal.{Refusal}
-use Rattle.capi.specs.Numbers.{numbered, numberAnswer, checkNumbers, checkOf, readNumbers, readOf, writeNumbers, writeOf, postNumbers, wordOf, postOf, completeNumbers, completeOf, pretestNumbers, pretestOf, chargeNumbers, chargeOf, partNumbers, partOf, poolNumbers, poolOf, leaveNumbers, leaveOf}
-use Rattle.capi.specs.Promises.{CheckReturns, ReadReturns, WriteReturns, FreshReturns, PostReturns, CopyReturns, CompleteReturns, PretestReturns, ChargeReturns, PartReturns, SharesReturns, PoolReturns, LeaveReturns}
+use Rattle.capi.specs.Numbers.{numbered, numberAnswer, checkNumbers, checkOf, readNumbers, readOf, writeNumbers, writeOf, postNumbers, wordOf, postOf, completeNumbers, completeOf, takeNumbers, takeOf, pretestNumbers, pretestOf, chargeNumbers, chargeOf, partNumbers, partOf, poolNumbers, poolOf, leaveNumbers, leaveOf}
+use Rattle.capi.specs.Promises.{CheckReturns, ReadReturns, WriteReturns, FreshReturns, PostReturns, CopyReturns, CompleteReturns, TakeUpReturns, PretestReturns, ChargeReturns, PartReturns, SharesReturns, PoolReturns, LeaveReturns}
 use Rattle.capi.specs.declared.Check.{Check}
 use Rattle.capi.specs.declared.Read.{Read}
 use Rattle.capi.specs.declared.Write.{Write}
 use Rattle.capi.specs.declared.Post.{Post}
 use Rattle.capi.specs.declared.Complete.{Complete}
+use Rattle.capi.specs.declared.TakeUp.{TakeUp}
 use Rattle.capi.specs.declared.Pretest.{Pretest}
 use Rattle.capi.specs.declared.Charge.{Charge}
 use Rattle.capi.specs.declared.Part.{Part}
@@ -121,6 +124,10 @@ class-back O = refl
 check-back : (D : Dates) (s : List ℕ) → Back checkNumbers checkOf (checked D s)
 unfolding checked checkTests checkNumbers checkOf numbered
 check-back D s = tested (Back checkNumbers checkOf) (checkTests D s) _ (class-back (classOf s)) (search depth 12)
+
+take-back : (D : Dates) (d t : List ℕ) (set : ℕ) → Back takeNumbers takeOf (taking D d t set)
+unfolding taking takeTests takeNumbers takeOf numbered
+take-back D d t set = tested (Back takeNumbers takeOf) (takeTests D d t set) _ refl (search depth 12)
 
 complete-back : (D : Dates) (d b : List ℕ) → Back completeNumbers completeOf (quickening D d b)
 unfolding quickening withSkipped completing completeTests sheetTests completeNumbers completeOf numbered
@@ -212,6 +219,10 @@ module _ (d m : List ℕ) (v : Posted) (x : List ℕ) (p : Posts d m v x) (k : P
 module _ (d s : List ℕ) (v : Copied) (x : List ℕ) (p : Copies d s v x) (k : Copied) (e : v ≡ k) (r : ℕ) (q : r ≡ numberOf (copyAnswer k)) where
   pub copied-is : CopyReturns d s r x
   copied-is = record { numbers = cc; answer = cc (copy-back d s); sheet = p .sheet }
+
+module _ (d t : List ℕ) (set : ℕ) (v : TakenUp) (x : List ℕ) (p : (D : Dates) → TakesUp D d t set v x) (k : TakenUp) (e : v ≡ k) (r : TakeUp) (q : r ≡ takeNumbers (takeAnswer k)) where
+  pub taken-is : (D : Dates) → TakeUpReturns D d t set r x
+  taken-is D = record { numbers = cc (p D .answer); answer = cc (p D .answer, take-back D d t set); draft = p D .draft }
 
 abbrev noComplete : ℕ → Complete
 noComplete n = record { number = n; field = 0; rule = 0; set = 0; ones = 0; count = 0; skipped = 0 }

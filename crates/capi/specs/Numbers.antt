@@ -18,6 +18,7 @@ use Rattle.capi.specs.declared.Read.{Read}
 use Rattle.capi.specs.declared.Write.{Write}
 use Rattle.capi.specs.declared.Post.{Post}
 use Rattle.capi.specs.declared.Complete.{Complete}
+use Rattle.capi.specs.declared.TakeUp.{TakeUp}
 use Rattle.capi.specs.declared.Pretest.{Pretest}
 use Rattle.capi.specs.declared.Charge.{Charge}
 use Rattle.capi.specs.declared.Part.{Part}
@@ -92,6 +93,14 @@ completeOf r =
     numbered (r .number)
     (r .count ∷ r .set ∷ r .ones ∷ r .skipped ∷ [])
     (cond (eqb (r .number) 8) (r .field ∷ r .rule ∷ []) (cond (eqb (r .number) 10) (r .count ∷ r .skipped ∷ []) []))
+
+-- number 20 has the field beside it, another answer nothing (R-9)
+unfoldable pub takeNumbers : Answer → TakeUp
+takeNumbers (success vs) = record { number = 0; field = 0 }
+takeNumbers (refusal n vs) = record { number = n; field = getD vs 0 0 }
+
+unfoldable pub takeOf : TakeUp → Answer
+takeOf r = numbered (r .number) [] (cond (eqb (r .number) 20) (r .field ∷ []) [])
 
 -- the field and the rule that are named, with success and with 8
 unfoldable pub pretestNumbers : Answer → Pretest

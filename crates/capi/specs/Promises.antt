@@ -13,18 +13,20 @@ use Rattle.drafts.specs.Message.{messageText, readable, readingOf, writingOf, w
 use Rattle.drafts.specs.Draft.{beginningOf, begunFrom, postingOf, postedTo, copyingOf, copiedTo}
 use Rattle.orders.specs.Complete.{completed}
 use Rattle.orders.specs.Skipping.{quickening}
+use Rattle.orders.specs.TakeUp.{taking, takenInto}
 use Rattle.orders.specs.Pretest.{pretesting}
 use Rattle.amounts.specs.Charge.{charging}
 use Rattle.amounts.specs.Part.{parting}
 use Rattle.amounts.specs.Shares.{sharing, sharedTo}
 use Rattle.registers.specs.Pool.{pooling, pooledTo}
 use Rattle.payments.specs.Leave.{leaving, leftIn}
-use Rattle.capi.specs.Numbers.{numberAnswer, checkNumbers, checkOf, readNumbers, readOf, writeNumbers, writeOf, postNumbers, postOf, completeNumbers, completeOf, pretestNumbers, pretestOf, chargeNumbers, chargeOf, partNumbers, partOf, poolNumbers, poolOf, leaveNumbers, leaveOf}
+use Rattle.capi.specs.Numbers.{numberAnswer, checkNumbers, checkOf, readNumbers, readOf, writeNumbers, writeOf, postNumbers, postOf, completeNumbers, completeOf, takeNumbers, takeOf, pretestNumbers, pretestOf, chargeNumbers, chargeOf, partNumbers, partOf, poolNumbers, poolOf, leaveNumbers, leaveOf}
 use Rattle.capi.specs.declared.Check.{Check}
 use Rattle.capi.specs.declared.Read.{Read}
 use Rattle.capi.specs.declared.Write.{Write}
 use Rattle.capi.specs.declared.Post.{Post}
 use Rattle.capi.specs.declared.Complete.{Complete}
+use Rattle.capi.specs.declared.TakeUp.{TakeUp}
 use Rattle.capi.specs.declared.Pretest.{Pretest}
 use Rattle.capi.specs.declared.Charge.{Charge}
 use Rattle.capi.specs.declared.Part.{Part}
@@ -73,6 +75,12 @@ pub record CompleteReturns (D : Dates) (d b : List ℕ) (r : Complete) (e : List
   pub numbers : r ≡ completeNumbers (quickening D d b)
   pub answer : completeOf r ≡ quickening D d b
   pub sheet : e ≡ completed D d b
+
+-- taking up the values that the sheet t has for the slots of a set, into the draft d, returned r and left e
+pub record TakeUpReturns (D : Dates) (d t : List ℕ) (set : ℕ) (r : TakeUp) (e : List ℕ) : Type 0 where
+  pub numbers : r ≡ takeNumbers (taking D d t set)
+  pub answer : takeOf r ≡ taking D d t set
+  pub draft : e ≡ takenInto D d t set
 
 -- testing the draft d ahead of completion returned r
 pub record PretestReturns (D : Dates) (d : List ℕ) (r : Pretest) : Type 0 where

@@ -1,5 +1,5 @@
 // The library for C and for what links like C. Each function forwards to a proved one, and gives document 01's numbers.
-ghost use Rattle.capi.specs.Promises.{CheckReturns, ReadReturns, WriteReturns, FreshReturns, PostReturns, CopyReturns, CompleteReturns, PretestReturns, ChargeReturns, PartReturns, SharesReturns, PoolReturns, LeaveReturns};
+ghost use Rattle.capi.specs.Promises.{CheckReturns, ReadReturns, WriteReturns, FreshReturns, PostReturns, CopyReturns, CompleteReturns, TakeUpReturns, PretestReturns, ChargeReturns, PartReturns, SharesReturns, PoolReturns, LeaveReturns};
 ghost use mathlib.Core.Path.{_≡_};
 ghost use Rattle.sheets.specs.declared.dates.Dates.{Dates};
 ghost use Rattle.capi.specs.Numbers.{datesOf};
@@ -18,6 +18,7 @@ use drafts::message::Written;
 use drafts::revision::Revision;
 use orders::complete::Completed;
 use orders::pretest::Pretested;
+use orders::take_up::TakenUp;
 use payments::leave::Leaving;
 use registers::pool::Pooled;
 use rules::check::Verdict;
@@ -64,6 +65,12 @@ pub struct Complete {
     pub ones: u32,
     pub count: usize,
     pub skipped: usize,
+}
+
+#[repr(C)]
+pub struct TakeUp {
+    pub number: u8,
+    pub field: u8,
 }
 
 #[repr(C)]
@@ -309,6 +316,27 @@ pub extern "C" fn kieselbrot_complete(
             ones: 0,
             count: 0,
             skipped: 0,
+        },
+    }
+}
+
+#[no_mangle]
+pub extern "C" fn kieselbrot_take_up(draft: &mut [u8], sheet: &[u8], set: u16) -> TakeUp
+    ensures { λ r. ⌜ ((D : Dates) → TakeUpReturns D (now (draft .entry)) (now (sheet .entry)) set r (now (draft .exit))) ⌝ }
+{
+    let v = orders::take_up::take_up(draft, sheet, set);
+    match v {
+        TakenUp::Made => TakeUp {
+            number: 0,
+            field: 0,
+        },
+        TakenUp::Unfit(f) => TakeUp {
+            number: 20,
+            field: f.0,
+        },
+        TakenUp::Refused(n) => TakeUp {
+            number: n.0,
+            field: 0,
         },
     }
 }

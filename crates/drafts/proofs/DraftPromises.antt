@@ -97,7 +97,7 @@ fresh-made d e z p =
 
 -- ---- post
 
-posted-more : (m d : List ℕ) (ms : List (List ℕ)) → postedFrom d (ms ++ (m ∷ [])) ≡ postedTo (postedFrom d ms) m
+pub posted-more : (m d : List ℕ) (ms : List (List ℕ)) → postedFrom d (ms ++ (m ∷ [])) ≡ postedTo (postedFrom d ms) m
 posted-more m d [] = refl
 posted-more m d (l ∷ ms) = posted-more m (postedTo d l) ms
 

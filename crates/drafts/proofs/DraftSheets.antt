@@ -49,6 +49,11 @@ module _ (d : List ℕ) (size : length d ≡ draftSize) where
   unfolding draftSheet
   length-sheet = length-cells slotCount (omega arith)
 
+-- by cells, for what stands in a slot
+pub sheet-cell : (d : List ℕ) → length d ≡ draftSize → (i : ℕ) → i < slotCount → cellOf (draftSheet d) i ≡ slotCell (slotIn d i)
+unfolding draftSheet
+sheet-cell d z i l = cell-at d z slotCount i l (omega arith)
+
 pub sheet-made : (d : List ℕ) → draftFormed d ≡ true → (wellFormed (draftSheet d) ≡ true) × ((i : ℕ) → i < slotCount → textOf (draftSheet d) i ≡ slotText (slotIn d i))
 unfolding draftSheet slotFormed slotOk every textOf slotText
 sheet-made d w =

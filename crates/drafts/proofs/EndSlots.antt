@@ -3,7 +3,7 @@
 use mathlib.Core.Path.{_≡_, refl, sym, ap, _∙_}
 use mathlib.Core.Bool.{Bool, true, false, cond, and-false}
 use mathlib.Core.List.{List, [], _∷_, _++_, List·Memᴰ, List·Memᴰ·head, List·Memᴰ·tail}
-use Prim.Native.Nat.{ℕ, zero, suc, _+_, _*_, _<_, _≤_, max, zero-le}
+use Prim.Native.Nat.{ℕ, zero, suc, _+_, _*_, _^_, _<_, _≤_, max, zero-le}
 use native.Mathlib.Nat.{lt-of-le-of-lt}
 use native.Mathlib.Decide.{decLt, ℕ-discrete}
 use native.Mathlib.Omega.{arith}
@@ -16,15 +16,15 @@ use Rattle.texts.proofs.Bools.{cases, both}
 use Rattle.texts.specs.Numbers.{Bytes}
 use Rattle.sheets.specs.Sheet.{slotCount, slotOf, cellText, cellOk}
 use Rattle.texts.specs.Answers.{answerBy, bufferBy}
-use Rattle.drafts.specs.Message.{messageField, readTests, readable}
-use Rattle.drafts.specs.Draft.{slotSize, draftSize, slotsFormed, slotIn, slotCell, slotText, slotFormed, rankOf, slotWith, draftFormed, freshDraft, comparisonOf, word, draftBy, postTests, postingOf, stored, postedTo}
+use Rattle.drafts.specs.Message.{IsMessage, messageField, readTests, readable, readingOf}
+use Rattle.drafts.specs.Draft.{slotSize, draftSize, slotsFormed, slotIn, slotRevision, slotBytes, slotCell, slotText, slotFormed, rankOf, slotWith, draftFormed, freshDraft, comparisonOf, word, draftBy, postTests, postingOf, stored, postedTo}
 use Rattle.drafts.specs.History.{postedFrom, postedAll, names, rankIn, highest, firstOf, emptySlot, endSlot, Ends, none, won, AllBytes}
 use Rattle.drafts.specs.Working.Steps.{slotRank}
 use Rattle.drafts.specs.declared.revision.Comparison.{Comparison}
-use Rattle.texts.proofs.Refusals.{fails, more}
-use Rattle.drafts.proofs.Messages.{readable-means, slotted}
+use Rattle.texts.proofs.Refusals.{succeeded, fails, more}
+use Rattle.drafts.proofs.Messages.{Readable, readable-means, reading-is, message-is, slotted}
 use Rattle.drafts.proofs.Ranks.{clashTest, rank-above, length-with, rank-with, with-formed, empty-rank, rank-draft}
-use Rattle.drafts.proofs.Slots.{at-slot, length-slot-in, length-put-slot, slot-same, slot-other, Formed, formed-means, formed-by}
+use Rattle.drafts.proofs.Slots.{slot-formed, at-slot, length-slot-in, length-put-slot, slot-same, slot-other, Formed, formed-means, formed-by}
 
 -- ---- the rank of a message in a slot
 
@@ -97,6 +97,36 @@ module _ (d m : List ℕ) (f : Formed d) where
     slot = λ i l. rw (step .1 i) (cases (higher d m i) (λ t. rw t (with-formed m (higher-named i t .0) b)) (λ t. rw t (f .slot i l)));
   }
 
+reads : (m : List ℕ) → Readable m → readable m ≡ true
+unfolding readable readingOf
+reads m R = succeeded _ _ (readTests m) (sym (reading-is m R)) .0
+
+names-own : (m : List ℕ) (k : ℕ) → readable m ≡ true → own m ≡ k → names k m ≡ true
+unfolding names
+names-own m k z e = rw (z, e, eq-eqb k k refl)
+
+-- a message of a revision above its slot's: it is stored there, and every other slot is as it was
+pub one-posted : (d m : List ℕ) (f v : ℕ) (t : List ℕ) → Formed d → IsMessage m f v t → v < 2 ^ 32 → slotRevision (slotIn d (slotOf f)) < v
+    → Formed (postedTo d m) × ((i : ℕ) → slotIn (postedTo d m) i ≡ cond (eqb i (slotOf f)) (slotBytes v t) (slotIn d i))
+unfolding slotRank rankOf slotWith
+one-posted d m f v t F M h a =
+    let (R, ef, ev, et) = message-is m f v t M in
+    let z = reads m R in
+    let n : names (slotOf f) m ≡ true = names-own m (slotOf f) z (ap slotOf ef) in
+    let k : rankIn (slotOf f) m ≡ v = named (slotOf f) m n .2 ∙ ev in
+    let each : (i : ℕ) → slotIn (postedTo d m) i ≡ cond (eqb i (slotOf f)) (slotBytes v t) (slotIn d i) = λ i.
+    step d m F .1 i
+    ∙ elim (ℕ-discrete i (slotOf f)) [
+      | yes e ↦ rw (e, k, eq-eqb (slotOf f) (slotOf f) refl, lt-ltb (slotRank (slotIn d (slotOf f))) v a, ev, et)
+      | no q ↦ rw (rank-other i m (λ e. q (e ∙ ap slotOf ef)), le-ltb (slotRank (slotIn d i)) 0 (omega arith), ne-eqb i (slotOf f) q)
+    ] in (
+      record {
+        sized = step d m F .0;
+        slot = λ i l. rw (each i) (cases (eqb i (slotOf f)) (λ e. rw e (slot-formed v t h (M .given) (omega (arith, M .most)))) (λ e. rw e (F .slot i l)));
+      },
+      each,
+    )
+
 -- ---- the list
 
 -- by whether the slot's rank r is below that of the first message v, b, and below the highest of the others, t
@@ -116,7 +146,7 @@ module _ (r b t : ℕ) (v s : List ℕ) (F : ℕ → List ℕ) where
       ]
 
 -- a list of postings, from any well-formed draft
-posted-list : (d : List ℕ) (ms : List (List ℕ)) → Formed d → AllBytes ms
+pub posted-list : (d : List ℕ) (ms : List (List ℕ)) → Formed d → AllBytes ms
     → Formed (postedFrom d ms) × ((i : ℕ) → slotIn (postedFrom d ms) i ≡ cond (ltb (slotRank (slotIn d i)) (highest i ms)) (slotWith (firstOf i (highest i ms) ms)) (slotIn d i))
 posted-list d [] f b = (f, λ i. rw (le-ltb (slotRank (slotIn d i)) 0 (omega arith)))
 posted-list d (m ∷ ms) f b =
@@ -198,7 +228,7 @@ top-at i (m ∷ ms) h =
           record { before = []; after = ms; split = rw (e, n); rank = rw (e, n); lower = omega arith; later = omega arith }
     ]
 
-bound : (i : ℕ) {a : List ℕ} {ms : List (List ℕ)} → List·Memᴰ a ms → rankIn i a ≤ highest i ms
+pub bound : (i : ℕ) {a : List ℕ} {ms : List (List ℕ)} → List·Memᴰ a ms → rankIn i a ≤ highest i ms
 bound i (List·Memᴰ·head e) = omega (arith, ap (rankIn i) e)
 bound i (List·Memᴰ·tail m) = omega (arith, bound i m)
 

@@ -105,14 +105,14 @@ writable f r t b e =
       room = ltb-false _ _ (p .1 .1 .1 .0);
     }
 
-written-by : (f r : ℕ) (t b : List ℕ) → Writable f r t b → passes (writeTests f r t b) ≡ true
+pub written-by : (f r : ℕ) (t b : List ℕ) → Writable f r t b → passes (writeTests f r t b) ≡ true
 unfolding writeTests
 written-by f r t b W = simp (le-ltb _ _ (W .short), ne-eqb _ _ (listed-slot f (W .listed)), ne-eqb _ _ (W .given), le-ltb _ _ (W .room))
 
 -- ---- a written message
 
 -- it is one of its field, its revision and its text
-message-of : (f r : ℕ) (t b : List ℕ) → r < 2 ^ 32 → Writable f r t b → IsMessage (messageOf f r t) f r t
+pub message-of : (f r : ℕ) (t b : List ℕ) → r < 2 ^ 32 → Writable f r t b → IsMessage (messageOf f r t) f r t
 unfolding messageOf headBytes
 message-of f r t b h W =
     record {

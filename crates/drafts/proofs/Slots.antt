@@ -40,7 +40,7 @@ unfolding every are
 every-zeros zero = refl
 every-zeros (suc n) = every-zeros n
 
-cell-ok : (t : List ℕ) → length t ≤ textMax → cellOk (cell t) ≡ true
+pub cell-ok : (t : List ℕ) → length t ≤ textMax → cellOk (cell t) ≡ true
 unfolding cellOk cell between
 cell-ok t h =
     let e : 1 + length t ≡ suc (length t) = omega arith in
@@ -50,6 +50,11 @@ cell-ok t h =
 pub slot-formed : (r : ℕ) (t : List ℕ) → r < 2 ^ 32 → (r ≡ 0 → ⊥) → length t ≤ textMax → slotFormed (slotBytes r t) ≡ true
 unfolding slotFormed slotCell slotBytes between
 slot-formed r t h z l = rw (take-all cellSize (cell t) (omega (arith, length-cell t l)), cell-ok t l, slot-revision r t h, ne-eqb r 0 z)
+
+-- its cell is that of the text
+pub slot-cell : (r : ℕ) (t : List ℕ) → length t ≤ textMax → slotCell (slotBytes r t) ≡ cell t
+unfolding slotCell slotBytes between
+slot-cell r t l = take-all cellSize (cell t) (omega (arith, length-cell t l))
 
 -- ---- the slots of a draft
 

@@ -4,7 +4,7 @@ ghost use Prim.Native.Nat.{_*_, _≤_};
 ghost use lib.ListN.{length};
 ghost use Rattle.texts.specs.Buffers.{putAt};
 ghost use Rattle.sheets.specs.Sheet.{textMax};
-ghost use Rattle.drafts.specs.Draft.{slotSize, slotIn, slotRevision, slotCell, draftFormed, slotComparison, slotBytes};
+ghost use Rattle.drafts.specs.Draft.{slotSize, slotIn, slotRevision, slotCell, slotText, draftFormed, slotComparison, slotBytes};
 ghost use Rattle.drafts.specs.Working.Steps.{unrevised, sheetInto};
 ghost use Rattle.drafts.specs.Promises.{Freshens, Posts, Copies};
 use crate::message::REVISION_SIZE;
@@ -76,6 +76,19 @@ fn slot_revision(slot: &[u8]) -> Revision
     Revision {
         number: number_of_4(at(slot, 0), at(slot, 1), at(slot, 2), at(slot, 3)),
     }
+}
+
+// The revision that a slot of a draft holds, and its text; of no slot 0 and the blank.
+pub fn revision_in(draft: &[u8], slot: u8) -> Revision
+    ensures { λ r. ⌜ r .number ≡ slotRevision (slotIn (now (draft .entry)) slot) ⌝ }
+{
+    slot_revision(slot_in(draft, slot))
+}
+
+pub fn text_in(draft: &[u8], slot: u8) -> &[u8]
+    ensures { λ r. ⌜ now r ≡ slotText (slotIn (now (draft .entry)) slot) ⌝ }
+{
+    cell_text(slot_cell(slot_in(draft, slot)))
 }
 
 // A slot without its revision, as a sheet has it.

@@ -8,6 +8,8 @@ use libc::STDOUT_FILENO;
 use orders::complete::Completed;
 use orders::quick::quick;
 use orders::stream::gather;
+use orders::take_up::TakenUp;
+use orders::take_up::take_up;
 use report::REPORT_SIZE;
 use report::report;
 use rules::check::Verdict;
@@ -85,12 +87,10 @@ fn write_skipped(n: usize, quickly: bool) {
     }
 }
 
-// Kind 'o': messages are posted to a fresh draft, and that is completed at the dates before them. Kind 'q': with the number of skipped
-// statuses, where there is a sheet or 10.
-fn run_order(input: &[u8], dates: Dates, quickly: bool) {
-    let draft = gather(input);
+// Completes a draft; with the number of skipped statuses, where that is asked for and there is a sheet or 10.
+fn run_draft(draft: &[u8], dates: Dates, quickly: bool) {
     let mut sheet = [0u8; SHEET_SIZE];
-    let answer = quick(&draft, &mut sheet, dates);
+    let answer = quick(draft, &mut sheet, dates);
     let completed = answer.completed;
     match completed {
         Completed::Filled { count, set, ones } => {
@@ -116,6 +116,32 @@ fn run_order(input: &[u8], dates: Dates, quickly: bool) {
     }
 }
 
+// Kind 'o': messages are posted to a fresh draft, and that is completed at the dates before them. Kind 'q': with the number of skipped
+// statuses.
+fn run_order(input: &[u8], dates: Dates, quickly: bool) {
+    let draft = gather(input);
+    run_draft(&draft, dates, quickly);
+}
+
+// Kind 't': messages are posted to a fresh draft, and that is completed at the dates before them; the values of the set between them are
+// taken up from the sheet, which a refusal leaves blank, and the draft is completed again.
+fn run_take_up(set: u16, input: &[u8], dates: Dates) {
+    let mut draft = gather(input);
+    let mut sheet = [0u8; SHEET_SIZE];
+    quick(&draft, &mut sheet, dates);
+    match take_up(&mut draft, &sheet, set) {
+        TakenUp::Made => {
+            io::write_all(STDOUT_FILENO, b"ok ");
+            run_draft(&draft, dates, false);
+        }
+        TakenUp::Unfit(f) => {
+            write_number(20);
+            write_item(f.0 as u64);
+        }
+        TakenUp::Refused(n) => write_number(n.0),
+    }
+}
+
 // Kind 'r': the report of an input of the program budgetorder, with all its lines.
 fn run_report(input: &[u8]) {
     let mut out = [0u8; REPORT_SIZE];
@@ -131,6 +157,11 @@ fn dates_of(bytes: &[u8]) -> Dates {
         first33: Date(number_of_4(at(bytes, 8), at(bytes, 9), at(bytes, 10), at(bytes, 11))),
         last02: Date(number_of_4(at(bytes, 12), at(bytes, 13), at(bytes, 14), at(bytes, 15))),
     }
+}
+
+// The set behind the dates, in two bytes, big-endian.
+fn set_of(bytes: &[u8]) -> u16 {
+    (number_of_2(at(bytes, 16), at(bytes, 17)) % 65536) as u16
 }
 
 fn run_case(kind: u8, bytes: &[u8]) {
@@ -149,6 +180,9 @@ fn run_case(kind: u8, bytes: &[u8]) {
     }
     if kind == b'q' {
         run_order(part(bytes, 16, bytes.len()), dates_of(bytes), true);
+    }
+    if kind == b't' {
+        run_take_up(set_of(bytes), part(bytes, 18, bytes.len()), dates_of(bytes));
     }
     if kind == b'm' {
         run_message(bytes);

@@ -8,7 +8,7 @@ use borrow.Author.Tests.{ltb-true}
 use lib.Dec.{ltb}
 use lib.ListN.{length, getD}
 use Rattle.texts.specs.Texts.{every, any, are, among, between, blank}
-use Rattle.sheets.specs.Sheet.{Sheet, slotOf, cell, cellText, cellOf, textOf, fieldIn, given}
+use Rattle.sheets.specs.Sheet.{Sheet, slotOf, cell, cellText, cellOf, textOf, fieldIn, given, sheetSize}
 use Rattle.sheets.specs.Lists.{basisCount, zeroCount}
 use Rattle.sheets.specs.Dates.{forceOf, statusCount}
 use Rattle.sheets.proofs.InForce.{count-is, count-bounds}
@@ -47,7 +47,7 @@ at-member f h e (List·Memᴰ·tail {xs = l} m) = let c : map f l ≡ map h l = 
 
 module _ (D : Dates) (s : Sheet) where
   -- two fillings
-  module _ (size : length s ≡ 390) (g h : Sheet) (wg : Filling D s g) (wh : Filling D s h) where
+  module _ (size : length s ≡ sheetSize) (g h : Sheet) (wg : Filling D s g) (wh : Filling D s h) where
     given-alike : (k : ℕ) → k < 15 → given g k ≡ given h k
     unfolding given textOf
     given-alike k l = choice-given (proper D) s k (cellOf g k) (wg .slot k l) ∙ sym (choice-given (proper D) s k (cellOf h k) (wh .slot k l))
@@ -120,7 +120,7 @@ unfolding noneKeeps
 none-alike D f fs n true e h = rw e
 none-alike D f fs n false e h = rw (e, none-all D fs n h)
 
-module _ (D : Dates) (s : Sheet) (size : length s ≡ 390) where
+module _ (D : Dates) (s : Sheet) (size : length s ≡ sheetSize) where
   unfoldable pub earliest : Sheet
   earliest = pickedOf D (baseOf s) zeros
 

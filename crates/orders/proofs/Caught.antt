@@ -9,7 +9,7 @@ use lib.ListN.{length, getD}
 use Rattle.texts.specs.Texts.{every, any, are, among, blank}
 use Rattle.texts.proofs.Bools.{and2, cases}
 use Rattle.texts.proofs.Every.{every-member, every-within}
-use Rattle.sheets.specs.Sheet.{Sheet, slotOf, cellOf, textOf, given, _⟨_⟩}
+use Rattle.sheets.specs.Sheet.{Sheet, slotOf, cellOf, textOf, given, _⟨_⟩, sheetSize}
 use Rattle.sheets.specs.Forms.{inn10, kpp}
 use Rattle.sheets.specs.Dates.{statusCount}
 use Rattle.sheets.specs.declared.dates.Dates.{Dates}
@@ -45,7 +45,7 @@ not-blank : (p : List ℕ → Bool) → p [] ≡ false → (t : List ℕ) → p 
 not-blank p e [] h = absurd (false≢true (sym e ∙ h))
 not-blank p e (x ∷ t) h = ap not (ne-eqb (suc (length t)) 0 (λ z. omega arith))
 
-module _ (D : Dates) (s : Sheet) (size : length s ≡ 390) where
+module _ (D : Dates) (s : Sheet) (size : length s ≡ sheetSize) where
   pub alike-by : (f : Sheet) → Filling D s f → not (every (keeps D f) quickRules) ≡ fails D s (cellOf f 6)
   alike-by f w =
       let (a, h, e) = at-of (w .slot 6 (omega arith)) in

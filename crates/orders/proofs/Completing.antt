@@ -36,7 +36,9 @@ use Rattle.orders.specs.declared.search.Pick.{Pick}
 use Rattle.orders.specs.declared.complete.Completed.{Completed}
 use Rattle.orders.specs.declared.complete.Completed.the-variants.{Filled, Impossible, Broken, Refused}
 use Rattle.orders.proofs.Keeping.{base-budget, base-basic, base-broken, base-length, first-is, picked-length}
-use Rattle.orders.proofs.Whole.{completes-by, basic-numbered, length-draftSheet, answer-is, sheet-is, lookAnswer, lookSheet}
+use Rattle.orders.proofs.TakingUp.{completes-by}
+use Rattle.orders.proofs.Whole.{basic-numbered, length-draftSheet, answer-is, sheet-is, lookAnswer, lookSheet}
+use Rattle.sheets.specs.Sheet.{sheetSize}
 
 -- the fields of rules 1 to 3 are the same of every sheet
 basic-field : (D : Dates) (s t : List ℕ) (n : ℕ) → firstBroken D s basic ≡ n → fieldOf rules n s ≡ fieldOf rules n t
@@ -54,14 +56,14 @@ basic-field D s t n e = rw (← e) (go (keeps D s 1) (keeps D s 2) (keeps D s 3)
 -- the well-formed draft d has the sheet s, of which the base is u; the facts x are read of that, and g is the first of rules 1 to 3 broken
 pub record Prepared (D : Dates) (d s u : List ℕ) (x : Facts) (g : RuleNumber) : Type 0 where
   pub formed : draftFormed d ≡ true
-  pub size : length (draftSheet d) ≡ 390
+  pub size : length (draftSheet d) ≡ sheetSize
   pub sheet : s ≡ draftSheet d
   pub base : u ≡ baseOf (draftSheet d)
   pub read : Read D x (baseOf (draftSheet d))
   pub first : firstBroken D (draftSheet d) basic ≡ g .0
 
-pub prepared : (D : Dates) (d : List ℕ) (w : Bool) → w ≡ draftFormed d → not w ≡ false → (o s : List ℕ) → length o ≡ 390 → s ≡ sheetInto d o → (u : List ℕ) (x : Facts) (g : RuleNumber)
-    → u ≡ baseOf s → (length u ≡ 390 → Read D x u) → ((D : Dates) (t : List ℕ) → Read D x t → g .0 ≡ firstBroken D t basic) → Prepared D d s u x g
+pub prepared : (D : Dates) (d : List ℕ) (w : Bool) → w ≡ draftFormed d → not w ≡ false → (o s : List ℕ) → length o ≡ sheetSize → s ≡ sheetInto d o → (u : List ℕ) (x : Facts) (g : RuleNumber)
+    → u ≡ baseOf s → (length u ≡ sheetSize → Read D x u) → ((D : Dates) (t : List ℕ) → Read D x t → g .0 ≡ firstBroken D t basic) → Prepared D d s u x g
 prepared D d w hw h o s lo hs u x g hu hx hg =
     let formed : draftFormed d ≡ true = sym hw ∙ not-false w h in
     let size = length-draftSheet d formed in
@@ -101,7 +103,7 @@ pub complete-out : (k : ℕ) (D : Dates) (d b : List ℕ) (r : Completed) (t : L
 unfolding completing completed
 complete-out k D d b r t = way-out _ _ _ _ t _ k (completeTests D d b) (completes-by D d b r t)
 
-module _ {D : Dates} {d s u : List ℕ} {x : Facts} {g : RuleNumber} (b : List ℕ) (E : (length b ≡ 390) × (datesFit D ≡ true)) (B : Prepared D d s u x g) where
+module _ {D : Dates} {d s u : List ℕ} {x : Facts} {g : RuleNumber} (b : List ℕ) (E : (length b ≡ sheetSize) × (datesFit D ≡ true)) (B : Prepared D d s u x g) where
   pub broken-8 : (f : Field) → (g .0 ≡ 0 → ⊥) → f .0 ≡ fieldOf rules (g .0) u → Completes D d b (Broken f g) b
   unfolding completeAnswer completeTests sheetTests
   broken-8 f y j = complete-out 3 D d b (Broken f g) b (rw (B .formed)) (rw (E .0)) (rw (E .1)) (rw (B .first, ne-eqb (g .0) 0 y)) (beside-8 B D f j) refl
@@ -110,7 +112,7 @@ module _ {D : Dates} {d s u : List ℕ} {x : Facts} {g : RuleNumber} (b : List �
   unfolding completeAnswer completeTests sheetTests
   refused-9 y r hr t = complete-out 4 D d b (Refused (record { 0 = 9 })) b (rw (B .formed)) (rw (E .0)) (rw (E .1)) (rw (B .first, y)) (rw (← (class-is B r hr)) t) refl refl
 
-module _ {D : Dates} {d s u : List ℕ} {x : Facts} {g : RuleNumber} (b : List ℕ) (E : (length b ≡ 390) × (datesFit D ≡ true)) (B : Prepared D d s u x g) (y : g .0 ≡ 0) (r : Bool) (hr : (D : Dates) (t : List ℕ) → Read D x t → r ≡ budget t) (t : not r ≡ false) where
+module _ {D : Dates} {d s u : List ℕ} {x : Facts} {g : RuleNumber} (b : List ℕ) (E : (length b ≡ sheetSize) × (datesFit D ≡ true)) (B : Prepared D d s u x g) (y : g .0 ≡ 0) (r : Bool) (hr : (D : Dates) (t : List ℕ) → Read D x t → r ≡ budget t) (t : not r ≡ false) where
   pays : budget (draftSheet d) ≡ true
   pays = sym (class-is B r hr) ∙ not-false r t
 
@@ -135,7 +137,7 @@ module _ {D : Dates} {d s u : List ℕ} {x : Facts} {g : RuleNumber} (b : List �
   unfolding completeAnswer pickedOf
   filled-first n set q p v f hset lq pq hv hf =
       let c1 : v ≡ pickedOf D (baseOf (draftSheet d)) q = hv ∙ (λ i. pickedOf D (B .base i) (pq i .status ∷ pq i .basis ∷ pq i .document ∷ pq i .day ∷ [])) in
-      let c2 : length v ≡ 390 = ap length c1 ∙ picked-length D (draftSheet d) (B .size) q in
+      let c2 : length v ≡ sheetSize = ap length c1 ∙ picked-length D (draftSheet d) (B .size) q in
       let c3 : f ≡ v = hf ∙ put-fits b 0 v (omega arith) ∙ put-whole b v (omega arith) in
       let hs : set ≡ setOf D (draftSheet d) = hset D ∙ ap (setOf D) (B .sheet) in
       let l = looks (found n q) lq (found n v) (ap (found n) c1) in

@@ -11,7 +11,7 @@ use lib.ListN.{length, getD}
 use Rattle.texts.specs.Texts.{blank, every, any, are, among}
 use Rattle.sheets.specs.Working.Entries.{filledAt}
 use Rattle.rules.specs.Working.Groups.{AlikeBut}
-use Rattle.sheets.specs.Sheet.{Sheet, cell, slots, slotOf, cellOf, textOf, _⟨_⟩}
+use Rattle.sheets.specs.Sheet.{Sheet, cell, slots, slotOf, cellOf, textOf, _⟨_⟩, sheetSize}
 use Rattle.sheets.specs.Lists.{basisCount, zeroCount}
 use Rattle.sheets.specs.Dates.{statusTexts, statusCount}
 use Rattle.rules.proofs.Reading.{spared, spared-class}
@@ -49,7 +49,7 @@ or-false : (a b : Bool) → (a || b) ≡ false → (a ≡ false) × (b ≡ false
 or-false true b e = absurd (false≢true (sym e))
 or-false false b e = (refl, e)
 
-pub filled-alike : (es : List Entry) (u : Sheet) → length u ≡ 390 → Fit 15 es → (length (filledWith u es) ≡ 390) × AlikeBut (slotsOf es) u (filledWith u es)
+pub filled-alike : (es : List Entry) (u : Sheet) → length u ≡ sheetSize → Fit 15 es → (length (filledWith u es) ≡ sheetSize) × AlikeBut (slotsOf es) u (filledWith u es)
 unfolding any are among
 filled-alike [] u z f = (z, λ j h. refl)
 filled-alike (e ∷ es) u z f =
@@ -61,19 +61,19 @@ filled-alike (e ∷ es) u z f =
           sym (filled-other u (e .1) (e .0) z lk lx j (λ k. eqb-false (e .0) j (q .0) (sym k))) ∙ r .1 j (q .1),
     )
 
-pub picked-alike : (D : Dates) (u : Sheet) (q : List ℕ) → length u ≡ 390 → (length (pickedOf D u q) ≡ 390) × AlikeBut varying u (pickedOf D u q)
+pub picked-alike : (D : Dates) (u : Sheet) (q : List ℕ) → length u ≡ sheetSize → (length (pickedOf D u q) ≡ sheetSize) × AlikeBut varying u (pickedOf D u q)
 unfolding pickedOf
 picked-alike D u q size = filled-alike (pickEntries D q) u size (picks-fit D q)
 
 abbrev baseCells : List ℕ → Cells
 baseCells s = fillCells (map (cellOf s) slots) zeroEntries
 
-module _ (D : Dates) (s : List ℕ) (size : length s ≡ 390) where
-  base-alike : (length (baseOf s) ≡ 390) × AlikeBut (slotsOf zeroEntries) s (baseOf s)
+module _ (D : Dates) (s : List ℕ) (size : length s ≡ sheetSize) where
+  base-alike : (length (baseOf s) ≡ sheetSize) × AlikeBut (slotsOf zeroEntries) s (baseOf s)
   unfolding baseOf
   base-alike = filled-alike zeroEntries s size zeros-fit
 
-  pub base-length : length (baseOf s) ≡ 390
+  pub base-length : length (baseOf s) ≡ sheetSize
   base-length = base-alike .0
 
   pub base-text : (k : ℕ) → among k (slotsOf zeroEntries) ≡ false → textOf (baseOf s) k ≡ textOf s k
@@ -118,5 +118,5 @@ module _ (D : Dates) (s : List ℕ) (size : length s ≡ 390) where
   unfolding of.firstFilling firstPick passesAt
   first-is = ap (look (keepsAll D) 0) fillings-are ∙ look-map (keepsAll D) (pickedOf D (baseOf s)) (picks D (baseOf s)) 0
 
-  pub picked-length : (q : List ℕ) → length (pickedOf D (baseOf s) q) ≡ 390
+  pub picked-length : (q : List ℕ) → length (pickedOf D (baseOf s) q) ≡ sheetSize
   picked-length q = picked-alike D (baseOf s) q base-length .0

@@ -6,9 +6,12 @@ pub mod Passing
 pub mod Pacing
 pub mod Ahead
 pub mod Whole
+pub mod Taking
+pub mod TakingUp
 pub mod Completing
 pub mod Skipping
 pub mod Caught
+pub mod TakeUp
 pub mod SkippedList
 pub mod Quickening
 pub mod Pretesting
@@ -16,5 +19,6 @@ pub mod Streaming
 pub mod Examples
 pub mod Counts
 pub mod SkippedStatuses
+pub mod TakenCounts
 pub mod EndToEnd
 pub mod Dated

@@ -11,7 +11,7 @@ use borrow.Author.Tests.{not-true}
 use lib.ListN.{length, getD, length-map}
 use Rattle.texts.specs.Texts.{every, any, are, among, blank}
 use Rattle.texts.proofs.Every.{every-append}
-use Rattle.sheets.specs.Sheet.{Sheet, cell, textOf}
+use Rattle.sheets.specs.Sheet.{Sheet, cell, textOf, sheetSize}
 use Rattle.sheets.specs.Lists.{basisTexts, zeroTexts, basisCount, zeroCount}
 use Rattle.sheets.specs.Dates.{statusTexts, statusCount}
 use Rattle.sheets.specs.declared.dates.Dates.{Dates}
@@ -40,8 +40,8 @@ use Rattle.orders.proofs.Keeping.{picks-fit, filled-alike}
 use Rattle.orders.proofs.Linking.{length-picks}
 use Rattle.orders.proofs.Passing.{Kept, unkept, broken-fixed, rest}
 
-module _ (D : Dates) (u : Sheet) (size : length u ≡ 390) (a : ℕ) where
-  one-fit : length (withStatus D u a) ≡ 390
+module _ (D : Dates) (u : Sheet) (size : length u ≡ sheetSize) (a : ℕ) where
+  one-fit : length (withStatus D u a) ≡ sheetSize
   one-fit = filled-alike ((6, cell (getD (statusTexts D) a [])) ∷ []) u size ((omega arith, status-sized D a), tt) .0
 
   one-alike : AlikeBut (6 ∷ []) u (withStatus D u a)

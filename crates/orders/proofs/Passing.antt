@@ -7,7 +7,7 @@ use native.Mathlib.Nat.{mul-le-mul}
 use native.Mathlib.Omega.{arith}
 use lib.ListN.{length, getD}
 use Rattle.texts.specs.Texts.{every, any, are, among, blank}
-use Rattle.sheets.specs.Sheet.{Sheet, cell, textOf}
+use Rattle.sheets.specs.Sheet.{Sheet, cell, textOf, sheetSize}
 use Rattle.sheets.specs.Working.Facts.{Read}
 use Rattle.sheets.specs.Lists.{basisTexts, zeroTexts, basisCount, zeroCount}
 use Rattle.sheets.specs.Dates.{statusTexts, statusCount}
@@ -83,7 +83,7 @@ unkept D t ns m h = go (keepsAll D t) refl
     go true e = absurd (false≢true (sym h ∙ every-within (keeps D t) order ns m e))
     go false e = refl
 
-pub broken-fixed : (D : Dates) (u : Sheet) (ns : List ℕ) → length u ≡ 390 → every (λ (n : ℕ). among n order) ns ≡ true → spare varying ns ≡ true → every (keeps D u) ns ≡ false → (q : List ℕ) → passesAt D u q ≡ false
+pub broken-fixed : (D : Dates) (u : Sheet) (ns : List ℕ) → length u ≡ sheetSize → every (λ (n : ℕ). among n order) ns ≡ true → spare varying ns ≡ true → every (keeps D u) ns ≡ false → (q : List ℕ) → passesAt D u q ≡ false
 unfolding passesAt
 broken-fixed D u ns size m a h q = unkept D (pickedOf D u q) ns m (sym (spared D varying u (pickedOf D u q) (picked-alike D u q size .1) ns a) ∙ h)
 

@@ -15,7 +15,7 @@ use Rattle.texts.proofs.Bools.{both}
 use Rattle.texts.proofs.Refusals.{no-success, none-of, succeeded, Way, way-out}
 use Rattle.rules.specs.Rules.{budget, rules, testOf, order, basic, ahead, fieldOf, keeps, firstNot, firstBroken}
 use Rattle.texts.specs.Quoted.{Text}
-use Rattle.sheets.specs.Sheet.{Sheet, cell}
+use Rattle.sheets.specs.Sheet.{Sheet, cell, sheetSize}
 use Rattle.sheets.specs.Lists.{basisTexts, zeroTexts}
 use Rattle.sheets.specs.Dates.{forceOf, datesFit}
 use Rattle.sheets.proofs.InForce.{first-in}
@@ -89,21 +89,21 @@ module _ (D : Dates) (d : List ℕ) where
   abbrev ten : List Test
   ten = (nothing (firstFilling D (draftSheet d)) refuses 10 with beside10) ∷ []
 
-  module _ (b : List ℕ) (z : length b ≡ 390) (t : datesFit D ≡ true) (n : ℕ) (vs : List ℕ) where
+  module _ (b : List ℕ) (z : length b ≡ sheetSize) (t : datesFit D ≡ true) (n : ℕ) (vs : List ℕ) where
     refuses-as : pretesting D d ≡ refusal n vs → completing D d b ≡ refusal n vs
     unfolding pretesting pretestTests completing completeTests sheetTests
     refuses-as e =
-        rw (eq-eqb (length b) 390 z, t)
+        rw (eq-eqb (length b) sheetSize z, t)
         (same-refusal (draftFormed d) basicKept (budget (draftSheet d)) beside8 (namedField D (draftSheet d) ∷ brokenByAll D (draftSheet d) ∷ []) besideFilled ten n vs e)
 
     refuses-back : (n ≡ 10 → ⊥) → completing D d b ≡ refusal n vs → pretesting D d ≡ refusal n vs
     unfolding pretesting pretestTests completing completeTests sheetTests
     refuses-back o e =
         back-refusal (draftFormed d) basicKept (budget (draftSheet d)) (nothing (firstFilling D (draftSheet d))) beside8
-        (namedField D (draftSheet d) ∷ brokenByAll D (draftSheet d) ∷ []) besideFilled beside10 n vs o (rw (eq-eqb (length b) 390 z, t) at e)
+        (namedField D (draftSheet d) ∷ brokenByAll D (draftSheet d) ∷ []) besideFilled beside10 n vs o (rw (eq-eqb (length b) sheetSize z, t) at e)
 
   module _ (f : draftFormed d ≡ true) (p : budgetPayment D (draftSheet d) ≡ true) where
-    size : length (draftSheet d) ≡ 390
+    size : length (draftSheet d) ≡ sheetSize
     size = length-draftSheet d f
 
     paid-is : pretesting D d ≡ success (namedField D (draftSheet d) ∷ brokenByAll D (draftSheet d) ∷ [])
@@ -217,7 +217,7 @@ module _ {E : Dates} {d s u : List ℕ} {x : Facts} {g : RuleNumber} (B : Prepar
   unfolding pretestAnswer pretestTests
   ahead-9 y r hr t D = pretest-out 2 D d (Refused (record { 0 = 9 })) not-named (rw (B .formed)) (rw (first-at B D, y)) (rw (← (class-is B r hr)) t) refl refl
 
-module _ {E : Dates} {d s u : List ℕ} {x : Facts} {g : RuleNumber} (B : Prepared E d s u x g) (y : g .0 ≡ 0) (r : Bool) (hr : (D : Dates) (t : List ℕ) → Read D x t → r ≡ budget t) (t : not r ≡ false) (v : List ℕ) (hv : v ≡ pickedOf E u (0 ∷ 0 ∷ 0 ∷ 0 ∷ [])) (fx : Facts) (hfx : length v ≡ 390 → Read E fx v) (m : RuleNumber) (hm : (D : Dates) (k : List ℕ) → Read D fx k → budget k ≡ true → m .0 ≡ firstBroken D k ahead) where
+module _ {E : Dates} {d s u : List ℕ} {x : Facts} {g : RuleNumber} (B : Prepared E d s u x g) (y : g .0 ≡ 0) (r : Bool) (hr : (D : Dates) (t : List ℕ) → Read D x t → r ≡ budget t) (t : not r ≡ false) (v : List ℕ) (hv : v ≡ pickedOf E u (0 ∷ 0 ∷ 0 ∷ 0 ∷ [])) (fx : Facts) (hfx : length v ≡ sheetSize → Read E fx v) (m : RuleNumber) (hm : (D : Dates) (k : List ℕ) → Read D fx k → budget k ≡ true → m .0 ≡ firstBroken D k ahead) where
   pays : budget (draftSheet d) ≡ true
   pays = sym (class-is B r hr) ∙ not-false r t
 

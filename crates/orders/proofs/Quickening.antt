@@ -9,7 +9,7 @@ use lib.ListN.{length, getD}
 use Rattle.texts.specs.Texts.{blank}
 use Rattle.texts.specs.Buffers.{putAt}
 use Rattle.texts.specs.declared.answers.Refusal.{Refusal}
-use Rattle.sheets.specs.Sheet.{textOf}
+use Rattle.sheets.specs.Sheet.{textOf, sheetSize}
 use Rattle.sheets.specs.Dates.{datesFit, statusCount}
 use Rattle.sheets.specs.declared.dates.Dates.{Dates}
 use Rattle.sheets.specs.declared.facts.Facts.{Facts}
@@ -71,7 +71,7 @@ place-cases : (p : ℕ → Bool) (w : ℕ) (l : Look (List ℕ)) (n : ℕ) (c : 
 place-cases p w (found m q) n c k e = (q, cc, cc, cc)
 place-cases p w (none m) n c k e = let z : _≡_ {A = ℕ} 0 1 = cc in absurd (omega arith)
 
-module _ {D : Dates} {d s u : List ℕ} {x : Facts} {g : RuleNumber} (b : List ℕ) (E : (length b ≡ 390) × (datesFit D ≡ true)) (B : Prepared D d s u x g) (y : g .0 ≡ 0) (r : Bool) (hr : (D : Dates) (t : List ℕ) → Read D x t → r ≡ budget t) (t : not r ≡ false) (m : Found) (hm : (D : Dates) (v : List ℕ) → Payment D x v → m ≡ foundOf D v) where
+module _ {D : Dates} {d s u : List ℕ} {x : Facts} {g : RuleNumber} (b : List ℕ) (E : (length b ≡ sheetSize) × (datesFit D ≡ true)) (B : Prepared D d s u x g) (y : g .0 ≡ 0) (r : Bool) (hr : (D : Dates) (t : List ℕ) → Read D x t → r ≡ budget t) (t : not r ≡ false) (m : Found) (hm : (D : Dates) (v : List ℕ) → Payment D x v → m ≡ foundOf D v) where
   sought : m ≡ foundBy (skips D (baseOf (draftSheet d))) (width (blank (textOf (baseOf (draftSheet d)) 6)) (statusCount D)) (firstPick D (baseOf (draftSheet d)))
   unfolding foundOf
   sought = hm D (baseOf (draftSheet d)) (payment-is b E B y r hr t)

@@ -13,7 +13,7 @@ use lib.ListN.{length, getD, take}
 use Rattle.texts.specs.Texts.{every, any, are, among, same, blank}
 use Rattle.texts.proofs.Codes.{same-true, same-self}
 use Rattle.texts.proofs.Every.{every-same}
-use Rattle.sheets.specs.Sheet.{Sheet, cell, cellText, cellOf, textOf}
+use Rattle.sheets.specs.Sheet.{Sheet, cell, cellText, cellOf, textOf, sheetSize}
 use Rattle.sheets.specs.Lists.{basisTexts, zeroTexts, basisCount, zeroCount}
 use Rattle.sheets.specs.Dates.{statusTexts, statusCount}
 use Rattle.sheets.specs.declared.dates.Dates.{Dates}
@@ -49,7 +49,7 @@ or-false : (a b : Bool) → (a || b) ≡ false → (a ≡ false) × (b ≡ false
 or-false true b e = absurd (false≢true (sym e))
 or-false false b e = (refl, e)
 
-cell-left : (es : List Entry) (u : Sheet) → length u ≡ 390 → Fit 15 es → (j : ℕ) → j < 15 → among j (slotsOf es) ≡ false → cellOf (filledWith u es) j ≡ cellOf u j
+cell-left : (es : List Entry) (u : Sheet) → length u ≡ sheetSize → Fit 15 es → (j : ℕ) → j < 15 → among j (slotsOf es) ≡ false → cellOf (filledWith u es) j ≡ cellOf u j
 unfolding any are among
 cell-left [] u z f j l h = refl
 cell-left (e ∷ es) u z f j l h =
@@ -70,10 +70,10 @@ unfolding any
 none-any p [] h = refl
 none-any p (x ∷ l) h = rw (h x (List·Memᴰ·head refl)) (none-any p l (λ y m. h y (List·Memᴰ·tail m)))
 
-at-place : (n a : ℕ) → a < n → List·Memᴰ a (places n 0)
+pub at-place : (n a : ℕ) → a < n → List·Memᴰ a (places n 0)
 at-place n a l = subst (λ (x : ℕ). List·Memᴰ x (places n 0)) (zero-add a) (below-place n 0 a l)
 
-module _ (D : Dates) (s : Sheet) (size : length s ≡ 390) where
+module _ (D : Dates) (s : Sheet) (size : length s ≡ sheetSize) where
   -- how many statuses there are
   abbrev wide : ℕ
   wide = width (blank (textOf (baseOf s) 6)) (statusCount D)
@@ -105,7 +105,7 @@ module _ (D : Dates) (s : Sheet) (size : length s ≡ 390) where
       put-same (baseOf s) (base-length D s size) 6 (omega arith) (cell (getD (statusTexts D) a [])) (status-sized D a)
       ∙ (λ i. cond (blank (base-status i)) (cell (getD (statusTexts D) a [])) (base-cell i))
 
-  one-sized : (a : ℕ) → (length (withStatus D (baseOf s) a) ≡ 390) × AlikeBut (6 ∷ []) (baseOf s) (withStatus D (baseOf s) a)
+  one-sized : (a : ℕ) → (length (withStatus D (baseOf s) a) ≡ sheetSize) × AlikeBut (6 ∷ []) (baseOf s) (withStatus D (baseOf s) a)
   one-sized a = filled-alike ((6, cell (getD (statusTexts D) a [])) ∷ []) (baseOf s) (base-length D s size) ((omega arith, status-sized D a), tt)
 
   -- a pick has the status at its first place

@@ -29,12 +29,13 @@ use Rattle.fillings.proofs.First.{found-first, found-some, none-passes, none-al
 use Rattle.fillings.proofs.Counting.{filled-set}
 use Rattle.orders.specs.Fillings.{listOf, Filling, All, firstFilling, FirstFilling, setOf, FilledSet}
 use Rattle.orders.specs.Complete.{budgetPayment, completeAnswer, nothing, counted, sheetIn, sheetTests, completeTests, completing, completed}
-use Rattle.orders.specs.Whole.{countOf, Unpaid, broken, ordinary, Whole, Completes}
+use Rattle.orders.specs.Whole.{countOf, Unpaid, broken, ordinary, Whole}
 use Rattle.orders.specs.declared.complete.Completed.{Completed}
 use Rattle.orders.specs.declared.complete.Completed.the-variants.{Filled, Impossible, Broken, Refused}
 use Rattle.orders.proofs.Lists.{proper}
+use Rattle.sheets.specs.Sheet.{sheetSize}
 
-pub length-draftSheet : (d : List ℕ) → draftFormed d ≡ true → length (draftSheet d) ≡ 390
+pub length-draftSheet : (d : List ℕ) → draftFormed d ≡ true → length (draftSheet d) ≡ sheetSize
 length-draftSheet d f = length-sheet d (formed-means d f .sized)
 
 -- postings leave a well-formed draft
@@ -49,7 +50,7 @@ abbrev pub lookSheet : List ℕ → Look (List ℕ) → List ℕ
 lookSheet b o = bufferBy ((nothing o refuses 10 with (counted o ∷ [])) ∷ []) (sheetIn b o) b
 
 -- completing a well-formed budget payment is what looking through its fillings finds
-module _ (D : Dates) (d b : List ℕ) (f : draftFormed d ≡ true) (z : length b ≡ 390) (t : datesFit D ≡ true) (p : budgetPayment D (draftSheet d) ≡ true) where
+module _ (D : Dates) (d b : List ℕ) (f : draftFormed d ≡ true) (z : length b ≡ sheetSize) (t : datesFit D ≡ true) (p : budgetPayment D (draftSheet d) ≡ true) where
   kept : (every (keeps D (draftSheet d)) basic ≡ true) × (budget (draftSheet d) ≡ true)
   unfolding budgetPayment
   kept = both (every (keeps D (draftSheet d)) basic) (budget (draftSheet d)) p
@@ -63,7 +64,7 @@ module _ (D : Dates) (d b : List ℕ) (f : draftFormed d ≡ true) (z : length b
   sheet-is = rw (f, z, t, kept-none (keeps D (draftSheet d)) basic (kept .0), kept .1)
 
 -- the promise, by what the look found
-module _ (D : Dates) (s b : List ℕ) (z : length s ≡ 390) where
+module _ (D : Dates) (s b : List ℕ) (z : length s ≡ sheetSize) where
   pub refused-by : (o : Look (List ℕ)) → firstFilling D s ≡ o → (numberOf (lookAnswer D s o) ≡ 10) ↔ ((f : List ℕ) → Filling D s f → keepsAll D f ≡ false)
   refused-by (found n t) e = (λ q. absurd (omega arith), λ h. absurd (found-some (proper D) s z (keepsAll D) n t e h))
   refused-by (none n) e = (λ q. none-passes (proper D) s z (keepsAll D) n e, λ h. refl)
@@ -85,8 +86,8 @@ unfolding every
 basic-numbered = refl
 
 -- a draft that is no budget payment
-module _ (D : Dates) (d b : List ℕ) (f : draftFormed d ≡ true) (z : length b ≡ 390) (t : datesFit D ≡ true) where
-  unpaid-by : budgetPayment D (draftSheet d) ≡ false → Unpaid D (draftSheet d) (completing D d b)
+module _ (D : Dates) (d b : List ℕ) (f : draftFormed d ≡ true) (z : length b ≡ sheetSize) (t : datesFit D ≡ true) where
+  pub unpaid-by : budgetPayment D (draftSheet d) ≡ false → Unpaid D (draftSheet d) (completing D d b)
   unfolding completing completeTests sheetTests budgetPayment
   unpaid-by p = go (every (keeps D (draftSheet d)) basic) (budget (draftSheet d)) refl refl p
     where
@@ -114,7 +115,7 @@ whole-law D ms d b L =
     }
 
 -- refusals: a test that is true, and no other, gives its number
-filled-of : (r : Completed) (n set k : ℕ) → completeAnswer r ≡ success (n ∷ set ∷ k ∷ []) → r ≡ Filled n set k
+pub filled-of : (r : Completed) (n set k : ℕ) → completeAnswer r ≡ success (n ∷ set ∷ k ∷ []) → r ≡ Filled n set k
 unfolding completeAnswer
 filled-of (Filled m t j) n set k e = cc
 filled-of (Impossible m) n set k e = absurd (no-success 10 _ _ e)
@@ -125,38 +126,25 @@ module _ (D : Dates) (d b : List ℕ) where
   values : List ℕ
   values = counted (firstFilling D (draftSheet d)) ∷ setOf D (draftSheet d) ∷ ones (setOf D (draftSheet d)) ∷ []
 
-  malformed-by : (numberOf (completing D d b) ≡ 1) ↔ (draftFormed d ≡ false)
+  pub malformed-by : (numberOf (completing D d b) ≡ 1) ↔ (draftFormed d ≡ false)
   unfolding completing completeTests sheetTests values
   malformed-by = (λ h. go (draftFormed d) refl h, λ w. rw w)
     where
       go : (w : Bool) → draftFormed d ≡ w → numberOf (completing D d b) ≡ 1 → w ≡ false
       go false e h = refl
-      go true e h = absurd (never 1 values ((not (eqb (length b) 390) refuses 7) ∷ (not (datesFit D) refuses 12) ∷ sheetTests D (draftSheet d)) (λ z. omega arith) refl (rw e at h))
+      go true e h = absurd (never 1 values ((not (eqb (length b) sheetSize) refuses 7) ∷ (not (datesFit D) refuses 12) ∷ sheetTests D (draftSheet d)) (λ z. omega arith) refl (rw e at h))
 
-  sized-by : draftFormed d ≡ true → (numberOf (completing D d b) ≡ 7) ↔ (length b ≡ 390 → ⊥)
+  pub sized-by : draftFormed d ≡ true → (numberOf (completing D d b) ≡ 7) ↔ (length b ≡ sheetSize → ⊥)
   unfolding completing completeTests sheetTests values
   sized-by w = (
     λ h l. never 7 values ((not (datesFit D) refuses 12) ∷ sheetTests D (draftSheet d)) (λ z. omega arith) refl (rw (w, l) at h),
-    λ n. simp (w, ne-eqb (length b) 390 n),
+    λ n. simp (w, ne-eqb (length b) sheetSize n),
   )
 
-  undated-by : draftFormed d ≡ true → length b ≡ 390 → (numberOf (completing D d b) ≡ 12) ↔ (datesFit D ≡ false)
+  pub undated-by : draftFormed d ≡ true → length b ≡ sheetSize → (numberOf (completing D d b) ≡ 12) ↔ (datesFit D ≡ false)
   unfolding completing completeTests sheetTests values
   undated-by w z = (λ h. go (datesFit D) refl h, λ t. rw (w, z, t))
     where
       go : (t : Bool) → datesFit D ≡ t → numberOf (completing D d b) ≡ 12 → t ≡ false
       go false e h = refl
       go true e h = absurd (never 12 values (sheetTests D (draftSheet d)) (λ y. omega arith) refl (rw (w, z, e) at h))
-
--- the promise of `complete`, from the two equations that its code is proved to meet
-pub completes-by : (D : Dates) (d b : List ℕ) (r : Completed) (t : List ℕ) → completeAnswer r ≡ completing D d b → t ≡ completed D d b → Completes D d b r t
-unfolding completing completed
-completes-by D d b r t p q = record {
-  answer = p;
-  sheet = q;
-  refused = λ h. q ∙ unchanged _ _ _ (completeTests D d b) (λ e. h _ _ _ (filled-of r _ _ _ (p ∙ e)));
-  malformed = rw p (malformed-by D d b);
-  sized = rw p (sized-by D d b);
-  undated = rw p (undated-by D d b);
-  whole = λ ms L. rw (p, q) (whole-law D ms d b L);
-}

@@ -1,8 +1,10 @@
 pub mod Fillings
 pub mod Complete
+pub mod Again
 pub mod Whole
 pub mod Pretest
 pub mod Stream
 pub mod R7
 pub mod Skipping
+pub mod TakeUp
 pub mod Working

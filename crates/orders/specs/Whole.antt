@@ -13,8 +13,10 @@ use Rattle.sheets.specs.declared.dates.Dates.{Dates}
 use Rattle.rules.specs.Rules.{classOf, rules, basic, fieldOf, keeps, keepsAll}
 use Rattle.rules.specs.declared.class.Class.the-variants.{O}
 use Rattle.drafts.specs.Draft.{draftFormed, draftSheet}
+use Rattle.drafts.specs.History.{postedFrom}
 use Rattle.drafts.specs.Promises.{Postings, Held}
 use Rattle.orders.specs.Fillings.{Filling, FirstFilling, All, FilledSet}
+use Rattle.orders.specs.Again.{Choice, chosenBy, CompletesAgain}
 use Rattle.orders.specs.Complete.{budgetPayment, completing, completed, completeAnswer}
 use Rattle.orders.specs.declared.complete.Completed.{Completed}
 use Rattle.orders.specs.declared.complete.Completed.the-variants.{Filled}
@@ -73,3 +75,12 @@ pub record Completes (D : Dates) (d b : List ℕ) (r : Completed) (t : List ℕ)
   -- "the rest answer 12"
   pub undated : draftFormed d ≡ true → length b ≡ sheetSize → (numberOf (completeAnswer r) ≡ 12) ↔ (datesFit D ≡ false)
   pub whole : (ms : List (List ℕ)) → Postings ms d → Whole D ms d b (completeAnswer r) t
+  -- R-9: where it returned a sheet, any choice of the proposed values may be posted, and the draft completed again
+  pub again :
+      (n set k : ℕ)
+      → completeAnswer r ≡ success (n ∷ set ∷ k ∷ [])
+      → (ms : List (List ℕ))
+      → Choice D d t ms
+      → (c : List ℕ)
+      → length c ≡ sheetSize
+      → CompletesAgain D (chosenBy ms) d b n (postedFrom d ms) c

@@ -3,3 +3,4 @@ pub mod Search
 pub mod Quick
 pub mod Found
 pub mod Entering
+pub mod Upto

@@ -4,3 +4,4 @@ pub mod pretest;
 pub mod quick;
 pub mod search;
 pub mod stream;
+pub mod take_up;

@@ -5,6 +5,8 @@ use cases::{charge_in_range, parting_in_range, queue_of, register_of, sharing_of
 use cases::{Account, Basis, Code, Date, Document, Draft, Forms, Payer, Random, Sheet, Texts};
 use cases::{Charge, Parting, Pooling, Sharing};
 
+use crate::dates::GIVEN;
+
 /// How many inputs a row has.
 const INPUTS: usize = 256;
 
@@ -128,6 +130,27 @@ pub fn count_97(random: &mut Random) -> Vec<Draft> {
         let texts = like_s(random).with(60, b"0").with(102, b"0");
         draft(&texts.without(&BLANKS))
     })
+}
+
+/// A draft, and what is proposed to it.
+pub struct Proposal {
+    /// The draft.
+    pub draft: Draft,
+    /// The proposed sheet.
+    pub sheet: Sheet,
+    /// The slots that are filled in it.
+    pub set: u16,
+}
+
+/// Drafts that are completed at count 97, with seven values proposed.
+pub fn proposals(random: &mut Random) -> Vec<Proposal> {
+    let proposal = |draft: Draft| {
+        let mut sheet = [0; 390];
+        let completed = GIVEN.complete_by_second(&draft, &mut sheet);
+        let set = completed.map_or(0, |completed| completed.set);
+        Proposal { draft, sheet, set }
+    };
+    count_97(random).into_iter().map(proposal).collect()
 }
 
 /// Drafts that status 16 completes, at count 433: no other order is completed later with
@@ -340,7 +363,7 @@ fn entry(random: &mut Random) -> Draft {
 #[cfg(test)]
 mod tests {
     use super::*;
-    use crate::dates::{ANOTHER, GIVEN};
+    use crate::dates::ANOTHER;
     use reference::{Broken, Refusal};
 
     type Answer = (Result<Option<Broken>, Refusal>, Result<u32, Refusal>);
@@ -392,6 +415,17 @@ mod tests {
                     assert_eq!(completed, Err(Refusal::NoFilling { count }));
                 }
             }
+        }
+    }
+
+    #[test]
+    fn seven_values_are_taken_up() {
+        for proposal in proposals(&mut random()) {
+            let Proposal { draft, sheet, set } = proposal;
+            assert_eq!(set.count_ones(), 7);
+            let mut taken = draft;
+            assert_eq!(reference::take_up(&mut taken, &sheet, set), Ok(()));
+            assert_ne!(taken, draft);
         }
     }
 

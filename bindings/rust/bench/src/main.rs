@@ -24,7 +24,7 @@ use std::process::{Command, ExitCode};
 
 use cases::{Charge, Draft, Parting, Pooling, Sharing, Sheet, POOL_SIZE};
 use dates::{Dated, ANOTHER, GIVEN};
-use inputs::{Drafts, Waiting};
+use inputs::{Drafts, Proposal, Waiting};
 use measure::{Goal, Row, NO_SLOWER};
 use report::Report;
 
@@ -62,6 +62,7 @@ fn measure_all() -> Report {
     let book = inputs::book(&mut random);
     let half_hopeless = inputs::half_hopeless_book(&mut other);
     rows.extend(book::rows(&book, &half_hopeless));
+    rows.push(take_up(inputs::proposals(&mut inputs::random())));
     rows.push(charge(inputs::charges(&mut inputs::random())));
     rows.push(part(inputs::parts(&mut inputs::random())));
     rows.push(shares(inputs::shares(&mut inputs::random())));
@@ -231,6 +232,27 @@ fn into_one_sheet<A, B>(
         drafts,
         |draft| library(draft, &mut sheet.borrow_mut()[..]),
         |draft| reference(draft, &mut sheet.borrow_mut()[..]),
+    )
+}
+
+/// Each call has a copy of the draft: what is taken up is given afterwards.
+fn take_up(proposals: Vec<Proposal>) -> Row {
+    Row::measure(
+        "take up, 7 values",
+        NO_SLOWER,
+        &proposals,
+        |proposal| {
+            let mut draft = proposal.draft;
+            let answer = kieselbrot::take_up(&mut draft, &proposal.sheet, proposal.set);
+            black_box(&draft);
+            answer
+        },
+        |proposal| {
+            let mut draft = proposal.draft;
+            let answer = reference::take_up(&mut draft, &proposal.sheet, proposal.set);
+            black_box(&draft);
+            answer
+        },
     )
 }
 

@@ -301,6 +301,27 @@ impl<'a, L: Library> Comparison<'a, L> {
         Ok((quickened, sheet))
     }
 
+    /// Takes up values of a sheet, which must stay, to a draft, which is changed.
+    pub fn take_up(
+        &mut self,
+        draft: &mut Lent,
+        sheet: &[u8],
+        set: u16,
+    ) -> Outcome<Result<(), Refusal>> {
+        let input = || {
+            let (draft, sheet) = (shown_draft(draft.bytes()), shown_sheet(sheet));
+            format!("draft {draft}, sheet {sheet}, set {set:#06x}")
+        };
+        let (answer, after) = lend_to_read("take_up", sheet, input, |sheet| {
+            self.lend("take_up", draft, input, |library, draft| {
+                library.take_up(draft, sheet, set)
+            })
+        })?;
+        self.reached.take_up(draft.bytes(), sheet, set, answer);
+        *draft = after;
+        Ok(answer)
+    }
+
     /// Asks for a charge.
     pub fn charge(&mut self, charge: &Charge) -> Outcome<()> {
         let ask = |library: &dyn Library| {
@@ -412,7 +433,7 @@ impl<'a, L: Library> Comparison<'a, L> {
     }
 }
 
-/// Lends a draft or a register, which must stay as it is, with the bytes around it.
+/// Lends a draft, a sheet or a register, which must stay as it is, with the bytes around it.
 fn lend_to_read<T>(
     function: &'static str,
     bytes: &[u8],

@@ -3,8 +3,8 @@
 use cases::{blanked, with_forms, Account, Basis, Code, Date, Document, Forms, Payer};
 use cases::{budget_at, class_a, is_day, message, sheets, Random, Sheet, Text, Texts};
 use cases::{inn_of, Inn, Line, Pooling, LINES_MAX, LINE_SIZE, ORDER_MAX, POOL_SIZE};
+use cases::{slot_of, Dates, ALL_STATUSES, BLANKS, FIELDS, FILLABLE, LISTS, ORDER_DATE_MIN};
 use cases::{Charge, Parting, Payment, Queue, Sharing};
-use cases::{Dates, ALL_STATUSES, BLANKS, FIELDS, LISTS, ORDER_DATE_MIN};
 use cases::{BALANCE_MAX, KOPECKS_MAX, PAYMENT_PLACES, RATE_MAX, SHARE_PLACES, YEARS};
 use kieselbrot::{Class, Refusal};
 
@@ -12,6 +12,7 @@ use crate::comparison::{same, Comparison, Difference, Lent};
 use crate::fillings;
 use crate::library::Library;
 use crate::pretest::VARYING;
+use crate::proposals::Proposal;
 
 type Outcome = Result<(), Difference>;
 
@@ -208,6 +209,12 @@ pub fn sizes<L: Library>(comparison: &mut Comparison<'_, L>) -> Outcome {
         let _ = comparison.post(&mut other, &message)?;
         comparison.copy(sized(&draft).bytes(), Lent::new(&sheet))?;
         comparison.copy(&draft, sized(&sheet))?;
+        for set in [0, 1 << 15] {
+            let sheet_of_size = sized(&sheet);
+            let _ = comparison.take_up(&mut sized(&draft), &sheet, set)?;
+            let _ = comparison.take_up(&mut sized(&draft), sheet_of_size.bytes(), set)?;
+            let _ = comparison.take_up(&mut Lent::new(&draft), sheet_of_size.bytes(), set)?;
+        }
         let _ = comparison.read(sized(&message).bytes())?;
     }
     Ok(())
@@ -226,9 +233,12 @@ pub fn places<L: Library>(comparison: &mut Comparison<'_, L>) -> Outcome {
     };
     for byte in BYTES {
         for place in 0..390 {
+            let sheet = changed(&texts.sheet(), place, byte);
             for dates in TAKEN_AND_REFUSED {
-                let _ = comparison.check(&changed(&texts.sheet(), place, byte), dates)?;
+                let _ = comparison.check(&sheet, dates)?;
             }
+            let mut draft = Lent::new(&texts.draft(first_revision));
+            let _ = comparison.take_up(&mut draft, &sheet, 1 << (place / 26))?;
         }
         for place in 0..450 {
             let draft = changed(&texts.draft(first_revision), place, byte);
@@ -236,6 +246,8 @@ pub fn places<L: Library>(comparison: &mut Comparison<'_, L>) -> Outcome {
                 let _ = comparison.complete(&draft, Lent::filled(390, 0xEE), dates)?;
             }
             comparison.copy(&draft, Lent::filled(390, 0xEE))?;
+            let set = 1 << (place / 30);
+            let _ = comparison.take_up(&mut Lent::new(&draft), &Texts::s().sheet(), set)?;
             let message = message(FIELDS[place / 30], 1, b"08");
             let _ = comparison.post(&mut Lent::new(&draft), &message)?;
         }
@@ -314,6 +326,97 @@ fn complete<L: Library>(
     let draft = texts.draft(first_revision);
     let before = Lent::filled(390, 0xEE);
     comparison.complete(&draft, before, dates).map(drop)
+}
+
+/// Class B with ten blanks, which status 04 completes, or 02 where it is allowed.
+fn all_blank() -> Texts {
+    let class_b = Texts::s()
+        .with(14, b"044525000")
+        .with(15, b"")
+        .with(17, b"40503810000004000000");
+    class_b.without(&FILLABLE)
+}
+
+/// Parts of a proposal: every set on one, every part of one with each of the eight lists,
+/// every part of one with ten blanks; these taken up and posted by hand. Revisions at both
+/// ends; for each slot each reason not to take up its value, alone and beside another slot.
+pub fn take_ups<L: Library>(comparison: &mut Comparison<'_, L>, random: &mut Random) -> Outcome {
+    let open = Texts::s().without(&BLANKS).with(60, b"0").with(102, b"0");
+    for list in LISTS {
+        every_part(comparison, random, &open, &[list])?;
+    }
+    every_part(comparison, random, &all_blank(), &LISTS)?;
+    let draft = open.draft(first_revision);
+    let proposed = BLANKS
+        .iter()
+        .fold(open, |texts, &field| texts.with(field, b"0"));
+    let sheet = proposed.with(101, b"04").sheet();
+    for set in 0..=u16::MAX {
+        let _ = comparison.take_up(&mut Lent::new(&draft), &sheet, set)?;
+    }
+    every_reason(comparison)
+}
+
+/// Every part of a proposal to these texts, with these lists in turn.
+fn every_part<L: Library>(
+    comparison: &mut Comparison<'_, L>,
+    random: &mut Random,
+    texts: &Texts,
+    lists: &[[bool; 3]],
+) -> Outcome {
+    for (number, &list) in (0..1 << FILLABLE.len()).zip(lists.iter().cycle()) {
+        let part: Vec<u8> = (0..FILLABLE.len())
+            .filter(|bit| number >> bit & 1 == 1)
+            .map(|bit| FILLABLE[bit])
+            .collect();
+        if part.iter().any(|&field| !texts.get(field).is_empty()) {
+            continue;
+        }
+        let set = part.iter().fold(0, |set, &field| set | 1 << slot_of(field));
+        let dates = Dates::PROGRAM.allowing(list);
+        let draft = Lent::new(&texts.draft(first_revision));
+        let Some(proposal) = Proposal::of(comparison, &draft, dates)? else {
+            continue;
+        };
+        proposal.take_up(comparison, set)?;
+        proposal.post_by_hand(comparison, random, set)?;
+    }
+    Ok(())
+}
+
+/// Revisions at both ends, and where a byte of them ends.
+const REVISIONS: [u32; 9] = [
+    0,
+    1,
+    255,
+    256,
+    65_535,
+    16_777_215,
+    1 << 31,
+    u32::MAX - 1,
+    u32::MAX,
+];
+
+/// Each slot, alone and beside another slot or bit 15: blank or given in the draft, with
+/// each revision, blank or given in the sheet.
+fn every_reason<L: Library>(comparison: &mut Comparison<'_, L>) -> Outcome {
+    for field in FIELDS {
+        for place in 0..4 * REVISIONS.len() {
+            let revision = REVISIONS[place / 4];
+            let blank = |texts: Texts, bit| match place & bit {
+                0 => texts.without(&[field]),
+                _ => texts,
+            };
+            let mut draft = blank(Texts::BLANK.with(field, b"0"), 1).draft(first_revision);
+            draft[30 * slot_of(field)..][..4].copy_from_slice(&revision.to_be_bytes());
+            let sheet = blank(Texts::s(), 2).sheet();
+            for other in 0..16 {
+                let set = 1 << slot_of(field) | 1 << other;
+                let _ = comparison.take_up(&mut Lent::new(&draft), &sheet, set)?;
+            }
+        }
+    }
+    Ok(())
 }
 
 /// Every byte of a message's head, and every length of text: read, posted, and

@@ -8,13 +8,14 @@ use cases::{Random, Text, Texts, FIELDS};
 
 use crate::comparison::{same, Comparison, Difference, Lent};
 use crate::library::Library;
+use crate::proposals::Proposal;
 use crate::{fillings, streams};
 
 type Outcome = Result<(), Difference>;
 
 /// One case: mostly one call, sometimes a list of them.
 pub fn case<L: Library>(comparison: &mut Comparison<'_, L>, random: &mut Random) -> Outcome {
-    match random.below(248) {
+    match random.below(256) {
         0..80 => check(comparison, random),
         80..100 => read(comparison, random),
         100..120 => write(comparison, random),
@@ -40,11 +41,13 @@ pub fn case<L: Library>(comparison: &mut Comparison<'_, L>, random: &mut Random)
             let before = pool_output(random, &pooling);
             comparison.pool(&pooling, &before)
         }
-        _ => {
+        236..248 => {
             let queue = queue(random);
             let before = std::array::from_fn(|_| random.number() as u32);
             comparison.leave(&queue, &before)
         }
+        248..252 => take_up_proposed(comparison, random),
+        _ => take_up(comparison, random),
     }
 }
 
@@ -135,7 +138,8 @@ fn any_field(random: &mut Random) -> u8 {
 
 fn any_revision(random: &mut Random) -> u32 {
     let any = random.number() as u32;
-    random.pick(&[0, 1, 1, 2, 2, 255, 256, 0x8000_0000, u32::MAX, any, any])
+    let high = random.pick(&[1 << 31, u32::MAX - 1, u32::MAX]);
+    random.pick(&[0, 1, 1, 2, 2, 255, 256, high, high, any, any])
 }
 
 /// A text of any bytes, mostly short enough.
@@ -283,4 +287,79 @@ fn complete_by_list<L: Library>(
         return comparison.complete(&draft, before, dates).map(drop);
     }
     fillings::complete(comparison, &texts, &draft, dates)
+}
+
+/// A part of what is proposed to a draft, taken up and posted by hand.
+fn take_up_proposed<L: Library>(
+    comparison: &mut Comparison<'_, L>,
+    random: &mut Random,
+) -> Outcome {
+    let dates = fit_dates(random);
+    let any = random.below(1024);
+    let blanks = random.pick(&[any, any, any, 1023]);
+    let order = blanked(budget_at(random, dates), blanks);
+    let draft = Lent::new(&draft(random, &order));
+    let Some(proposal) = Proposal::of(comparison, &draft, dates)? else {
+        return Ok(());
+    };
+    let open = proposal.below_the_greatest();
+    let set = random.pick(&[proposal.set(), open, open]);
+    proposal.take_up(comparison, part_of(random, set))?;
+    let by_hand = part_of(random, open);
+    proposal.post_by_hand(comparison, random, by_hand)
+}
+
+/// Any part of a set.
+fn part_of(random: &mut Random, set: u16) -> u16 {
+    let any = set & random.number() as u16;
+    random.pick(&[set, any, any, any])
+}
+
+/// Values of any sheet, to any draft.
+fn take_up<L: Library>(comparison: &mut Comparison<'_, L>, random: &mut Random) -> Outcome {
+    let order = order(random, Dates::PROGRAM);
+    let any = random.number() as u16;
+    let open = random.pick(&[any, any, any, u16::MAX]);
+    let mut draft = any_draft(random, &without(order, open));
+    let sheet = any_sheet(random, &order);
+    let set = any_set(random, open);
+    let _ = comparison.take_up(&mut draft, sheet.bytes(), set)?;
+    Ok(())
+}
+
+/// The order with the slots of this set blank.
+fn without(order: Texts, set: u16) -> Texts {
+    let blank = |slot: &usize| set >> slot & 1 == 1;
+    let slots = (0..FIELDS.len()).filter(blank);
+    slots.fold(order, |order, slot| order.without(&[FIELDS[slot]]))
+}
+
+/// A sheet to take up from: the order's own, with some of it blank, damaged, or of another
+/// size.
+fn any_sheet(random: &mut Random, order: &Texts) -> Lent {
+    let sheet = order.sheet();
+    match random.below(10) {
+        0 => Lent::new(&damaged_sheet(random, sheet)),
+        1 => resized(random, &sheet),
+        2 | 3 => {
+            let few = random.number() & random.number() & random.number();
+            Lent::new(&without(*order, few as u16).sheet())
+        }
+        _ => Lent::new(&sheet),
+    }
+}
+
+/// A set for a draft with these slots blank: fields without a list are mostly left out.
+fn any_set(random: &mut Random, open: u16) -> u16 {
+    // Slots 0, 1, 2, 5 and 8.
+    const LISTLESS: u16 = 0x0127;
+    let fit = open & !LISTLESS & 0x7FFF;
+    let any = random.number() as u16;
+    let other = 1 << random.below(16);
+    match random.below(8) {
+        0 => any,
+        1 => fit,
+        2 | 3 => fit & any | other,
+        _ => fit & any,
+    }
 }

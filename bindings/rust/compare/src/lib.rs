@@ -18,12 +18,14 @@ mod parts;
 mod planted;
 mod pools;
 mod pretest;
+mod proposals;
 mod queues;
 mod quick;
 mod reached;
 mod run;
 mod shares;
 mod streams;
+mod taken;
 
 pub use comparison::{Comparison, Difference};
 pub use library::{Library, Linked, Reference};

@@ -4,8 +4,9 @@ use cases::{Dates, Queue};
 use kieselbrot::{Broken, Class, Completed, Message, Paid, Part, Posted, Quickened, Refusal};
 use kieselbrot::{PAYMENT_PLACES, SHARE_PLACES};
 
-/// The seven functions of document 01, the test ahead of completion, completing quickly, the
-/// bank's charge, part of a year, pooling a register, and which payments leave first.
+/// The seven functions of document 01, the test ahead of completion, completing quickly,
+/// taking up part of a proposal, the bank's charge, part of a year, pooling a register, and
+/// which payments leave first.
 pub trait Library: Sync {
     /// Checks a sheet at these dates.
     fn check(&self, sheet: &[u8], dates: Dates) -> Result<Class, Refusal>;
@@ -31,6 +32,8 @@ pub trait Library: Sync {
     fn complete(&self, draft: &[u8], sheet: &mut [u8], dates: Dates) -> Result<Completed, Refusal>;
     /// Completes a draft quickly at these dates.
     fn quick(&self, draft: &[u8], sheet: &mut [u8], dates: Dates) -> Quickened;
+    /// Takes up the values of a set of slots of a sheet.
+    fn take_up(&self, draft: &mut [u8], sheet: &[u8], set: u16) -> Result<(), Refusal>;
     /// The bank's charge for an amount.
     fn charge(&self, amount: u64, rate: u64, least: u64, greatest: u64) -> Result<u64, Refusal>;
     /// The part of a year's amount for so many days.
@@ -96,6 +99,10 @@ impl Library for Linked {
     fn quick(&self, draft: &[u8], sheet: &mut [u8], dates: Dates) -> Quickened {
         let (date, record) = library_dates(dates);
         kieselbrot::quick(draft, sheet, date, record)
+    }
+
+    fn take_up(&self, draft: &mut [u8], sheet: &[u8], set: u16) -> Result<(), Refusal> {
+        kieselbrot::take_up(draft, sheet, set)
     }
 
     fn charge(&self, amount: u64, rate: u64, least: u64, greatest: u64) -> Result<u64, Refusal> {
@@ -194,6 +201,10 @@ impl Library for Reference {
             completed: answer.map(completed).map_err(refusal),
             skipped: skipped as usize,
         }
+    }
+
+    fn take_up(&self, draft: &mut [u8], sheet: &[u8], set: u16) -> Result<(), Refusal> {
+        reference::take_up(draft, sheet, set).map_err(refusal)
     }
 
     fn charge(&self, amount: u64, rate: u64, least: u64, greatest: u64) -> Result<u64, Refusal> {
@@ -332,5 +343,6 @@ const fn refusal(refusal: reference::Refusal) -> Refusal {
         reference::Refusal::Discrepancy { difference } => Refusal::Discrepancy { difference },
         reference::Refusal::Queue => Refusal::Queue,
         reference::Refusal::EqualArrivals => Refusal::EqualArrivals,
+        reference::Refusal::NotTakenUp { field } => Refusal::NotTakenUp { field },
     }
 }

@@ -1,7 +1,7 @@
 //! Differences planted on purpose: each must be found.
 
 use cases::{day_after, day_before, is_day, Dates, ORDER_DATE_MIN};
-use cases::{inn_remainder, slot_of, snils_remainder, Text, Texts};
+use cases::{inn_remainder, slot_of, snils_remainder, Text, Texts, FIELDS};
 use cases::{Line, Payment, Pooling, Queue};
 use cases::{KOPECKS_MAX, LINE_SIZE, POOL_SIZE, RATE_MAX, YEARS};
 use kieselbrot::{Broken, Class, Completed, Message, Paid, Part, Posted, Quickened, Refusal};
@@ -10,6 +10,7 @@ use kieselbrot::{PAYMENT_PLACES, SHARE_PLACES};
 use crate::library::{Library, Reference};
 use crate::pretest::{is_blank, VARYING};
 use crate::quick::tried;
+use crate::taken::{revision_in, slots, text_in};
 
 /// The second implementation with one thing changed.
 #[derive(Clone, Copy, Debug, PartialEq, Eq)]
@@ -98,6 +99,28 @@ pub enum Planted {
     OwnStatus,
     /// A given 101 is never counted.
     Given101,
+    /// The first entry of a field's list is taken up, whatever the sheet has.
+    FirstEntry,
+    /// The last slot of a set is not taken up.
+    LastLeftOut,
+    /// The slots ahead of one that can't take up its value are taken up all the same.
+    HalfTakenUp,
+    /// The last slot that can't take up its value is named.
+    LastUnfit,
+    /// Every value gets revision 1, so that a slot that was blanked keeps its own.
+    FirstRevision,
+    /// A slot with the greatest revision is passed over.
+    GreatestPassed,
+    /// Bit 15 is not looked at.
+    Bit15Passed,
+    /// A slot that is given is overwritten.
+    Overwritten,
+    /// A field without a list takes up a value, too.
+    ListlessTaken,
+    /// Taking up tests 7 before 1.
+    SizeFirst,
+    /// A malformed sheet is not refused where the set is empty.
+    UnreadSheet,
     /// A charge is rounded down.
     RoundedDown,
     /// Half a kopeck goes downward.
@@ -173,7 +196,7 @@ pub enum Planted {
 }
 
 /// All of them.
-pub const PLANTS: [Planted; 78] = [
+pub const PLANTS: [Planted; 89] = [
     Planted::Century,
     Planted::Status01,
     Planted::Without03252,
@@ -216,6 +239,17 @@ pub const PLANTS: [Planted; 78] = [
     Planted::BeforeTheLast,
     Planted::OwnStatus,
     Planted::Given101,
+    Planted::FirstEntry,
+    Planted::LastLeftOut,
+    Planted::HalfTakenUp,
+    Planted::LastUnfit,
+    Planted::FirstRevision,
+    Planted::GreatestPassed,
+    Planted::Bit15Passed,
+    Planted::Overwritten,
+    Planted::ListlessTaken,
+    Planted::SizeFirst,
+    Planted::UnreadSheet,
     Planted::RoundedDown,
     Planted::HalvesDownward,
     Planted::Rate10001,
@@ -425,6 +459,91 @@ fn last_skipped(draft: &[u8], dates: Dates) -> usize {
         slot[4..].copy_from_slice(&Text::new(last.as_bytes()).slot());
     }
     Reference.quick(&given, &mut [0; 390], dates).skipped
+}
+
+impl Planted {
+    /// The set that a changed taking up sees in place of this one.
+    fn seen_set(self, draft: &[u8], set: u16) -> u16 {
+        let of_size = draft.len() == 450;
+        let without = |slots: &mut dyn Iterator<Item = usize>| {
+            slots.fold(set, |set, slot| set & !(1 << slot))
+        };
+        match self {
+            Self::LastLeftOut => without(&mut slots(set).last().into_iter()),
+            Self::Bit15Passed => set & 0x7FFF,
+            Self::GreatestPassed if of_size => {
+                let greatest = |slot: &usize| revision_in(draft, *slot) == u32::MAX;
+                without(&mut slots(set & 0x7FFF).filter(greatest))
+            }
+            _ => set,
+        }
+    }
+
+    /// The sheet that it sees in place of this one.
+    fn seen_proposal(self, sheet: &[u8], set: u16) -> Vec<u8> {
+        let mut seen = sheet.to_vec();
+        match self {
+            Self::FirstEntry if sheet.len() == 390 => {
+                for slot in slots(set & 0x7FFF).filter(|slot| sheet[26 * slot] > 0) {
+                    if let Some(first) = cases::list(FIELDS[slot]).first() {
+                        seen[26 * slot..][..26].copy_from_slice(&Text::new(first).slot());
+                    }
+                }
+            }
+            Self::UnreadSheet if sheet.len() == 390 && set == 0 => seen.fill(0),
+            _ => {}
+        }
+        seen
+    }
+
+    /// What a changed taking up does of a set of which this field's slot is the first that
+    /// can't take up its value.
+    fn changed_refusal(
+        self,
+        draft: &mut [u8],
+        sheet: &[u8],
+        set: u16,
+        field: u8,
+    ) -> Result<(), Refusal> {
+        let refused = Err(Refusal::NotTakenUp { field });
+        let slot = match field {
+            0 => FIELDS.len(),
+            field => slot_of(field),
+        };
+        match self {
+            Self::HalfTakenUp => {
+                let ahead = set & ((1 << slot) - 1);
+                Reference.take_up(draft, sheet, ahead).and(refused)
+            }
+            Self::LastUnfit => {
+                let behind = slots(set).filter(|&other| other > slot);
+                let alone = |slot: usize| Reference.take_up(&mut draft.to_vec(), sheet, 1 << slot);
+                behind
+                    .map(alone)
+                    .filter(Result::is_err)
+                    .last()
+                    .unwrap_or(refused)
+            }
+            Self::Overwritten | Self::ListlessTaken if slot < FIELDS.len() => {
+                let listless = cases::list(field).is_empty();
+                let given = draft[30 * slot + 4] > 0;
+                let revision = revision_in(draft, slot);
+                let text = text_in(sheet, slot);
+                let taken = match self {
+                    Self::Overwritten => given && !listless,
+                    _ => listless && !given,
+                };
+                if !taken || revision == u32::MAX || text.is_empty() {
+                    return refused;
+                }
+                // The others first: one of them may be refused.
+                self.take_up(draft, sheet, set & !(1 << slot))?;
+                let message = cases::message(field, revision + 1, text);
+                Reference.post(draft, &message).map(drop)
+            }
+            _ => refused,
+        }
+    }
 }
 
 impl Planted {
@@ -694,6 +813,30 @@ impl Library for Planted {
         Quickened {
             completed,
             skipped: self.changed_skips(draft, dates, answer, sheet),
+        }
+    }
+
+    fn take_up(&self, draft: &mut [u8], sheet: &[u8], set: u16) -> Result<(), Refusal> {
+        let before = draft.to_vec();
+        let set = self.seen_set(draft, set);
+        let sheet = &self.seen_proposal(sheet, set)[..];
+        let answer = Reference.take_up(draft, sheet, set);
+        match (self, answer) {
+            (Self::SizeFirst, Err(Refusal::Malformed)) if sheet.len() != 390 => {
+                Err(Refusal::Output)
+            }
+            (Self::FirstRevision, Ok(())) => {
+                let had = |slot: &usize| revision_in(&before, *slot) > 0;
+                for slot in slots(set).filter(had) {
+                    let slot = 30 * slot..30 * (slot + 1);
+                    draft[slot.clone()].copy_from_slice(&before[slot]);
+                }
+                answer
+            }
+            (_, Err(Refusal::NotTakenUp { field })) => {
+                self.changed_refusal(draft, sheet, set, field)
+            }
+            _ => answer,
         }
     }
 

@@ -15,6 +15,7 @@ use crate::pretest::{Tested, NAMED};
 use crate::queues::{self, Queued};
 use crate::quick::{self, Skipped};
 use crate::shares::{self, Shared};
+use crate::taken::{self, Count, Taken, Way};
 
 /// How often each thing was reached. What a thing is called is part of the
 /// report: "check 8", "rule 27", "status 04 in class A".
@@ -37,6 +38,7 @@ pub struct Reached {
     named: BTreeMap<(u8, u8), u64>,
     unnamed: BTreeMap<u8, u64>,
     skipped: BTreeMap<Skipped, u64>,
+    taken: BTreeMap<Taken, u64>,
     charges: BTreeMap<Charged, u64>,
     parts: BTreeMap<Parted, u64>,
     shares: BTreeMap<Shared, u64>,
@@ -136,7 +138,7 @@ enum Accepted {
 }
 
 /// The numbers that each function returns.
-const ANSWERS: [(&str, &[u8]); 14] = [
+const ANSWERS: [(&str, &[u8]); 15] = [
     ("check", &[0, 1, 12, 8]),
     ("read", &[0, 2, 3, 4, 5]),
     ("write", &[0, 2, 4, 5, 7]),
@@ -146,6 +148,7 @@ const ANSWERS: [(&str, &[u8]); 14] = [
     ("pretest", &[0, 1, 8, 9]),
     ("complete", &[0, 1, 7, 12, 8, 9, 10]),
     ("quick", &[0, 1, 7, 12, 8, 9, 10]),
+    ("take_up", &[0, 1, 7, 20]),
     ("charge", &[0, 14]),
     ("part", &[0, 15]),
     ("shares", &[0, 15]),
@@ -372,6 +375,28 @@ impl Reached {
         }
     }
 
+    /// Taking up values, by the draft before.
+    pub fn take_up(&mut self, draft: &[u8], sheet: &[u8], set: u16, answer: Result<(), Refusal>) {
+        self.answer("take_up", answer);
+        for what in taken::reached(draft, sheet, set, answer) {
+            *self.taken.entry(what).or_default() += 1;
+        }
+    }
+
+    /// A completion at these dates after values of this set were posted in this way.
+    pub fn again(&mut self, way: Way, dates: Dates, set: u16, smaller: bool) {
+        if set == 0 {
+            return;
+        }
+        let count = match smaller {
+            true => Count::Smaller,
+            false => Count::Same,
+        };
+        for what in [Taken::Again(way, dates.allowed()), Taken::Count(way, count)] {
+            *self.taken.entry(what).or_default() += 1;
+        }
+    }
+
     /// What the test of a draft named, or where it named nothing what its
     /// completion answered.
     fn pretest(&mut self, tested: Tested, completed: Result<Completed, Refusal>) {
@@ -468,6 +493,7 @@ impl Reached {
         add(&mut self.named, &other.named);
         add(&mut self.unnamed, &other.unnamed);
         add(&mut self.skipped, &other.skipped);
+        add(&mut self.taken, &other.taken);
         add(&mut self.charges, &other.charges);
         add(&mut self.parts, &other.parts);
         add(&mut self.shares, &other.shares);
@@ -532,6 +558,9 @@ impl Reached {
         }
         for what in quick::all() {
             list.push((format!("skipped: {what}"), get(&self.skipped, what)));
+        }
+        for what in taken::all() {
+            list.push((format!("taken up: {what}"), get(&self.taken, what)));
         }
         for what in charges::all() {
             list.push((format!("a charge: {what}"), get(&self.charges, what)));

@@ -106,6 +106,7 @@ enum Piece {
     Places,
     Messages,
     Dates,
+    TakeUps,
     Charges,
     Parts,
     Shares,
@@ -164,7 +165,8 @@ impl Run {
         if self.exhaustive {
             pieces.extend([Piece::Table, Piece::Sizes, Piece::Places, Piece::Messages]);
             pieces.extend([Piece::Charges, Piece::Parts, Piece::Shares, Piece::Pools]);
-            pieces.extend([Piece::Queues, Piece::Dates, Piece::Arrangements]);
+            pieces.extend([Piece::Queues, Piece::TakeUps]);
+            pieces.extend([Piece::Dates, Piece::Arrangements]);
             pieces.extend(generated.by_ref().take(10));
             pieces.extend((0..exhaustive::BLANK_PARTS).map(Piece::Blanks));
             pieces.extend((0..exhaustive::FORM_PARTS).map(Piece::Forms));
@@ -185,6 +187,7 @@ impl Run {
             Piece::Places => exhaustive::places(comparison),
             Piece::Messages => exhaustive::messages(comparison),
             Piece::Dates => exhaustive::dates(comparison, &mut random(0)),
+            Piece::TakeUps => exhaustive::take_ups(comparison, &mut random(10)),
             Piece::Charges => exhaustive::charges(comparison),
             Piece::Parts => exhaustive::parts(comparison),
             Piece::Shares => exhaustive::shares(comparison),

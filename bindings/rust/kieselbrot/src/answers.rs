@@ -2,7 +2,7 @@
 
 use std::fmt;
 
-use crate::{ffi, BALANCE_MAX, KOPECKS_MAX, LINES_MAX, PAYMENT_PLACES};
+use crate::{ffi, BALANCE_MAX, FIELDS, KOPECKS_MAX, LINES_MAX, PAYMENT_PLACES};
 
 /// The class of an accepted sheet.
 #[derive(Clone, Copy, Debug, PartialEq, Eq, Hash, PartialOrd, Ord)]
@@ -127,7 +127,8 @@ pub enum Refusal {
     /// 6: the draft has this revision with another text.
     Clash,
     /// 7: the output sheet's size is not 390, or the message buffer is too short; for
-    /// [`pool`](crate::pool), the output has under 10,000 bytes.
+    /// [`pool`](crate::pool), the output has under 10,000 bytes; for
+    /// [`take_up`](crate::take_up), the proposed sheet's size is not 390.
     Output,
     /// 8: a rule is broken; in completion and its pretest only rules 1 to 3.
     Broken {
@@ -170,6 +171,14 @@ pub enum Refusal {
     Queue,
     /// 19: for [`leave`](crate::leave()), two arrival numbers are equal.
     EqualArrivals,
+    /// 20: for [`take_up`](crate::take_up), a slot of the set can't take up its value: the
+    /// bit is no slot's, its field has no list of fillings, it is not blank in the draft, the
+    /// sheet is blank there, or its revision is the greatest.
+    NotTakenUp {
+        /// The number of the field in the lowest such slot; 0 for bit 15, which is no
+        /// slot's.
+        field: u8,
+    },
     /// An answer that the library of this version never gives: another library
     /// is linked.
     Unknown {
@@ -200,6 +209,7 @@ impl Refusal {
             Self::Discrepancy { .. } => 17,
             Self::Queue => 18,
             Self::EqualArrivals => 19,
+            Self::NotTakenUp { .. } => 20,
             Self::Unknown { number } => *number,
         }
     }
@@ -234,6 +244,7 @@ impl fmt::Display for Refusal {
             Self::Broken { field, rule } => write!(f, " {field} {rule}"),
             Self::NoFilling { count } => write!(f, " {count}"),
             Self::Discrepancy { difference } => write!(f, " {difference}"),
+            Self::NotTakenUp { field } => write!(f, " {field}"),
             _ => Ok(()),
         }
     }
@@ -373,6 +384,20 @@ impl From<ffi::Quick> for Quickened {
     }
 }
 
+impl From<ffi::TakeUp> for Result<(), Refusal> {
+    fn from(answer: ffi::TakeUp) -> Self {
+        let ffi::TakeUp { number, field } = answer;
+        match (number, field) {
+            (0, 0) => Ok(()),
+            (20, field) if field == 0 || FIELDS.contains(&field) => {
+                Err(Refusal::NotTakenUp { field })
+            }
+            (number, 0) => Err(Refusal::plain(number)),
+            _ => Err(Refusal::Unknown { number }),
+        }
+    }
+}
+
 impl From<ffi::Charge> for Result<u64, Refusal> {
     fn from(answer: ffi::Charge) -> Self {
         let ffi::Charge { number, kopecks } = answer;
@@ -467,6 +492,11 @@ mod tests {
         assert_eq!((less.number(), less.to_string().as_str()), (17, "17 -1"));
         assert_eq!(Refusal::Queue.to_string(), "18");
         assert_eq!(Refusal::EqualArrivals.to_string(), "19");
+        let status = Refusal::NotTakenUp { field: 101 };
+        assert_eq!(
+            (status.number(), status.to_string().as_str()),
+            (20, "20 101")
+        );
     }
 
     #[test]
@@ -545,6 +575,20 @@ mod tests {
         for (number, count, skipped) in [(0, 97, 24), (10, 1104, 24), (9, 0, 1), (9, 1, 0)] {
             let unknown = Err(Refusal::Unknown { number });
             assert_eq!(quick(number, count, skipped), (unknown, 0));
+        }
+    }
+
+    #[test]
+    fn values_are_taken_up_or_20_names_a_field() {
+        let take_up = |number, field| Result::<(), Refusal>::from(ffi::TakeUp { number, field });
+        assert_eq!(take_up(0, 0), Ok(()));
+        assert_eq!(take_up(1, 0), Err(Refusal::Malformed));
+        assert_eq!(take_up(7, 0), Err(Refusal::Output));
+        for field in FIELDS.into_iter().chain([0]) {
+            assert_eq!(take_up(20, field), Err(Refusal::NotTakenUp { field }));
+        }
+        for (number, field) in [(0, 14), (1, 101), (7, 14), (20, 16), (20, 255), (21, 0)] {
+            assert_eq!(take_up(number, field), Err(Refusal::Unknown { number }));
         }
     }
 

@@ -74,6 +74,14 @@ pub struct Quick {
     pub skipped: usize,
 }
 
+/// The answer of taking up part of a proposal.
+#[repr(C)]
+#[derive(Clone, Copy)]
+pub struct TakeUp {
+    pub number: u8,
+    pub field: u8,
+}
+
 /// The answer of a charge.
 #[repr(C)]
 #[derive(Clone, Copy)]
@@ -120,6 +128,7 @@ const _: () = assert!(size_of::<Post>() == 2);
 const _: () = assert!(size_of::<Pretest>() == 3);
 const _: () = assert!(size_of::<Complete>() == 24);
 const _: () = assert!(size_of::<Quick>() == 32 && offset_of!(Quick, skipped) == 24);
+const _: () = assert!(size_of::<TakeUp>() == 2);
 const _: () = assert!(size_of::<Charge>() == 16);
 const _: () = assert!(size_of::<Part>() == 16);
 const _: () = assert!(size_of::<Pool>() == 24);
@@ -153,6 +162,13 @@ extern "C" {
         date: Date,
         record: Record,
     ) -> Quick;
+    fn kieselbrot_take_up(
+        draft: *mut u8,
+        draft_len: usize,
+        sheet: *const u8,
+        sheet_len: usize,
+        set: u16,
+    ) -> TakeUp;
     fn kieselbrot_charge(amount: u64, rate: u64, least: u64, greatest: u64) -> Charge;
     fn kieselbrot_part(amount: u64, days: u32, year: u32) -> Part;
     fn kieselbrot_shares(
@@ -244,6 +260,18 @@ pub fn quick(draft: &[u8], sheet: &mut [u8], date: Date, record: Record) -> Quic
             sheet.len(),
             date,
             record,
+        )
+    }
+}
+
+pub fn take_up(draft: &mut [u8], sheet: &[u8], set: u16) -> TakeUp {
+    unsafe {
+        kieselbrot_take_up(
+            draft.as_mut_ptr(),
+            draft.len(),
+            sheet.as_ptr(),
+            sheet.len(),
+            set,
         )
     }
 }

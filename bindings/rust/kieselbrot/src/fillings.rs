@@ -36,6 +36,11 @@ fn list(field: u8, statuses: &[&'static str]) -> List {
     }
 }
 
+/// Whether a field has a list; that of 101 is never empty.
+pub fn has_list(field: u8) -> bool {
+    field == 101 || !list(field, &[]).is_empty()
+}
+
 /// A field's text.
 pub fn text(sheet: &Sheet, field: u8) -> &[u8] {
     let mut slots = sheet.chunks_exact(SHEET_SLOT_SIZE).zip(FIELDS);

@@ -1,6 +1,6 @@
 //! Budget payment orders under 107n: field messages, the draft, the rules,
-//! completion, the bank's charge, part of a year, the register of an order, and which
-//! payments leave first.
+//! completion, taking up part of what it proposes, the bank's charge, part of a year, the
+//! register of an order, and which payments leave first.
 //!
 //! This crate is a thin, safe layer over a library whose code is proved: each
 //! function's answer, and every buffer that it was lent, equals a definition, for
@@ -324,6 +324,73 @@ pub fn complete(
 #[inline]
 pub fn quick(draft: &[u8], sheet: &mut [u8], date: Date, record: Record) -> Quickened {
     ffi::quick(draft, sheet, date, record).into()
+}
+
+/// Takes up part of a proposal: for each slot of the set, posts the text that the sheet has
+/// there to the draft, with the revision after its slot's. Bit i of the set is for slot i, as
+/// in [`Completed::set`].
+///
+/// If completing the draft at a date and record gave this sheet, and the set is a part of the
+/// returned one, completing it again at the same date and record gives the very same sheet, a
+/// count no larger, and the returned set without the slots taken up.
+///
+/// The sheet need not be one that completion wrote; its texts outside the set are not taken.
+///
+/// # Errors
+///
+/// In this order: [`Refusal::Malformed`] for a malformed draft, or a malformed sheet of the
+/// right size, [`Refusal::Output`] for the sheet's size, [`Refusal::NotTakenUp`] with the field of the
+/// lowest slot of the set that can't take up its value: the bit is no slot's (15), its field
+/// has no list of fillings (14, 15, 17, 61, 103), it is not blank in the draft, the sheet is
+/// blank there, or its revision is [`u32::MAX`]. None of the values is then taken up.
+///
+/// # Examples
+///
+/// Of what is proposed to a payer without INN and KPP, the status is taken up:
+///
+/// ```
+/// use kieselbrot::{complete, post, take_up, write, Completed, Date, Record, Refusal};
+///
+/// # fn main() -> Result<(), Refusal> {
+/// let order: [(u8, &[u8]); 8] = [
+///     (14, b"004525987"),
+///     (15, b"40102810845370000004"),
+///     (17, b"03100643000000014800"),
+///     (60, b"0"),
+///     (61, b"6730054024"),
+///     (102, b"0"),
+///     (103, b"772801001"),
+///     (104, b"18201061201010000510"),
+/// ];
+/// let mut draft = [0; kieselbrot::DRAFT_SIZE];
+/// let mut message = [0; kieselbrot::MESSAGE_MAX];
+/// for (field, text) in order {
+///     let length = write(field, 1, text, &mut message)?;
+///     post(&mut draft, &message[..length])?;
+/// }
+///
+/// let date = Date(20240115);
+/// let mut sheet = [0; kieselbrot::SHEET_SIZE];
+/// let proposed = complete(&draft, &mut sheet, date, Record::GIVEN)?;
+/// assert_eq!((proposed.count, proposed.ones), (97, 7));
+///
+/// // Field 61 has slot 5 and no list of fillings, field 101 has slot 6.
+/// let field = 61;
+/// let refused = take_up(&mut draft, &sheet, 1 << 5 | 1 << 6);
+/// assert_eq!(refused, Err(Refusal::NotTakenUp { field }));
+/// take_up(&mut draft, &sheet, 1 << 6)?;
+///
+/// let mut again = [0; kieselbrot::SHEET_SIZE];
+/// let completed = complete(&draft, &mut again, date, Record::GIVEN)?;
+/// let (count, set, ones) = (1, proposed.set & !(1 << 6), 6);
+/// assert_eq!(completed, Completed { count, set, ones });
+/// assert_eq!(again, sheet);
+/// # Ok(())
+/// # }
+/// ```
+#[inline]
+pub fn take_up(draft: &mut [u8], sheet: &[u8], set: u16) -> Result<(), Refusal> {
+    ffi::take_up(draft, sheet, set).into()
 }
 
 /// The bank's charge for an amount, in kopecks: amount times rate over 10,000, halves

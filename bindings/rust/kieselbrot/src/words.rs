@@ -1,10 +1,11 @@
-//! Rules, fields and the answer of a completion in words, for people.
+//! Rules, fields, the answer of a completion and why a value can't be taken up in words, for
+//! people.
 //!
 //! The library decides; this module says it in English. It is not proved. Unlike
 //! the functions of the library it allocates.
 
 use crate::fillings::{self, Sheet};
-use crate::{check, complete, copy, pretest, FIELDS, SHEET_SIZE};
+use crate::{check, complete, copy, pretest, DRAFT_SLOT_SIZE, FIELDS, SHEET_SIZE};
 use crate::{Broken, Completed, Date, Record, Refusal};
 
 /// What the rules want, rule 1 first. Where [`LIST`] stands, the statuses follow that the
@@ -117,6 +118,51 @@ pub fn explanation(draft: &[u8], date: Date, record: Record) -> String {
         },
         Err(refusal) => wording.refused(refusal),
     }
+}
+
+/// Why values of this sheet can't be taken up to this draft, where
+/// [`take_up`](crate::take_up) refuses it so: a sentence.
+#[must_use]
+pub fn not_taken_up(draft: &[u8], sheet: &[u8], refusal: Refusal) -> String {
+    match refusal {
+        Refusal::Malformed => {
+            "The draft or the proposed sheet is malformed: it can't be read as an order.".to_owned()
+        }
+        Refusal::Output => format!("The proposed sheet must have {SHEET_SIZE} bytes."),
+        Refusal::NotTakenUp { field: 0 } => "Bit 15 of the set is no field's.".to_owned(),
+        Refusal::NotTakenUp { field } => format!(
+            "Field {} can't take up a value: {}.",
+            with_name(field),
+            why_not(draft, sheet, field)
+        ),
+        _ => format!("The linked library is another one: taking up never answers {refusal}."),
+    }
+}
+
+/// What keeps a field from taking up its value: the first cause.
+fn why_not(draft: &[u8], sheet: &[u8], field: u8) -> &'static str {
+    let mut given = [0; SHEET_SIZE];
+    let is_blank = |sheet: &Sheet| fillings::text(sheet, field).is_empty();
+    if copy(draft, &mut given).is_err() {
+        "the draft is malformed"
+    } else if !fillings::has_list(field) {
+        "nothing is ever proposed for it"
+    } else if !is_blank(&given) {
+        "it is given already"
+    } else if Sheet::try_from(sheet).is_ok_and(|sheet| is_blank(&sheet)) {
+        "the proposed sheet has none for it"
+    } else if revision(draft, field) == Some(u32::MAX) {
+        "its revision is the greatest, so that none can follow"
+    } else {
+        "the reason is not known"
+    }
+}
+
+/// A field's revision in a draft.
+fn revision(draft: &[u8], field: u8) -> Option<u32> {
+    let mut slots = draft.chunks_exact(DRAFT_SLOT_SIZE).zip(FIELDS);
+    let (slot, _) = slots.find(|&(_, listed)| listed == field)?;
+    slot.first_chunk().copied().map(u32::from_be_bytes)
 }
 
 /// What words are by: the order's date, the record, and the statuses that are allowed.
@@ -319,5 +365,7 @@ mod tests {
         let broken = Broken { field: 1, rule: 36 };
         let expected = "rule 36 in field 1 (not listed): no rule has this number";
         assert_eq!(wording.sentence(broken), expected);
+        let taken_up = not_taken_up(&[], &[], refusal);
+        assert!(taken_up.ends_with("taking up never answers 77."));
     }
 }

@@ -1,4 +1,5 @@
-//! An order as a person writes it, turned into messages, and these into a draft.
+//! An order as a person writes it, turned into messages, and these into a draft; and the
+//! lines of values that are taken up from what is proposed to it.
 //!
 //! A line is `FIELD REVISION TEXT`, in UTF-8, with one space between the items.
 //! The text is the rest of the line: it may contain spaces, and may be empty or
@@ -7,11 +8,15 @@
 #![forbid(unsafe_code)]
 #![warn(missing_docs)]
 
+mod take;
 mod windows1251;
 
 use std::fmt;
+use std::path::Path;
 
 use kieselbrot::{Date, Refusal, DRAFT_SIZE, FIELDS, MESSAGE_MAX, TEXT_MAX};
+
+pub use take::{take_up, Line};
 
 /// As many bytes of messages as the program budgetorder reads.
 pub const ORDER_MAX: usize = 32_768;
@@ -81,6 +86,28 @@ pub struct WrongLine {
     pub number: usize,
     /// What is wrong with it.
     pub mistake: Mistake,
+}
+
+/// The wrong lines of a file, each with its number and what is wrong.
+#[must_use]
+pub fn shown(path: &Path, wrong: &[WrongLine]) -> String {
+    let name = path.display();
+    let lines: Vec<String> = wrong
+        .iter()
+        .map(|line| format!("{name}:{}: {}", line.number, line.mistake))
+        .collect();
+    lines.join("\n")
+}
+
+/// The listed field that an item writes.
+///
+/// # Errors
+///
+/// [`Mistake::Field`].
+pub fn field(item: &str) -> Result<u8, Mistake> {
+    let listed = number(item).and_then(|number| u8::try_from(number).ok());
+    let listed = listed.filter(|number| FIELDS.contains(number));
+    listed.ok_or_else(|| Mistake::Field(item.to_owned()))
 }
 
 /// The messages of an order, end to end.

@@ -30,11 +30,5 @@ fn fail(error: &str) -> ExitCode {
 fn messages(path: &Path) -> Result<Vec<u8>, String> {
     let name = path.display();
     let order = fs::read(path).map_err(|error| format!("{name}: {error}"))?;
-    order::messages(&order).map_err(|wrong| {
-        let lines: Vec<String> = wrong
-            .iter()
-            .map(|line| format!("{name}:{}: {}", line.number, line.mistake))
-            .collect();
-        lines.join("\n")
-    })
+    order::messages(&order).map_err(|wrong| order::shown(path, &wrong))
 }

@@ -24,6 +24,20 @@ fn byte(character: char) -> Option<u8> {
     }
 }
 
+/// The character of a byte; 98 has none but the replacement character.
+fn character(byte: u8) -> char {
+    match byte {
+        0..0x80 => char::from(byte),
+        0x80..0xC0 => UPPER[usize::from(byte - 0x80)],
+        0xC0.. => char::from_u32(u32::from('А') + u32::from(byte - 0xC0)).unwrap_or(NONE),
+    }
+}
+
+/// The text of bytes.
+pub fn text(bytes: &[u8]) -> String {
+    bytes.iter().copied().map(character).collect()
+}
+
 /// The bytes of a text, or its first character that has none.
 pub fn bytes(text: &str) -> Result<Vec<u8>, char> {
     text.chars()
@@ -40,6 +54,15 @@ mod tests {
         let mut bytes: Vec<u8> = ('\0'..=char::MAX).filter_map(byte).collect();
         bytes.sort_unstable();
         assert!((0..=u8::MAX).filter(|&byte| byte != 0x98).eq(bytes));
+    }
+
+    #[test]
+    fn a_bytes_character_has_that_byte() {
+        for number in (0..=u8::MAX).filter(|&number| number != 0x98) {
+            assert_eq!(byte(character(number)), Some(number));
+        }
+        assert_eq!(text(&[0x98]), "\u{FFFD}");
+        assert_eq!(text(b"\xD2\xC4 \xB9 00"), "ТД № 00");
     }
 
     #[test]

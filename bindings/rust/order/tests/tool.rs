@@ -92,6 +92,119 @@ fn a_wrong_line_gets_its_number_and_nothing_is_written() {
     assert!(removed.is_ok());
 }
 
+/// What `take` answers for these items.
+fn take(path: impl AsRef<Path>, items: &[&str]) -> Output {
+    Command::new(env!("CARGO_BIN_EXE_take"))
+        .arg(path.as_ref())
+        .args(items)
+        .output()
+        .expect("the tool runs")
+}
+
+/// A file to try, removed when it is dropped.
+struct Try(PathBuf);
+
+impl Try {
+    fn new(name: &str, content: &[u8]) -> Self {
+        let name = format!("kieselbrot-{name}-{}.txt", std::process::id());
+        let path = env::temp_dir().join(name);
+        fs::write(&path, content).expect("a file to try");
+        Self(path)
+    }
+}
+
+impl Drop for Try {
+    fn drop(&mut self) {
+        let _ = fs::remove_file(&self.0);
+    }
+}
+
+/// A sample with "0" in 60 and 102, which is completed at count 97; these lines behind it.
+fn unnamed(lines: &str) -> Vec<u8> {
+    let order = fs::read_to_string(sample("order", "txt")).expect("a sample");
+    (order + "60 9 0\n102 9 0\n" + lines).into_bytes()
+}
+
+#[test]
+fn lines_are_taken_up() {
+    let completed = |order: &[u8]| {
+        let mut sheet = [0; kieselbrot::SHEET_SIZE];
+        let draft = order::draft(&order::messages(order).expect("an order"));
+        let answer = kieselbrot::complete(&draft, &mut sheet, order::ORDER_DATE, Record::GIVEN);
+        (answer.expect("it is completed").count, sheet)
+    };
+    // With and without an end of the last line; 101 and 106 were blanked with revision 2.
+    for lines in ["", "22 1"] {
+        let order = unnamed(lines);
+        let (count, sheet) = completed(&order);
+        assert_eq!(count, 97);
+        let file = Try::new("take", &order);
+        let output = take(&file.0, &["106", "101"]);
+        assert!(output.status.success());
+        assert!(output.stderr.is_empty());
+        let end = if lines.is_empty() { "" } else { "\n" };
+        let expected = format!("{end}101 3 04\n106 3 0\n");
+        assert_eq!(String::from_utf8(output.stdout), Ok(expected.clone()));
+        let taken = [&order[..], expected.as_bytes()].concat();
+        assert_eq!(completed(&taken), (1, sheet));
+        // What was taken up is given now.
+        let file = Try::new("taken", &taken);
+        let error = fails(take(&file.0, &["106"]));
+        assert!(error.contains("Field 106 (basis) can't take up a value: it is given already."));
+    }
+}
+
+/// Nothing is written, and this is the error.
+#[track_caller]
+fn fails(output: Output) -> String {
+    assert_eq!(output.status.code(), Some(1));
+    assert!(output.stdout.is_empty());
+    String::from_utf8(output.stderr).expect("UTF-8")
+}
+
+#[test]
+fn what_is_not_taken_up_has_its_reason() {
+    let file = Try::new("reasons", &unnamed(""));
+    let error = fails(take(&file.0, &["101", "61"]));
+    let expected = format!(
+        "{}: Field 61 (recipient's INN) can't take up a value: nothing is ever proposed for \
+         it.\n",
+        file.0.display()
+    );
+    assert_eq!(error, expected);
+    for item in ["16", "x", "", "+101", "101,106", "1010"] {
+        let error = fails(take(&file.0, &["101", item]));
+        let expected = format!("\"{item}\" is no field; the fields are 14 15 ");
+        assert!(error.starts_with(&expected), "{error}");
+    }
+    let greatest = Try::new("greatest", &unnamed("101 4294967295"));
+    let error = fails(take(&greatest.0, &["101"]));
+    assert!(error.contains("its revision is the greatest"), "{error}");
+    let error = fails(take(sample("hopeless", "txt"), &["101"]));
+    assert!(error.contains("This order can't be completed: none of its 1,056 fillings"));
+    let wrong = Try::new("wrong", b"14 1 004525987\n16 1 x\n");
+    let error = fails(take(&wrong.0, &["101"]));
+    assert!(error.contains(":2: \"16\" is no field; "), "{error}");
+    let error = fails(take("no such order.txt", &["101"]));
+    assert!(error.starts_with("no such order.txt: "), "{error}");
+    assert_eq!(fails(take(&file.0, &[])), "usage: take FILE FIELD ..\n");
+}
+
+/// With the lines the order would be longer than the program reads.
+#[test]
+fn an_order_that_gets_too_long() {
+    let order = unnamed("");
+    let room = order::ORDER_MAX - order::messages(&order).expect("an order").len();
+    // A blank of field 22 has eight bytes, the line to take up ten.
+    let blanks = "22 1\n".repeat(room / 8);
+    let file = Try::new("long", &unnamed(&blanks));
+    let error = fails(take(&file.0, &["101"]));
+    assert!(
+        error.contains("with this line the order is longer"),
+        "{error}"
+    );
+}
+
 #[test]
 fn a_missing_file_is_named() {
     let output = order("no such order.txt");

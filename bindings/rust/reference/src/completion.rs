@@ -104,7 +104,7 @@ const fn list(field: Field) -> &'static [&'static [u8]] {
 }
 
 /// Whether a filling fills this field: a "blank field that has a list".
-fn is_open(given: &Sheet<'_>, field: Field) -> bool {
+pub(crate) fn is_open(given: &Sheet<'_>, field: Field) -> bool {
     given[field].is_empty() && !list(field).is_empty()
 }
 

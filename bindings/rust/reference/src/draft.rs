@@ -41,6 +41,11 @@ impl Revision {
             Ordering::Less => Ok(Posted::Older),
         }
     }
+
+    /// The revision after this one; the greatest has none.
+    fn after(self) -> Option<u32> {
+        self.0.checked_add(1)
+    }
 }
 
 /// A slot of a draft, as read.
@@ -96,6 +101,13 @@ pub(crate) fn sheet_of(draft: &[u8]) -> Result<Sheet<'_>, Refusal> {
         sheet[field] = slot.text;
     }
     Ok(sheet)
+}
+
+/// The revision after each slot's, if there is one. Refusal 1 if the draft is
+/// malformed.
+pub(crate) fn revisions_after(draft: &[u8]) -> Result<[Option<u32>; FIELDS], Refusal> {
+    let Draft(slots) = Draft::parse(draft)?;
+    Ok(slots.map(|slot| slot.revision.after()))
 }
 
 /// Makes a draft fresh: "all zero", whatever it held.

@@ -1,7 +1,7 @@
 //! Budget payment orders under 107n: field messages, the draft, the rules,
-//! completion, the test ahead of it and a quick search, the message writer, the
-//! report of one program, the bank's charge, the part of a year, the register of an
-//! order and the payments that leave first.
+//! completion, the test ahead of it and a quick search, taking up part of a
+//! proposal, the message writer, the report of one program, the bank's charge, the
+//! part of a year, the register of an order and the payments that leave first.
 //!
 //! This is a second implementation of the paper "Budget payment orders under
 //! 107n: draft, check and completion" and its change requests, which shares no
@@ -12,6 +12,8 @@
 //! up part of a proposal, a claim about completion and posting as they are), R-10
 //! (the bank's charge), R-11 (part of a year), R-12 (status 15 with its register),
 //! R-13 (which payments leave first) and R-14 (passing over a status whole).
+//! R-9 names no function; [`take_up`] and refusal 20 are added to it and stated
+//! where they stand.
 //!
 //! Every public function is total, and "Refusals change no buffer".
 
@@ -33,6 +35,7 @@ mod refusal;
 mod register;
 mod rules;
 mod sheet;
+mod take_up;
 
 pub use charge::charge;
 pub use completion::{complete, Completed};
@@ -47,3 +50,4 @@ pub use quick::{quick, Quick};
 pub use refusal::{Broken, Refusal};
 pub use register::pool;
 pub use rules::{check, statuses, Class};
+pub use take_up::take_up;

@@ -13,6 +13,9 @@ const LENGTH_SIZE: usize = 2;
 /// Version, field and revision: "the text, L - 6 bytes".
 const HEADER_SIZE: usize = 6;
 
+/// The bytes of the longest message.
+pub(crate) const MESSAGE_MAX: usize = LENGTH_SIZE + HEADER_SIZE + TEXT_MAX;
+
 /// A message as read: "field, revision and the text, as a part of the caller's
 /// message".
 #[derive(Clone, Copy, Debug, PartialEq, Eq, Hash)]

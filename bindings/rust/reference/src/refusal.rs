@@ -37,7 +37,7 @@ pub enum Refusal {
     /// 6: "equal revision, other text".
     Clash,
     /// 7: "output: a sheet not of 390, a message buffer too short"; "an output of
-    /// fewer than 500 places".
+    /// fewer than 500 places"; a proposed sheet not of 390.
     Output,
     /// 8: "a broken rule; in completion only 1 to 3".
     Broken {
@@ -74,6 +74,13 @@ pub enum Refusal {
     Queue,
     /// 19: "two equal arrival numbers, after 18".
     EqualArrivals,
+    /// 20: a slot of the set that can't be taken up. Its bit is no slot's, its field
+    /// has no list, it is not blank in the draft, the proposed sheet is blank there,
+    /// or its revision is the greatest.
+    NotTakenUp {
+        /// The number of the field in the lowest such slot; 0 for bit 15.
+        field: u8,
+    },
 }
 
 impl Refusal {
@@ -98,6 +105,7 @@ impl Refusal {
             Self::Discrepancy { .. } => 17,
             Self::Queue => 18,
             Self::EqualArrivals => 19,
+            Self::NotTakenUp { .. } => 20,
         }
     }
 }
@@ -110,6 +118,7 @@ impl fmt::Display for Refusal {
             Self::Broken { field, rule } => write!(f, " {field} {rule}"),
             Self::NoFilling { count } => write!(f, " {count}"),
             Self::Discrepancy { difference } => write!(f, " {difference}"),
+            Self::NotTakenUp { field } => write!(f, " {field}"),
             _ => Ok(()),
         }
     }

@@ -13,6 +13,9 @@ pub(crate) type SheetSlot = [u8; 1 + TEXT_MAX];
 /// "A sheet has 390 bytes, slot i at 26 × i".
 type SheetSlots = [SheetSlot; FIELDS];
 
+/// "A sheet has 390 bytes".
+pub(crate) const SHEET_SIZE: usize = size_of::<SheetSlots>();
+
 /// The fifteen texts of a sheet, in slot order.
 #[derive(Clone, Copy, Debug, PartialEq, Eq)]
 pub(crate) struct Sheet<'a>([&'a [u8]; FIELDS]);

@@ -11,3 +11,4 @@ mod r3;
 mod r4;
 mod r5;
 mod r7;
+mod r9;

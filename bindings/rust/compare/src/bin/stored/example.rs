@@ -17,6 +17,9 @@ pub enum Kind {
     CompleteAt,
     /// Complete it quickly.
     QuickAt,
+    /// Complete it, take up the values of the set between dates and messages, and complete
+    /// it again.
+    TakeUpAt,
     /// Read a message.
     Message,
     /// Report on an input of the program `budgetorder`.
@@ -30,6 +33,7 @@ impl Kind {
             Self::CheckAt => b'd',
             Self::CompleteAt => b'o',
             Self::QuickAt => b'q',
+            Self::TakeUpAt => b't',
             Self::Message => b'm',
             Self::Report => b'r',
         }
@@ -50,6 +54,12 @@ impl Kind {
             Self::QuickAt => {
                 let (dates, messages) = dated(bytes);
                 line(quickened(messages, dates))
+            }
+            Self::TakeUpAt => {
+                let (dates, rest) = dated(bytes);
+                let (set, messages) = rest.split_at(2);
+                let set = u16::from_be_bytes([set[0], set[1]]);
+                line(taken_up(messages, set, dates))
             }
             Self::Message => line(message_read(bytes)),
             Self::Report => report(bytes),
@@ -97,6 +107,28 @@ fn quickened(messages: &[u8], dates: Dates) -> Vec<u8> {
     match completed {
         Ok(_) | Err(Refusal::NoFilling { .. }) => [line, format!(" {skipped}").into()].concat(),
         Err(_) => line,
+    }
+}
+
+/// A set as bytes ahead of messages.
+pub fn with_set(set: u16, messages: &[u8]) -> Vec<u8> {
+    [&set.to_be_bytes(), messages].concat()
+}
+
+/// `ok` and the line of completing again for the values of a set, taken up from the sheet
+/// that completion left, or the refusal's number and what it returns. Where completion is
+/// refused, the sheet is blank.
+fn taken_up(messages: &[u8], set: u16, dates: Dates) -> Vec<u8> {
+    let mut draft = posted(messages);
+    let mut sheet: Sheet = [0; 390];
+    let _ = Reference.complete(&draft, &mut sheet, dates);
+    match Reference.take_up(&mut draft, &sheet, set) {
+        Ok(()) => {
+            let mut again: Sheet = [0; 390];
+            let completed = Reference.complete(&draft, &mut again, dates);
+            [b"ok ".to_vec(), completion(completed, &again)].concat()
+        }
+        Err(refusal) => refusal.to_string().into_bytes(),
     }
 }
 
@@ -217,6 +249,7 @@ mod tests {
         assert_eq!(letter(Kind::CheckAt), [b'd', 0, 0]);
         assert_eq!(letter(Kind::CompleteAt), [b'o', 0, 0]);
         assert_eq!(letter(Kind::QuickAt), [b'q', 0, 0]);
+        assert_eq!(letter(Kind::TakeUpAt), [b't', 0, 0]);
     }
 
     #[test]
@@ -224,5 +257,6 @@ mod tests {
         let bytes = with_dates(Dates::PROGRAM, b"ab");
         assert_eq!(bytes[..5], [0x01, 0x34, 0xD6, 0xE5, 0x01]);
         assert_eq!(dated(&bytes), (Dates::PROGRAM, &b"ab"[..]));
+        assert_eq!(with_set(0x0102, b"ab"), [1, 2, b'a', b'b']);
     }
 }

@@ -16,6 +16,7 @@ mod messages;
 mod quick;
 mod reports;
 mod sheets;
+mod take_up;
 
 use example::Example;
 
@@ -44,6 +45,7 @@ fn all() -> Vec<Example> {
         reports::all(),
         dates::all(),
         quick::all(),
+        take_up::all(),
     ]
     .concat()
 }
