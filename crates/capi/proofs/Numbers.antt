@@ -50,13 +50,16 @@ use Rattle.registers.specs.declared.pool.Pooled.{Pooled}
 use Rattle.payments.specs.Leave.{leaveTests, leaving, leaveAnswer, Leaves}
 use Rattle.payments.specs.declared.leave.Leaving.{Leaving}
 use Rattle.registers.specs.declared.pool.Pooled.the-variants.{Differs}
+use Rattle.swift.specs.Promises.{readTests as lineReadTests, readAnswer as linesReadAnswer, readingLines, ReadsLines, lineTests, writtenAnswer as linesWrittenAnswer, writingLines, WritesLines}
+use Rattle.swift.specs.declared.read.LinesRead.{LinesRead}
+use Rattle.swift.specs.declared.write.LinesWritten.{LinesWritten}
 use Rattle.orders.specs.declared.complete.Completed.{Completed}
 use Rattle.orders.specs.declared.complete.Completed.the-variants.{Filled, Impossible, Broken, Refused}
 use Rattle.sheets.specs.declared.sheet.Field.{Field}
 use Rattle.rules.specs.declared.rules.RuleNumber.{RuleNumber}
 use Rattle.texts.specs.declared.answers.Refusal.{Refusal}
-use Rattle.capi.specs.Numbers.{numbered, numberAnswer, checkNumbers, checkOf, readNumbers, readOf, writeNumbers, writeOf, postNumbers, wordOf, postOf, completeNumbers, completeOf, takeNumbers, takeOf, pretestNumbers, pretestOf, chargeNumbers, chargeOf, partNumbers, partOf, poolNumbers, poolOf, leaveNumbers, leaveOf}
-use Rattle.capi.specs.Promises.{CheckReturns, ReadReturns, WriteReturns, FreshReturns, PostReturns, CopyReturns, CompleteReturns, TakeUpReturns, PretestReturns, ChargeReturns, PartReturns, SharesReturns, PoolReturns, LeaveReturns}
+use Rattle.capi.specs.Numbers.{numbered, numberAnswer, checkNumbers, checkOf, readNumbers, readOf, writeNumbers, writeOf, postNumbers, wordOf, postOf, completeNumbers, completeOf, takeNumbers, takeOf, pretestNumbers, pretestOf, chargeNumbers, chargeOf, partNumbers, partOf, poolNumbers, poolOf, leaveNumbers, leaveOf, linesNumbers, linesFrom}
+use Rattle.capi.specs.Promises.{CheckReturns, ReadReturns, WriteReturns, FreshReturns, PostReturns, CopyReturns, CompleteReturns, TakeUpReturns, PretestReturns, ChargeReturns, PartReturns, SharesReturns, PoolReturns, LeaveReturns, WriteLinesReturns, ReadLinesReturns}
 use Rattle.capi.specs.declared.Check.{Check}
 use Rattle.capi.specs.declared.Read.{Read}
 use Rattle.capi.specs.declared.Write.{Write}
@@ -68,6 +71,7 @@ use Rattle.capi.specs.declared.Charge.{Charge}
 use Rattle.capi.specs.declared.Part.{Part}
 use Rattle.capi.specs.declared.Pool.{Pool}
 use Rattle.capi.specs.declared.Leave.{Leave}
+use Rattle.capi.specs.declared.Lines.{Lines}
 
 -- ---- reading an answer back
 
@@ -171,6 +175,14 @@ pool-back t a o = tested (Back poolNumbers poolOf) (poolTests t a o) _ refl (ref
 leave-back : (b : ℕ) (ps ns ks : List ℕ) → Back leaveNumbers leaveOf (leaving b ps ns ks)
 unfolding leaving leaveTests leaveNumbers leaveOf numbered
 leave-back b ps ns ks = tested (Back leaveNumbers leaveOf) (leaveTests b ps ns ks) _ refl (search depth 12)
+
+lines-back : (D : Dates) (s o : List ℕ) → Back linesNumbers linesFrom (writingLines D s o)
+unfolding writingLines lineTests checkTests linesNumbers linesFrom numbered
+lines-back D s o = tested (Back linesNumbers linesFrom) (lineTests D s o) _ refl (search depth 12)
+
+lines-read-back : (b o : List ℕ) → Back numberOf numberAnswer (readingLines b o)
+unfolding readingLines lineReadTests numberAnswer numbered
+lines-read-back b o = tested (Back numberOf numberAnswer) (lineReadTests b o) _ refl (search depth 12)
 
 -- ---- what each function returned: v is what it called, and k the case of v in an arm
 
@@ -287,3 +299,11 @@ differs-is t a o v x w d e r q = pooled-is t a o v x w (Differs d) e r (q ∙ (�
 module _ (b : ℕ) (ps ns ks o : List ℕ) (v : Leaving) (x : List ℕ) (w : Leaves b ps ns ks o v x) (k : Leaving) (e : v ≡ k) (r : Leave) (q : r ≡ leaveNumbers (leaveAnswer k)) where
   pub left-is : LeaveReturns b ps ns ks o r x
   left-is = record { numbers = cc; answer = cc (leave-back b ps ns ks); places = w .places }
+
+module _ (D E : Dates) (z : E ≡ D) (s o : List ℕ) (v : LinesWritten) (x : List ℕ) (w : WritesLines E s o v x) (k : LinesWritten) (e : v ≡ k) (r : Lines) (q : r ≡ linesNumbers (linesWrittenAnswer k)) where
+  pub lines-written-is : WriteLinesReturns D s o r x
+  lines-written-is = record { numbers = cc; answer = cc (lines-back D s o); buffer = cc (w .buffer) }
+
+module _ (b o : List ℕ) (v : LinesRead) (x : List ℕ) (w : ReadsLines b o v x) (k : LinesRead) (e : v ≡ k) (r : ℕ) (q : r ≡ numberOf (linesReadAnswer k)) where
+  pub lines-read-is : ReadLinesReturns b o r x
+  lines-read-is = record { numbers = cc; answer = cc (lines-read-back b o); sheet = w .sheet }

@@ -24,6 +24,7 @@ use Rattle.capi.specs.declared.Charge.{Charge}
 use Rattle.capi.specs.declared.Part.{Part}
 use Rattle.capi.specs.declared.Pool.{Pool}
 use Rattle.capi.specs.declared.Leave.{Leave}
+use Rattle.capi.specs.declared.Lines.{Lines}
 
 -- number 0 is success, which returns vs; another number is a refusal, with ws beside it
 unfoldable pub numbered : ℕ → List ℕ → List ℕ → Answer
@@ -143,3 +144,11 @@ leaveNumbers (refusal n vs) = record { number = n; paid = 0; sum = 0; left = 0 }
 
 unfoldable pub leaveOf : Leave → Answer
 leaveOf r = numbered (r .number) (r .paid ∷ r .sum ∷ r .left ∷ []) []
+
+-- the length of the lines; number 8 has the field and the rule beside it
+unfoldable pub linesNumbers : Answer → Lines
+linesNumbers (success vs) = record { number = 0; field = 0; rule = 0; length = getD vs 0 0 }
+linesNumbers (refusal n vs) = record { number = n; field = getD vs 0 0; rule = getD vs 1 0; length = 0 }
+
+unfoldable pub linesFrom : Lines → Answer
+linesFrom r = numbered (r .number) (r .length ∷ []) (cond (eqb (r .number) 8) (r .field ∷ r .rule ∷ []) [])

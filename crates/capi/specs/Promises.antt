@@ -20,7 +20,8 @@ use Rattle.amounts.specs.Part.{parting}
 use Rattle.amounts.specs.Shares.{sharing, sharedTo}
 use Rattle.registers.specs.Pool.{pooling, pooledTo}
 use Rattle.payments.specs.Leave.{leaving, leftIn}
-use Rattle.capi.specs.Numbers.{numberAnswer, checkNumbers, checkOf, readNumbers, readOf, writeNumbers, writeOf, postNumbers, postOf, completeNumbers, completeOf, takeNumbers, takeOf, pretestNumbers, pretestOf, chargeNumbers, chargeOf, partNumbers, partOf, poolNumbers, poolOf, leaveNumbers, leaveOf}
+use Rattle.swift.specs.Promises.{readingLines, sheetRead, writingLines, linesInto}
+use Rattle.capi.specs.Numbers.{numberAnswer, checkNumbers, checkOf, readNumbers, readOf, writeNumbers, writeOf, postNumbers, postOf, completeNumbers, completeOf, takeNumbers, takeOf, pretestNumbers, pretestOf, chargeNumbers, chargeOf, partNumbers, partOf, poolNumbers, poolOf, leaveNumbers, leaveOf, linesNumbers, linesFrom}
 use Rattle.capi.specs.declared.Check.{Check}
 use Rattle.capi.specs.declared.Read.{Read}
 use Rattle.capi.specs.declared.Write.{Write}
@@ -32,6 +33,7 @@ use Rattle.capi.specs.declared.Charge.{Charge}
 use Rattle.capi.specs.declared.Part.{Part}
 use Rattle.capi.specs.declared.Pool.{Pool}
 use Rattle.capi.specs.declared.Leave.{Leave}
+use Rattle.capi.specs.declared.Lines.{Lines}
 
 -- checking the sheet s at the dates D returned r
 pub record CheckReturns (D : Dates) (s : List ℕ) (r : Check) : Type 0 where
@@ -114,3 +116,15 @@ pub record LeaveReturns (b : ℕ) (ps ns ks o : List ℕ) (r : Leave) (e : List 
   pub numbers : r ≡ leaveNumbers (leaving b ps ns ks)
   pub answer : leaveOf r ≡ leaving b ps ns ks
   pub places : e ≡ leftIn b ps ns ks o
+
+-- writing the lines of the sheet s at the dates D to the buffer o returned r and left e
+pub record WriteLinesReturns (D : Dates) (s o : List ℕ) (r : Lines) (e : List ℕ) : Type 0 where
+  pub numbers : r ≡ linesNumbers (writingLines D s o)
+  pub answer : linesFrom r ≡ writingLines D s o
+  pub buffer : e ≡ linesInto D s o
+
+-- reading the block b into the buffer o returned the number r and left e
+pub record ReadLinesReturns (b o : List ℕ) (r : ℕ) (e : List ℕ) : Type 0 where
+  pub numbers : r ≡ numberOf (readingLines b o)
+  pub answer : numberAnswer r ≡ readingLines b o
+  pub sheet : e ≡ sheetRead b o

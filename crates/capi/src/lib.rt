@@ -1,5 +1,5 @@
 // The library for C and for what links like C. Each function forwards to a proved one, and gives document 01's numbers.
-ghost use Rattle.capi.specs.Promises.{CheckReturns, ReadReturns, WriteReturns, FreshReturns, PostReturns, CopyReturns, CompleteReturns, TakeUpReturns, PretestReturns, ChargeReturns, PartReturns, SharesReturns, PoolReturns, LeaveReturns};
+ghost use Rattle.capi.specs.Promises.{CheckReturns, ReadReturns, WriteReturns, FreshReturns, PostReturns, CopyReturns, CompleteReturns, TakeUpReturns, PretestReturns, ChargeReturns, PartReturns, SharesReturns, PoolReturns, LeaveReturns, WriteLinesReturns, ReadLinesReturns};
 ghost use mathlib.Core.Path.{_≡_};
 ghost use Rattle.sheets.specs.declared.dates.Dates.{Dates};
 ghost use Rattle.capi.specs.Numbers.{datesOf};
@@ -26,6 +26,8 @@ use rules::class::Class;
 use sheets::dates::Date;
 use sheets::dates::Dates;
 use sheets::sheet::Field;
+use swift::read::LinesRead;
+use swift::write::LinesWritten;
 
 #[repr(C)]
 pub struct Check {
@@ -65,6 +67,14 @@ pub struct Complete {
     pub ones: u32,
     pub count: usize,
     pub skipped: usize,
+}
+
+#[repr(C)]
+pub struct Lines {
+    pub number: u8,
+    pub field: u8,
+    pub rule: u8,
+    pub length: usize,
 }
 
 #[repr(C)]
@@ -368,6 +378,49 @@ pub extern "C" fn kieselbrot_pretest(draft: &[u8]) -> Pretest
             field: 0,
             rule: 0,
         },
+    }
+}
+
+#[no_mangle]
+pub extern "C" fn kieselbrot_write_lines(
+    sheet: &[u8],
+    date: u32,
+    entries: Record,
+    buffer: &mut [u8],
+) -> Lines
+    ensures { λ r. ⌜ WriteLinesReturns (datesOf date entries) (now (sheet .entry)) (now (buffer .entry)) r (now (buffer .exit)) ⌝ }
+{
+    let v = swift::write::write_lines(sheet, dates_of(date, entries), buffer);
+    match v {
+        LinesWritten::Lines(size) => Lines {
+            number: 0,
+            field: 0,
+            rule: 0,
+            length: size,
+        },
+        LinesWritten::Broken(f, r) => Lines {
+            number: 8,
+            field: f.0,
+            rule: r.0,
+            length: 0,
+        },
+        LinesWritten::Refused(n) => Lines {
+            number: n.0,
+            field: 0,
+            rule: 0,
+            length: 0,
+        },
+    }
+}
+
+#[no_mangle]
+pub extern "C" fn kieselbrot_read_lines(block: &[u8], sheet: &mut [u8]) -> u8
+    ensures { λ r. ⌜ ReadLinesReturns (now (block .entry)) (now (sheet .entry)) r (now (sheet .exit)) ⌝ }
+{
+    let v = swift::read::read_lines(block, sheet);
+    match v {
+        LinesRead::Filled => 0,
+        LinesRead::Refused(n) => n.0,
     }
 }
 

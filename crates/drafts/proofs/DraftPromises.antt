@@ -19,7 +19,7 @@ use Rattle.texts.proofs.Bools.{cases, both}
 use Rattle.texts.proofs.Codes.{same-true, same-self}
 use Rattle.texts.specs.Numbers.{Bytes, bytesOf}
 use Rattle.texts.specs.Buffers.{put, putAt, zeroed}
-use Rattle.texts.proofs.Puts.{put-fits, length-put, put-none, put-next, put-whole}
+use Rattle.texts.proofs.Puts.{put-fits, length-put, put-none, put-next, put-whole, put-zeros}
 use Rattle.sheets.specs.Sheet.{slotCount, textMax, cellSize, sheetSize, cell, slotOf}
 use Rattle.sheets.specs.declared.sheet.Field.{Field}
 use Rattle.texts.specs.Answers.{Answer, success, refusal, numberOf, passes, answerBy, bufferBy}
@@ -53,10 +53,6 @@ pub stand-is : (r h : ℕ) (b x y z : Bool) (s : Comparison) → ltb h r ≡ x �
 stand-is r h b x y z s p q w e = rw (p, q, w) e
 
 -- ---- the bytes of a slot
-
-put-zeros : (s : List ℕ) (n k : ℕ) → length s ≡ n → put (replicate (n + k) 0) 0 s ≡ s ++ replicate k 0
-unfolding put
-put-zeros s n k e = rw (zero-add, e, ← replicate-append-replicate {A = ℕ} n k 0, drop-at {A = ℕ} (replicate n 0) (replicate k 0) n (length-replicate {A = ℕ} n 0))
 
 -- the text begins behind the cell's length, a byte
 pub slot-made : (r : ℕ) (t d x y : List ℕ) → length t ≤ textMax → d ≡ bytesOf revisionSize r

@@ -9,9 +9,9 @@ use lib.Dec.{leb}
 use lib.ListN.{length, take, length-append}
 use lib.Seq.{take-at}
 use Rattle.texts.specs.Quoted.{Text, bytes}
-use Rattle.texts.specs.Buffers.{put}
+use Rattle.texts.specs.Buffers.{put, Wrote}
 use Rattle.texts.specs.Answers.{Answer, success, refusal}
-use Rattle.texts.proofs.Puts.{put-none, put-put, mid-put}
+use Rattle.texts.proofs.Puts.{put-none, put-put, mid-put, wrote-as, wrote-then}
 use Rattle.sheets.specs.Sheet.{slots}
 use Rattle.rules.specs.declared.rules.RuleNumber.{RuleNumber}
 use Rattle.sheets.specs.declared.sheet.Field.{Field}
@@ -28,11 +28,11 @@ use Rattle.orders.specs.R7.{completingBefore, completedBefore}
 use Rattle.orders.proofs.Dated.{as-before-completed}
 use Rattle.orders.specs.declared.complete.Completed.{Completed}
 use Rattle.orders.specs.declared.complete.Completed.the-variants.{Filled, Impossible, Broken, Refused}
-use Rattle.report.specs.Lines.{decimal, item, space, newline, Wrote}
+use Rattle.report.specs.Lines.{decimal, item, space, newline}
 use Rattle.orders.specs.Stream.{messagesOf}
 use Rattle.report.specs.Report.{messageLine, fieldLines, endLines, noSheet, ending, reportFrom, reportOf, reportFromBefore, reportBefore, reported, Reports}
 use Rattle.report.specs.Working.Told.{Told}
-use Rattle.report.proofs.Writing.{wrote-as, number-as, wrote-then}
+use Rattle.report.proofs.Writing.{number-as}
 
 -- complete_draft
 pub at-program : (D : Dates) (d b : List ℕ) (r : Completed) (t : List ℕ) → D ≡ programDates → Completes D d b r t → Completes programDates d b r t

@@ -12,9 +12,9 @@ use lib.ListN.{length, getD, take, drop, take-append-drop, drop-of-length-le, le
 use lib.Seq.{drop-cons, drop-drop}
 use Rattle.texts.specs.Quoted.{Text}
 use Rattle.texts.specs.Texts.{between}
-use Rattle.texts.specs.Buffers.{put}
+use Rattle.texts.specs.Buffers.{put, Wrote}
 use Rattle.texts.specs.Answers.{Answer, success, refusal, numberOf}
-use Rattle.texts.proofs.Puts.{put-none}
+use Rattle.texts.proofs.Puts.{put-none, wrote-as, wrote-then}
 use Rattle.sheets.specs.Sheet.{slots}
 use Rattle.drafts.specs.Message.{lengthOf, readTests, readingOf}
 use Rattle.drafts.specs.Draft.{freshDraft, postingOf, postedTo, postAnswer}
@@ -23,10 +23,8 @@ use Rattle.drafts.specs.declared.draft.Posted.{Posted}
 use Rattle.fillings.specs.Working.Places.{places}
 use Rattle.orders.specs.Stream.{pieceOf, endsStream, messagesOf}
 use Rattle.orders.proofs.Streaming.{messages-none, messages-next, rest-is, first-is, some}
-use Rattle.report.specs.Lines.{Wrote}
 use Rattle.report.specs.Report.{messageLine, fieldLine, fieldLines, ending, reportFrom, reportOf}
 use Rattle.report.specs.Working.Told.{Told}
-use Rattle.report.proofs.Writing.{wrote-as, wrote-then}
 
 -- ---- the lines of the fields
 

@@ -9,14 +9,15 @@ use lib.ListN.{length, getD, take, drop, length-append, length-take, length-drop
 use lib.Seq.{take-all}
 use Rattle.texts.specs.Quoted.{Text, bytes}
 use Rattle.texts.specs.Texts.{between, blank}
-use Rattle.texts.specs.Buffers.{put, putAt}
-use Rattle.texts.proofs.Puts.{put-fits, put-put, length-put}
+use Rattle.texts.specs.Buffers.{put, putAt, Wrote}
+use Rattle.texts.proofs.Puts.{put-fits, put-put, length-put, wrote-as, wrote-then}
 use Rattle.sheets.specs.Sheet.{fieldIn, cellText, cellOf, textOf}
+use Rattle.sheets.proofs.Frames.{text-short}
 use Rattle.drafts.specs.Draft.{postAnswer}
 use Rattle.texts.specs.declared.answers.Refusal.{Refusal}
 use Rattle.drafts.specs.declared.draft.Posted.{Posted}
 use Rattle.drafts.specs.declared.draft.Posted.the-variants as posted
-use Rattle.report.specs.Lines.{decimal, item, space, newline, line, Wrote}
+use Rattle.report.specs.Lines.{decimal, item, space, newline, line}
 use Rattle.report.specs.Report.{shown, messageLine, fieldLine}
 use Rattle.report.proofs.Decimals.{decimal-short}
 
@@ -34,19 +35,9 @@ item-put b at t x c e h p q =
       omega (arith, length-append t (x ∷ [])),
     )
 
--- the same text, and the same number, by another name
-pub wrote-as : (b e : List ℕ) (at r : ℕ) (t u : Text) → t ≡ u → Wrote b at t r e → Wrote b at u r e
-wrote-as b e at r t u h w = (w .0 ∙ ap (put b at) h, w .1 ∙ ap (λ (x : Text). at + length x) h)
-
+-- the same number by another name
 pub number-as : (b e : List ℕ) (at r m n x : ℕ) → m ≡ n → Wrote b at (item (decimal m) x) r e → Wrote b at (item (decimal n) x) r e
 number-as b e at r m n x h w = wrote-as b e at r (item (decimal m) x) (item (decimal n) x) (ap (λ (k : ℕ). item (decimal k) x) h) w
-
--- what is written behind what was written
-pub wrote-then : (b c e : List ℕ) (at r q : ℕ) (t u : Text) → Wrote b at t r c → Wrote c r u q e → q ≤ length b → Wrote b at (t ++ u) q e
-wrote-then b c e at r q t u w v h = (
-  v .0 ∙ rw (w .0, w .1) (put-put b at t u (at + length t) refl (omega (arith, w .1, v .1))),
-  omega (arith, w .1, v .1, length-append t u),
-)
 
 -- the digits of a number, as a part
 pub number-part : (ds t : List ℕ) (n f : ℕ) → length ds ≡ 20 → drop f ds ≡ decimal n → t ≡ between ds f 20 → t ≡ decimal n
@@ -96,12 +87,6 @@ line-wrote b c e at r q n p l h w v s =
     )
 
 -- ---- a field's line
-
-text-short : (s : List ℕ) (k : ℕ) → length (textOf s k) ≤ 25
-unfolding textOf cellOf cellText between
-text-short s k =
-    let c = take (k * 26 + 26 - k * 26) (drop (k * 26) s) in
-    omega (arith, length-take (1 + getD c 0 0 - 1) (drop 1 c), length-drop 1 c, length-take (k * 26 + 26 - k * 26) (drop (k * 26) s))
 
 pub shown-short : (s t : List ℕ) (k : ℕ) → t ≡ textOf s k → length t ≤ 25
 shown-short s t k e = omega (arith, ap length e, text-short s k)

@@ -1,12 +1,9 @@
 -- Lines of items (document 01, "Writer and program"). Assumes nothing.
-use mathlib.Core.Path.{_≡_}
 use mathlib.Core.Bool.{cond}
 use mathlib.Core.List.{List, [], _∷_, _++_}
 use Prim.Native.Nat.{ℕ, zero, suc, _+_, _/_, _%_}
 use lib.Dec.{ltb}
-use lib.ListN.{length}
 use Rattle.texts.specs.Quoted.{Text}
-use Rattle.texts.specs.Buffers.{put}
 
 -- the last k digits of a number at most, without zeros in front
 unfoldable pub decimalIn : ℕ → ℕ → Text
@@ -31,7 +28,3 @@ item t b = t ++ (b ∷ [])
 abbrev pub line : Text → List Text → Text
 line t [] = item t newline
 line t (u ∷ us) = item t space ++ line u us
-
--- t was put into b from place at on, which left e; r is the place behind it
-abbrev pub Wrote : List ℕ → ℕ → Text → ℕ → List ℕ → Type 0
-Wrote b at t r e = (e ≡ put b at t) × (r ≡ at + length t)

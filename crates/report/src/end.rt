@@ -2,10 +2,10 @@
 ghost use mathlib.Core.Path.{_≡_};
 ghost use Prim.Native.Nat.{_+_, _≤_};
 ghost use lib.ListN.{length};
+ghost use Rattle.texts.specs.Buffers.{Wrote};
 ghost use Rattle.sheets.specs.Sheet.{slots};
 ghost use Rattle.sheets.specs.Dates.{programDates};
 ghost use Rattle.orders.specs.Whole.{Completes};
-ghost use Rattle.report.specs.Lines.{Wrote};
 ghost use Rattle.report.specs.Report.{fieldLine, fieldLines, ending};
 use crate::lines::put_item;
 use crate::lines::put_number;

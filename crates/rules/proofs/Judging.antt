@@ -14,7 +14,7 @@ use Rattle.texts.specs.Answers.{success, refusal}
 use Rattle.texts.proofs.Bools.{both}
 use Rattle.texts.proofs.Refusals.{Way, way-out, tested}
 use Rattle.texts.proofs.Every.{every-append, every-same}
-use Rattle.sheets.specs.Sheet.{slots, slotOk, wellFormed, fieldIn, slotOf, Sheet, given, _⟨_⟩}
+use Rattle.sheets.specs.Sheet.{slots, sheetSize, slotOk, wellFormed, fieldIn, slotOf, Sheet, given, _⟨_⟩}
 use Rattle.sheets.specs.Dates.{datesFit}
 use Rattle.sheets.specs.declared.dates.Dates.{Dates}
 use Rattle.rules.specs.Rules.{Rule, classA, classB, budget, testOf, keepsAll, firstBlank, rules, order, basic, ahead, fieldOf, keeps, firstNot, firstBroken, classOf}
@@ -95,6 +95,10 @@ ahead-first f x y os r ex ey eo h D s o b =
     ∙ ap (λ (g : Facts). firstNot (holds g) ahead) (o .facts)
     ∙ ap (λ (p : ℕ → Bool). firstNot p ahead) (fun-ext (λ n. sym (budget-keeps D s n b)))
 
+pub class-a-is : (D : Dates) (f : Facts) (s : Sheet) → Read D f s → f .banking .account .a ≡ classA s
+unfolding factsBy accountOf slotOf _⟨_⟩
+class-a-is D f s o = ap (λ (g : Facts). g .banking .account .a) (o .facts)
+
 pub budget-is : (D : Dates) (f : Facts) (s : Sheet) → Read D f s → (f .banking .account .a || f .banking .account .b) ≡ budget s
 unfolding factsBy accountOf slotOf _⟨_⟩
 budget-is D f s o = ap (λ (g : Facts). g .banking .account .a || g .banking .account .b) (o .facts)
@@ -118,8 +122,10 @@ placed f g x t b d y eg ex et eb ed ey = λ i. place (eg i) (ex i) (et i) (eb i)
 
 -- ---- broken
 
-pub broken-judged : (f : Facts) (o b : Bool) (os : List Bool) (r : ℕ) → o ≡ ordinary f → o ≡ b → os ≡ cond b (generalOn f) (outcomesOn f) → r ≡ firstNot (kept os) order → r ≡ firstNot (kept (judgedOn f)) order
-broken-judged f o b os r e t h i = cc
+pub broken-judged : (f : Facts) (o b : Bool) (os : List Bool) (r : RuleNumber) → o ≡ ordinary f → o ≡ b → os ≡ cond b (generalOn f) (outcomesOn f) → r .0 ≡ firstNot (kept os) order → (D : Dates) (s : Sheet) → Read D f s → r .0 ≡ firstBroken D s order
+broken-judged f o b os r e t h i D s x =
+    let j : r .0 ≡ firstNot (kept (judgedOn f)) order = cc in
+    j ∙ ap (λ (g : Facts). firstNot (kept (judgedOn g)) order) (x .facts) ∙ sym (ap (λ (p : ℕ → Bool). firstNot p order) (fun-ext (judged-keeps D s)))
 
 -- ---- field_of: the table has the fields of the rules by their numbers, which go up by one
 
@@ -168,21 +174,27 @@ pub check-out : (k : ℕ) (D : Dates) (s : Sheet) (v : Verdict) → Way (classNa
 unfolding checked
 check-out k D s v = way-out _ [] [] _ [] _ k (checkTests D s) (λ p q. checked-by D s v p)
 
+-- a sheet that is well formed has its size
+pub formed-size : (s : Sheet) (w : Bool) → w ≡ wellFormed s → not w ≡ false → length s ≡ sheetSize
+formed-size s w e n = eqb-true (length s) sheetSize (both (eqb (length s) sheetSize) (every (slotOk s) slots) (sym e ∙ not-false w n) .0)
+
+-- what was read of it, and its first broken rule
+module _ (D : Dates) (s : Sheet) (w : Bool) (x : Facts) (e : w ≡ wellFormed s) (n : not w ≡ false) (j : length s ≡ sheetSize → Read D x s) where
+  pub facts-read : Read D x s
+  facts-read = j (formed-size s w e n)
+
+  pub first-is : (g : RuleNumber) → ((D : Dates) (s : Sheet) → Read D x s → g .0 ≡ firstBroken D s order) → firstBroken D s order ≡ g .0
+  first-is g i = sym (i D s facts-read)
+
 -- the last test and what is answered, by what the code has for them
-module _ (D : Dates) (s : Sheet) (w : Bool) (x : Facts) (g : RuleNumber) (e : w ≡ wellFormed s) (n : not w ≡ false) (j : length s ≡ 390 → Read D x s) (i : g .0 ≡ firstNot (kept (judgedOn x)) order) where
-  h : x ≡ factsOf D s
-  h = j (eqb-true (length s) 390 (both (eqb (length s) 390) (every (slotOk s) slots) (sym e ∙ not-false w n) .0)) .facts
-
-  first-is : firstBroken D s order ≡ g .0
-  first-is = ap (λ (p : ℕ → Bool). firstNot p order) (fun-ext (judged-keeps D s)) ∙ cc h
-
+module _ (D : Dates) (s : Sheet) (g : RuleNumber) (e : firstBroken D s order ≡ g .0) where
   pub first-as : (z : Bool) → not (eqb (g .0) 0) ≡ z → not (eqb (firstBroken D s order) 0) ≡ z
-  first-as z k = rw first-is k
+  first-as z k = rw e k
 
   pub beside-as : (f : Field) → f .0 ≡ fieldOf rules (g .0) s → refusal 8 (f .0 ∷ g .0 ∷ []) ≡ refusal 8 (fieldOf rules (firstBroken D s order) s ∷ firstBroken D s order ∷ [])
-  beside-as f k = rw (first-is, k)
+  beside-as f k = rw (e, k)
 
-  pub class-as : (v : Bool) → v ≡ datesFit D → (k : Class) → k ≡ classOn x → success (className k) ≡ success (className (classOf s))
-  class-as v ev k q = rw (q ∙ ap classOn h ∙ class-on D s)
+pub class-as : (D : Dates) (s : Sheet) (x : Facts) (k : Class) → Read D x s → k ≡ classOn x → success (className k) ≡ success (className (classOf s))
+class-as D s x k o q = rw (q ∙ ap classOn (o .facts) ∙ class-on D s)
 
 pub ruleset checks = (tested, first-as, beside-as, class-as)

@@ -7,7 +7,7 @@ use Prim.Native.String.{String}
 use lib.ListN.{set, replicate}
 use Rattle.texts.specs.Quoted.{Text, bytes, words}
 use Rattle.texts.specs.Answers.{Answer, success, refusal}
-use Rattle.sheets.specs.Sheet.{slotOf, cell}
+use Rattle.sheets.specs.Sheet.{slotOf, cells}
 use Rattle.sheets.specs.Dates.{programDates}
 use Rattle.rules.specs.Verdicts.{checked}
 use Rattle.rules.specs.Working.Computing.{rulesComputing}
@@ -20,14 +20,10 @@ Change = ℕ × Text
 unfoldable pub _≔_ : ℕ → String → Change
 f ≔ q = (f, bytes q)
 
--- the texts of a sheet's slots with some changed, and the sheet of texts
+-- the texts of a sheet's slots with some changed
 unfoldable pub changed : List Text → List Change → List Text
 changed ts [] = ts
 changed ts (c ∷ cs) = changed (set ts (slotOf (c .0)) (c .1)) cs
-
-unfoldable pub sheetOf : List Text → List ℕ
-sheetOf [] = []
-sheetOf (t ∷ ts) = cell t ++ sheetOf ts
 
 unfoldable pub s : List Text
 s =
@@ -54,10 +50,10 @@ broken f r = refusal 8 (f ∷ r ∷ [])
 
 -- S with some differences, and what checking it answers. To unfold `answer` is to unfold all that answers are computed by.
 unfoldable pub sheetWith : List Change → List ℕ
-sheetWith cs = sheetOf (changed s cs)
+sheetWith cs = cells (changed s cs)
 
 unfoldable pub answer : List Change → Answer
-unfolding _≔_ changed sheetOf s accepted broken sheetWith rulesComputing
+unfolding _≔_ changed cells s accepted broken sheetWith rulesComputing
 answer cs = checked programDates (sheetWith cs)
 
 -- each of a table's sheets, differences from S, has its answer

@@ -226,6 +226,10 @@ basic = 1 ∷ 2 ∷ 3 ∷ []
 abbrev pub ahead : List ℕ
 ahead = 5 ∷ 6 ∷ 7 ∷ 8 ∷ 9 ∷ 11 ∷ 12 ∷ 13 ∷ 14 ∷ 16 ∷ 22 ∷ 28 ∷ []
 
+-- "rules 1, 2, 3, 5, 7, 9, 10 and 12": a reader of MT103 lines asks for these (R-6)
+abbrev pub ofLines : List ℕ
+ofLines = 1 ∷ 2 ∷ 3 ∷ 5 ∷ 7 ∷ 9 ∷ 10 ∷ 12 ∷ []
+
 -- the test and the field of the rule with a number
 unfoldable pub testOf : List Rule → ℕ → Dates → Sheet → Bool
 testOf [] n D s = true

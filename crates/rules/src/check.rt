@@ -6,7 +6,7 @@ ghost use Rattle.sheets.specs.Sheet.{Sheet};
 ghost use Rattle.sheets.specs.Working.Facts.{Read};
 ghost use Rattle.sheets.specs.declared.dates.Dates.{Dates};
 ghost use Rattle.rules.specs.Rules.{budget, order, basic, ahead, firstNot, firstBroken};
-ghost use Rattle.rules.specs.Working.Tests.{kept, outcomesOn, judgedOn};
+ghost use Rattle.rules.specs.Working.Tests.{kept, outcomesOn};
 ghost use Rattle.rules.specs.Verdicts.{Checked};
 use crate::class::Class;
 use crate::class::class_of;
@@ -205,8 +205,9 @@ pub fn broken_ahead(f: Facts) -> RuleNumber
     first_broken(&kept, &AHEAD)
 }
 
-fn broken(f: Facts) -> RuleNumber
-    ensures { λ r. ⌜ r .0 ≡ firstNot (kept (judgedOn f)) order ⌝ }
+// What check and a writer of MT103 lines ask of a sheet's facts, in words of the sheet: the first broken rule.
+pub fn broken(f: Facts) -> RuleNumber
+    ensures { λ r. ⌜ ((D : Dates) (s : Sheet) → Read D f s → r .0 ≡ firstBroken D s order) ⌝ }
 {
     if is_ordinary(f) {
         return first_broken(&general_outcomes(f), &ORDER);

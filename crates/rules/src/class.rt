@@ -3,7 +3,7 @@ ghost use mathlib.Core.Path.{_≡_};
 ghost use Rattle.sheets.specs.Sheet.{Sheet};
 ghost use Rattle.sheets.specs.Working.Facts.{Read};
 ghost use Rattle.sheets.specs.declared.dates.Dates.{Dates};
-ghost use Rattle.rules.specs.Rules.{budget};
+ghost use Rattle.rules.specs.Rules.{budget, classA};
 ghost use Rattle.rules.specs.Working.Tests.{ordinary, classOn};
 use sheets::facts::Facts;
 
@@ -35,4 +35,11 @@ pub fn is_budget(f: Facts) -> bool
     ensures { λ r. ⌜ ((D : Dates) (s : Sheet) → Read D f s → r ≡ budget s) ⌝ }
 {
     f.banking.account.a | f.banking.account.b
+}
+
+pub fn is_class_a(f: Facts) -> bool
+    ensures { λ r. ⌜ ((D : Dates) (s : Sheet) → Read D f s → r ≡ classA s) ⌝ }
+{
+    let class = f.banking.account;
+    class.a
 }

@@ -6,7 +6,7 @@ ghost use Rattle.texts.specs.Texts.{every};
 ghost use Rattle.sheets.specs.Sheet.{Sheet};
 ghost use Rattle.sheets.specs.Working.Facts.{Read};
 ghost use Rattle.sheets.specs.declared.dates.Dates.{Dates};
-ghost use Rattle.rules.specs.Rules.{budget, keeps};
+ghost use Rattle.rules.specs.Rules.{budget, ofLines, keeps};
 ghost use Rattle.rules.specs.Working.Tests.{holds, allTrue, generalOn};
 ghost use Rattle.rules.specs.Working.Groups.{fixedRules, statusRules, basisRules, documentRules, dayRules};
 use crate::rules;
@@ -100,6 +100,28 @@ pub(crate) fn day_outcomes(f: Facts) -> [bool; 4]
         rules::keeps31(f),
         rules::keeps34(f),
     ]
+}
+
+// "Rules 1, 2, 3, 5, 7, 9, 10 and 12", which a reader of MT103 lines asks for (R-6).
+fn lines_outcomes(f: Facts) -> [bool; 8]
+    ensures { λ r. ⌜ r ≡ map (holds f) ofLines ⌝ }
+{
+    [
+        rules::keeps1(f),
+        rules::keeps2(f),
+        rules::keeps3(f),
+        rules::keeps5(f),
+        rules::keeps7(f),
+        rules::keeps9(f),
+        rules::keeps10(f),
+        rules::keeps12(f),
+    ]
+}
+
+pub fn kept_lines(f: Facts) -> bool
+    ensures { λ r. ⌜ ((D : Dates) (s : Sheet) → Read D f s → budget s ≡ true → r ≡ every (keeps D s) ofLines) ⌝ }
+{
+    all_true(&lines_outcomes(f))
 }
 
 // Each group, as completion tests it.

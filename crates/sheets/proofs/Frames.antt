@@ -8,14 +8,14 @@ use native.Mathlib.Decide.{ℕ-discrete, decLt}
 use native.Mathlib.Omega.{arith}
 use borrow.Author.Tests.{eq-eqb, ne-eqb, leb-true}
 use lib.Dec.{eqb, leb}
-use lib.ListN.{length, getD, take, drop, replicate, length-append, length-replicate}
+use lib.ListN.{length, getD, take, drop, replicate, length-append, length-take, length-drop, length-replicate}
 use lib.Seq.{take-at}
 use Rattle.texts.specs.Quoted.{Text}
 use Rattle.texts.specs.Texts.{between, blank, every}
 use Rattle.texts.specs.Buffers.{put, putAt}
 use Rattle.texts.proofs.Bools.{both}
 use Rattle.texts.proofs.Puts.{put-fits, length-put, part-put, mid-put}
-use Rattle.sheets.specs.Sheet.{Sheet, slotCount, textMax, cellSize, sheetSize, cell, cellText, cellOf, textOf}
+use Rattle.sheets.specs.Sheet.{Sheet, slotCount, textMax, short, cellSize, sheetSize, cell, cellText, cellOf, textOf}
 use Rattle.sheets.specs.Working.Facts.{standingOf, basisOf, documentOf, dayOf, factsBy, factsOf, Read}
 use Rattle.sheets.specs.Lists.{basisTexts, zeroTexts}
 use Rattle.sheets.specs.Dates.{forceOf, statusTexts}
@@ -39,10 +39,15 @@ pub length-cell : (t : Text) → length t ≤ textMax → length (cell t) ≡ ce
 unfolding cell
 length-cell t h = simp (length-append, length-replicate) (omega arith)
 
--- an entry of a list of short texts
-abbrev short : Text → Bool
-short t = leb (length t) textMax
+-- a text of a sheet
+pub text-short : (s : Sheet) (k : ℕ) → length (textOf s k) ≤ textMax
+unfolding textOf cellOf cellText between
+text-short s k =
+    let a = k * cellSize in
+    let c = take (a + cellSize - a) (drop a s) in
+    omega (arith, length-take (1 + getD c 0 0 - 1) (drop 1 c), length-drop 1 c, length-take (a + cellSize - a) (drop a s))
 
+-- an entry of a list of short texts
 entry-short : (ts : List Text) (k : ℕ) → every short ts ≡ true → length (getD ts k []) ≤ textMax
 unfolding every
 entry-short [] k h = omega arith

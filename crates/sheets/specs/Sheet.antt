@@ -34,6 +34,9 @@ fieldIn k = getD fields k 0
 abbrev pub textMax : ℕ
 textMax = 25
 
+abbrev pub short : Text → Bool
+short t = leb (length t) textMax
+
 -- a cell, as a sheet's slot is one and a draft's ends in one: "text length, text padded to 25"
 abbrev pub cellSize : ℕ
 cellSize = 1 + textMax
@@ -51,6 +54,11 @@ cellOk c = leb (getD c 0 0) textMax && every (are 0) (between c (1 + getD c 0 0)
 -- "A sheet has 390 bytes, slot i at 26 × i"
 abbrev pub Sheet : Type 0
 Sheet = List ℕ
+
+-- the sheet of texts, slot by slot
+unfoldable pub cells : List Text → Sheet
+cells [] = []
+cells (t ∷ ts) = cell t ++ cells ts
 
 abbrev pub sheetSize : ℕ
 sheetSize = slotCount * cellSize

@@ -6,9 +6,9 @@ use Prim.Native.Nat.{ℕ, _+_, _-_, _<_, _≤_}
 use native.Mathlib.Nat.{zero-add}
 use native.Mathlib.Omega.{arith}
 use borrow.Author.Tests.{le-leb, lt-leb}
-use lib.ListN.{length, take, drop, length-append, length-drop, take-append-drop}
+use lib.ListN.{length, take, drop, replicate, length-append, length-drop, length-replicate, take-append-drop, replicate-append-replicate}
 use lib.Seq.{take-at, drop-at, drop-length, length-take-le, drop-drop, take-append-le, drop-append-le}
-use Rattle.texts.specs.Buffers.{put, putAt}
+use Rattle.texts.specs.Buffers.{put, putAt, Wrote}
 
 -- a part of the front
 part-front : (x r : List ℕ) (a n : ℕ) → a + n ≤ length x → take n (drop a (x ++ r)) ≡ take n (drop a x)
@@ -76,3 +76,18 @@ pub put-next : (d s t x : List ℕ) (n : ℕ) → length s ≡ n → n + length 
 put-next d s t x n e h p =
     let l : length x ≡ length d = ap length p ∙ length-put d 0 s (omega arith) in
     put-fits x n t (omega arith) ∙ rw p (put-put d 0 s t n (omega arith) h)
+
+-- put into zero bytes, the rest stays zero
+pub put-zeros : (s : List ℕ) (n k : ℕ) → length s ≡ n → put (replicate (n + k) 0) 0 s ≡ s ++ replicate k 0
+unfolding put
+put-zeros s n k e = rw (zero-add, e, ← replicate-append-replicate {A = ℕ} n k 0, drop-at {A = ℕ} (replicate n 0) (replicate k 0) n (length-replicate {A = ℕ} n 0))
+
+-- the same text by another name; what is written behind what was written
+pub wrote-as : (b e : List ℕ) (at r : ℕ) (t u : List ℕ) → t ≡ u → Wrote b at t r e → Wrote b at u r e
+wrote-as b e at r t u h w = (w .0 ∙ ap (put b at) h, w .1 ∙ ap (λ (x : List ℕ). at + length x) h)
+
+pub wrote-then : (b c e : List ℕ) (at r q : ℕ) (t u : List ℕ) → Wrote b at t r c → Wrote c r u q e → q ≤ length b → Wrote b at (t ++ u) q e
+wrote-then b c e at r q t u w v h = (
+  v .0 ∙ rw (w .0, w .1) (put-put b at t u (at + length t) refl (omega (arith, w .1, v .1))),
+  omega (arith, w .1, v .1, length-append t u),
+)
