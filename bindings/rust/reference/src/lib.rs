@@ -1,17 +1,18 @@
 //! Budget payment orders under 107n: field messages, the draft, the rules,
 //! completion, the test ahead of it and a quick search, taking up part of a
-//! proposal, the message writer, the report of one program, the bank's charge, the
-//! part of a year, the register of an order and the payments that leave first.
+//! proposal, the message writer, the report of one program, the SWIFT lines, the
+//! bank's charge, the part of a year, the register of an order and the payments that
+//! leave first.
 //!
 //! This is a second implementation of the paper "Budget payment orders under
 //! 107n: draft, check and completion" and its change requests, which shares no
 //! code with the library. Doc comments quote the sentence of the paper or the request they
 //! follow. Of the requests it has R-1 (pension numbers), R-2 (letters in a KPP),
 //! R-3 (a test ahead of the search), R-4 (check digits of the INN), R-5 (rule
-//! 22 ahead of rule 21), R-7 (the order's date chooses the rules), R-9 (taking
-//! up part of a proposal, a claim about completion and posting as they are), R-10
-//! (the bank's charge), R-11 (part of a year), R-12 (status 15 with its register),
-//! R-13 (which payments leave first) and R-14 (passing over a status whole).
+//! 22 ahead of rule 21), R-6 (SWIFT lines), R-7 (the order's date chooses the rules),
+//! R-9 (taking up part of a proposal, a claim about completion and posting as they
+//! are), R-10 (the bank's charge), R-11 (part of a year), R-12 (status 15 with its
+//! register), R-13 (which payments leave first) and R-14 (passing over a status whole).
 //! R-9 names no function; [`take_up`] and refusal 20 are added to it and stated
 //! where they stand.
 //!
@@ -35,6 +36,7 @@ mod refusal;
 mod register;
 mod rules;
 mod sheet;
+mod swift;
 mod take_up;
 
 pub use charge::charge;
@@ -50,4 +52,5 @@ pub use quick::{quick, Quick};
 pub use refusal::{Broken, Refusal};
 pub use register::pool;
 pub use rules::{check, statuses, Class};
+pub use swift::{read_lines, write_lines};
 pub use take_up::take_up;

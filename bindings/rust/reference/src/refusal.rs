@@ -20,7 +20,7 @@ impl From<Broken> for Refusal {
 }
 
 /// An answer other than success. "Number order is test order", but 12 "comes just
-/// before 8".
+/// before 8", and 7 comes last in [`write_lines`](crate::write_lines).
 #[derive(Clone, Copy, Debug, PartialEq, Eq, Hash)]
 pub enum Refusal {
     /// 1: "draft or sheet malformed; for fresh, size not 450".
@@ -36,8 +36,9 @@ pub enum Refusal {
     RevisionZero,
     /// 6: "equal revision, other text".
     Clash,
-    /// 7: "output: a sheet not of 390, a message buffer too short"; "an output of
-    /// fewer than 500 places"; a proposed sheet not of 390.
+    /// 7: "output: a sheet not of 390, a message buffer too short"; for SWIFT lines
+    /// "buffer too short"; "an output of fewer than 500 places"; a proposed sheet not
+    /// of 390.
     Output,
     /// 8: "a broken rule; in completion only 1 to 3".
     Broken {
@@ -53,6 +54,8 @@ pub enum Refusal {
         /// The "count of all fillings".
         count: u32,
     },
+    /// 11: "for class B or O when writing and for any other block when reading".
+    NoLines,
     /// 12: "an order date or record entry that is no Gregorian date of the years
     /// 1900 to 2099, or an order date before 20230925"; "it comes just before 8".
     Undated,
@@ -98,6 +101,7 @@ impl Refusal {
             Self::Broken { .. } => 8,
             Self::Ordinary => 9,
             Self::NoFilling { .. } => 10,
+            Self::NoLines => 11,
             Self::Undated => 12,
             Self::Tariff => 14,
             Self::YearPart => 15,

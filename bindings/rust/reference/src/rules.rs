@@ -601,6 +601,18 @@ fn status_rules(sheet: &Sheet<'_>, class: Class, dates: Dates) -> Result<(), Bro
     frame.rule_30()
 }
 
+/// Whether the texts of SWIFT lines "keep rules 1, 2, 3, 5, 7, 9, 10 and 12 and make
+/// class A". Rule 10 has every status that some date allows here: "its reader takes 02
+/// as well".
+pub(crate) fn keeps_line_rules(sheet: &Sheet<'_>) -> bool {
+    classify(sheet) == Ok(Class::A)
+        && rule_5(sheet, Class::A).is_ok()
+        && rule_7(sheet).is_ok()
+        && rule_9(sheet).is_ok()
+        && STATUSES.contains(&sheet[Field::Status])
+        && rule_12(sheet).is_ok()
+}
+
 /// A budget payment without 106, 108 and 109, with what rules 7, 8 and 10 find out
 /// about it for rules 19 to 35.
 struct Frame<'a> {
