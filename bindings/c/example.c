@@ -1,8 +1,8 @@
 /* A small order: its messages are written, posted in the order of their arrival,
  * tested and completed, and the sheet is printed; then a correction dated back, also
- * completed quickly; a proposal of which parts are taken up; the bank's charge for a few
- * amounts, parts of a year, a year's amount shared among its months, the pooled lines of a
- * register, and which payments leave first.
+ * completed quickly; a proposal of which parts are taken up; the sheet's MT103 lines, read
+ * back; the bank's charge for a few amounts, parts of a year, a year's amount shared among
+ * its months, the pooled lines of a register, and which payments leave first.
  * The program checks its own results and returns 1 if one is not as expected. */
 
 #include <inttypes.h>
@@ -20,6 +20,7 @@ _Static_assert(sizeof(kieselbrot_pretest_answer) == 3, "the answers' layout");
 _Static_assert(sizeof(kieselbrot_complete_answer) == 32, "the answers' layout");
 _Static_assert(sizeof(kieselbrot_quick_answer) == 32, "the answers' layout");
 _Static_assert(sizeof(kieselbrot_take_up_answer) == 2, "the answers' layout");
+_Static_assert(sizeof(kieselbrot_lines_answer) == 16, "the answers' layout");
 _Static_assert(sizeof(kieselbrot_charge_answer) == 16, "the answers' layout");
 _Static_assert(sizeof(kieselbrot_part_answer) == 16, "the answers' layout");
 _Static_assert(sizeof(kieselbrot_pool_answer) == 24, "the answers' layout");
@@ -325,6 +326,97 @@ static void take_up(const uint8_t *draft)
     expect_not_taken_up(open, sheet, sizeof sheet - 1, bit(101), KIESELBROT_OUTPUT, 0);
 }
 
+/* The lines of the completed sheet, which is document 01's S. */
+static const char lines[] = ":26T:S01\n"
+                            ":57D://RU004525987.40102810845370000004\n"
+                            ":59:/03100643000000014800\n"
+                            "INN6730054024.KPP772801001\n"
+                            ":72:/UIP/0\n";
+
+static const size_t lines_len = sizeof lines - 1;
+
+/* The slots of 60, 102 and 104 to 109 are not in the lines. */
+static int is_in_lines(size_t slot)
+{
+    return slot != 4 && slot != 7 && slot < 9;
+}
+
+/* Reads a block: the seven texts of this sheet, all others blank. */
+static void expect_read(const char *block, size_t block_len, const uint8_t *sheet)
+{
+    static const uint8_t blank[KIESELBROT_SHEET_SLOT_SIZE] = {0};
+    uint8_t back[KIESELBROT_SHEET_SIZE];
+    memset(back, 0xEE, sizeof back);
+    const uint8_t number =
+        kieselbrot_read_lines((const uint8_t *)block, block_len, back, sizeof back);
+    expect(number == KIESELBROT_OK, "reading lines");
+    for (size_t slot = 0; slot < KIESELBROT_FIELDS; slot++) {
+        const size_t place = slot * KIESELBROT_SHEET_SLOT_SIZE;
+        const uint8_t *text = is_in_lines(slot) ? sheet + place : blank;
+        expect(memcmp(back + place, text, sizeof blank) == 0, "a text that was read");
+    }
+}
+
+/* A block, or a sheet's size, that is refused; nothing changes. */
+static void expect_not_read(const char *block, size_t block_len, size_t sheet_len, uint8_t number)
+{
+    uint8_t back[KIESELBROT_SHEET_SIZE + 1], before[KIESELBROT_SHEET_SIZE + 1];
+    memset(back, 0xEE, sizeof back);
+    memset(before, 0xEE, sizeof before);
+    const uint8_t answer =
+        kieselbrot_read_lines((const uint8_t *)block, block_len, back, sheet_len);
+    expect(answer == number, "a block that is refused");
+    expect(memcmp(back, before, sizeof back) == 0, "the sheet after a refusal");
+}
+
+/* Lines that are refused at this date into a buffer of this size; nothing changes. */
+static void expect_not_written(const uint8_t *sheet, uint32_t dated, size_t buffer_len,
+                               uint8_t number, uint8_t field, uint8_t rule)
+{
+    uint8_t buffer[KIESELBROT_LINES_BLOCK_MAX], before[KIESELBROT_LINES_BLOCK_MAX];
+    memset(buffer, 0xEE, sizeof buffer);
+    memset(before, 0xEE, sizeof before);
+    const kieselbrot_lines_answer answer = kieselbrot_write_lines(
+        sheet, KIESELBROT_SHEET_SIZE, dated, given, buffer, buffer_len);
+    printf("no lines: number %d, field %d, rule %d\n", answer.number, answer.field, answer.rule);
+    expect(answer.number == number && answer.field == field && answer.rule == rule &&
+               answer.length == 0,
+           "lines that are not written");
+    expect(memcmp(buffer, before, sizeof buffer) == 0, "the buffer after a refusal");
+}
+
+/* Writes the lines of the completed sheet, prints them and reads them back. */
+static void write_lines(const uint8_t *sheet)
+{
+    uint8_t buffer[KIESELBROT_LINES_BLOCK_MAX];
+    memset(buffer, 0xEE, sizeof buffer);
+    const kieselbrot_lines_answer written = kieselbrot_write_lines(
+        sheet, KIESELBROT_SHEET_SIZE, date, given, buffer, sizeof buffer);
+    expect(written.number == KIESELBROT_OK && written.length == lines_len, "writing lines");
+    printf("%.*s", (int)written.length, (const char *)buffer);
+    expect(memcmp(buffer, lines, lines_len) == 0, "the lines");
+    for (size_t i = lines_len; i < sizeof buffer; i++)
+        expect(buffer[i] == 0xEE, "the buffer behind the lines");
+    expect_read((const char *)buffer, written.length, sheet);
+
+    /* A byte too short; too early; without a recipient's INN; without the bank account and
+     * the status, so that it is an ordinary payment. */
+    uint8_t other[KIESELBROT_SHEET_SIZE];
+    expect_not_written(sheet, date, lines_len - 1, KIESELBROT_OUTPUT, 0, 0);
+    expect_not_written(sheet, KIESELBROT_ORDER_DATE_MIN - 1, 0, KIESELBROT_UNDATED, 0, 0);
+    memcpy(other, sheet, sizeof other);
+    memset(other + 5 * KIESELBROT_SHEET_SLOT_SIZE, 0, KIESELBROT_SHEET_SLOT_SIZE);
+    expect_not_written(other, date, 0, KIESELBROT_BROKEN, 61, 6);
+    memset(other + 1 * KIESELBROT_SHEET_SLOT_SIZE, 0, KIESELBROT_SHEET_SLOT_SIZE);
+    memset(other + 6 * KIESELBROT_SHEET_SLOT_SIZE, 0, KIESELBROT_SHEET_SLOT_SIZE);
+    expect_not_written(other, date, 0, KIESELBROT_NO_LINES, 0, 0);
+
+    /* Without the last line feed; into a sheet of another size, whatever the block is. */
+    expect_not_read(lines, lines_len - 1, sizeof other, KIESELBROT_NO_LINES);
+    expect_not_read(lines, lines_len, sizeof other + 1, KIESELBROT_OUTPUT);
+    expect_not_read(lines, 0, sizeof other + 1, KIESELBROT_OUTPUT);
+}
+
 /* The same order without the payer's INN and KPP, of this date and dated back to the year
  * before, when status 02 was allowed; and dates that are refused. */
 static void date_back(const uint8_t *draft)
@@ -558,6 +650,7 @@ int main(void)
     expect(checked.number == KIESELBROT_OK && checked.class_ == 'A', "the completed sheet");
     date_back(draft);
     take_up(draft);
+    write_lines(sheet);
     ask_charges();
     ask_parts();
     ask_shares();

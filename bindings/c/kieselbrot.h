@@ -1,6 +1,6 @@
 /* Budget payment orders under 107n: field messages, the draft, the rules,
- * completion, taking up part of what it proposes, the bank's charge, part of a year, the
- * register of an order, and which payments leave first.
+ * completion, taking up part of what it proposes, MT103 lines, the bank's charge, part of
+ * a year, the register of an order, and which payments leave first.
  *
  * The functions are proved: each one's answer, and every buffer that it is lent,
  * equals a definition, for all inputs. They are total: buffers of any length may
@@ -35,6 +35,13 @@
  *                 0  12 bytes  the INN, 12 digits
  *                12  8 bytes   the kopecks
  *
+ *   MT103 lines   five, each ended by a line feed (byte 10):
+ *                 :26T:S       and field 101
+ *                 :57D://RU    and field 14, then . and field 15
+ *                 :59:/        and field 17
+ *                 INN          and field 61, then .KPP and field 103
+ *                 :72:/UIP/    and field 22
+ *
  * A sheet or draft is malformed if it has another size, a length above 25 or a
  * byte behind a text that is not zero; a draft also if a slot has revision 0 and
  * a text.
@@ -67,6 +74,9 @@ extern "C" {
 /* The size of what stands before a message's text, and of the longest message. */
 #define KIESELBROT_MESSAGE_HEAD_SIZE 8
 #define KIESELBROT_MESSAGE_MAX 33
+
+/* The size of the longest block of MT103 lines, that with a code of 25 digits. */
+#define KIESELBROT_LINES_BLOCK_MAX 137
 
 /* The earliest date of an order. */
 #define KIESELBROT_ORDER_DATE_MIN UINT32_C(20230925)
@@ -103,7 +113,7 @@ extern "C" {
 #define KIESELBROT_BALANCE_MAX UINT64_C(1000000000000000)
 
 /* The numbers of the answers, in the order in which they are tested; 12 comes just
- * before 8. */
+ * before 8, and for write_lines 7 comes last. */
 enum {
     KIESELBROT_OK = 0,
     KIESELBROT_MALFORMED = 1,     /* draft or sheet malformed; for fresh, size not 450 */
@@ -114,13 +124,17 @@ enum {
     KIESELBROT_REVISION_ZERO = 5, /* revision 0 */
     KIESELBROT_CLASH = 6,         /* equal revision, other text */
     KIESELBROT_OUTPUT = 7,        /* a sheet not of 390, a message buffer too short; for pool, an
-                                     output under 10,000 */
-    KIESELBROT_BROKEN = 8,        /* a broken rule; in completion and its pretest only 1 to 3 */
+                                     output under 10,000; for write_lines, a buffer shorter than
+                                     the lines */
+    KIESELBROT_BROKEN = 8,        /* for check and write_lines, a broken rule; in completion and
+                                     its pretest only 1 to 3 */
     KIESELBROT_ORDINARY = 9,      /* completion or pretest of class O */
     KIESELBROT_NO_FILLING = 10,   /* no filling keeps the rules */
-    KIESELBROT_UNDATED = 12,      /* for check and completion, an order date or an entry of the
-                                     record that is no Gregorian date of the years 1900 to 2099,
-                                     or an order date before 20230925 */
+    KIESELBROT_NO_LINES = 11,     /* for write_lines, a sheet of class B or O; for read_lines, a
+                                     block that is none of these lines */
+    KIESELBROT_UNDATED = 12,      /* for check, completion and write_lines, an order date or an
+                                     entry of the record that is no Gregorian date of the years
+                                     1900 to 2099, or an order date before 20230925 */
     KIESELBROT_TARIFF = 14,       /* for charge, an argument out of range or a least above the
                                      greatest */
     KIESELBROT_YEAR_PART = 15,    /* for part and shares, an amount out of range or a year not of
@@ -208,6 +222,14 @@ typedef struct {
     uint8_t field;  /* with 20: the field of the lowest slot of the set that can't take up its
                      * value, or 0 for bit 15, which is no slot's */
 } kieselbrot_take_up_answer;
+
+/* The answer of writing MT103 lines. */
+typedef struct {
+    uint8_t number; /* 0, 1, 12, 8, 11 or 7 */
+    uint8_t field;  /* with 8: the field that the broken rule names */
+    uint8_t rule;   /* with 8: the first broken rule, 1 to 35 */
+    size_t length;  /* how many bytes were written at the buffer's start: 113, 116, 132 or 137 */
+} kieselbrot_lines_answer;
 
 /* The answer of a charge. */
 typedef struct {
@@ -310,6 +332,22 @@ static inline kieselbrot_quick_answer kieselbrot_quick(const uint8_t *draft, siz
  * count no larger, and the returned set without the slots taken up. */
 kieselbrot_take_up_answer kieselbrot_take_up(uint8_t *draft, size_t draft_len,
                                              const uint8_t *sheet, size_t sheet_len, uint16_t set);
+
+/* Writes the MT103 lines of an accepted sheet of class A at the start of a buffer and leaves
+ * the rest. They have 112 bytes and those of field 22. Refused in this order: 1, 12, 8 as in
+ * a check; 11 for class B or O; 7 for a buffer shorter than the lines. */
+kieselbrot_lines_answer kieselbrot_write_lines(const uint8_t *sheet, size_t sheet_len,
+                                               uint32_t date, kieselbrot_record record,
+                                               uint8_t *buffer, size_t buffer_len);
+
+/* Reads MT103 lines: fills a sheet, whatever that held, with their seven texts, all others
+ * blank. It is not meant to pass a check. Taken are exactly the blocks of these lines whose
+ * texts keep rules 1, 2, 3, 5, 7, 9, 10 and 12 and make class A; rule 10 lists all 23
+ * statuses, as no date is taken. What was written reads back as the same seven texts, and
+ * each block that reads is what the lines of its texts are. Refused in this order: 7 for the
+ * sheet's size, 11 for any other block. Returns the number. */
+uint8_t kieselbrot_read_lines(const uint8_t *block, size_t block_len, uint8_t *sheet,
+                              size_t sheet_len);
 
 /* The bank's charge for an amount: amount times rate over 10,000, halves upward to
  * the whole kopeck, raised to the least, then lowered to the greatest. The amount is

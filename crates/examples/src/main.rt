@@ -19,6 +19,10 @@ use sheets::dates::Dates;
 use sheets::dates::program_dates;
 use sheets::sheet::SHEET_SIZE;
 use sheets::sheet::text;
+use swift::read::LinesRead;
+use swift::read::read_lines;
+use swift::write::LinesWritten;
+use swift::write::write_lines;
 use texts::numbers::number_of_2;
 use texts::numbers::number_of_4;
 use texts::parts::at;
@@ -142,6 +146,74 @@ fn run_take_up(set: u16, input: &[u8], dates: Dates) {
     }
 }
 
+// What writing lines answers: their length and, below it, the lines.
+fn write_lines_answer(answer: LinesWritten, buffer: &[u8]) {
+    match answer {
+        LinesWritten::Lines(n) => {
+            io::write_all(STDOUT_FILENO, b"ok");
+            write_item(n as u64);
+            io::write_all(STDOUT_FILENO, b"\n");
+            io::write_all(STDOUT_FILENO, part(buffer, 0, n));
+        }
+        LinesWritten::Broken(f, r) => {
+            write_number(8);
+            write_item(f.0 as u64);
+            write_item(r.0 as u64);
+        }
+        LinesWritten::Refused(n) => write_number(n.0),
+    }
+}
+
+// Kind 'w': the MT103 lines of a sheet are written at the dates before it, with room for any lines.
+fn run_write_lines(sheet: &[u8], dates: Dates) {
+    let mut buffer = [0u8; 137];
+    let answer = write_lines(sheet, dates, &mut buffer);
+    write_lines_answer(answer, &buffer);
+}
+
+// Kind 's': they are written into a buffer that is too short for any lines.
+fn run_write_short(sheet: &[u8], dates: Dates) {
+    let mut buffer = [0u8; 112];
+    let answer = write_lines(sheet, dates, &mut buffer);
+    write_lines_answer(answer, &buffer);
+}
+
+fn write_slot(sheet: &[u8], slot: u8) {
+    io::write_all(STDOUT_FILENO, b" ");
+    write_text(text(sheet, slot));
+}
+
+// The fifteen texts of a sheet, in slot order.
+fn write_slots(sheet: &[u8]) {
+    write_slot(sheet, 0);
+    write_slot(sheet, 1);
+    write_slot(sheet, 2);
+    write_slot(sheet, 3);
+    write_slot(sheet, 4);
+    write_slot(sheet, 5);
+    write_slot(sheet, 6);
+    write_slot(sheet, 7);
+    write_slot(sheet, 8);
+    write_slot(sheet, 9);
+    write_slot(sheet, 10);
+    write_slot(sheet, 11);
+    write_slot(sheet, 12);
+    write_slot(sheet, 13);
+    write_slot(sheet, 14);
+}
+
+// Kind 'l': a block of MT103 lines is read into a sheet that holds other bytes.
+fn run_read_lines(block: &[u8]) {
+    let mut sheet = [255u8; SHEET_SIZE];
+    match read_lines(block, &mut sheet) {
+        LinesRead::Filled => {
+            io::write_all(STDOUT_FILENO, b"ok");
+            write_slots(&sheet);
+        }
+        LinesRead::Refused(n) => write_number(n.0),
+    }
+}
+
 // Kind 'r': the report of an input of the program budgetorder, with all its lines.
 fn run_report(input: &[u8]) {
     let mut out = [0u8; REPORT_SIZE];
@@ -183,6 +255,15 @@ fn run_case(kind: u8, bytes: &[u8]) {
     }
     if kind == b't' {
         run_take_up(set_of(bytes), part(bytes, 18, bytes.len()), dates_of(bytes));
+    }
+    if kind == b'w' {
+        run_write_lines(part(bytes, 16, bytes.len()), dates_of(bytes));
+    }
+    if kind == b's' {
+        run_write_short(part(bytes, 16, bytes.len()), dates_of(bytes));
+    }
+    if kind == b'l' {
+        run_read_lines(bytes);
     }
     if kind == b'm' {
         run_message(bytes);

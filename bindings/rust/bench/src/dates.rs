@@ -1,4 +1,4 @@
-//! The dates at which sheets are checked and drafts completed.
+//! The dates at which sheets are checked, drafts completed and lines written.
 
 /// An order's date and a record, for each in its own types.
 #[derive(Clone, Copy)]
@@ -41,6 +41,8 @@ type Checked = Result<kieselbrot::Class, kieselbrot::Refusal>;
 type CheckedBySecond = Result<reference::Class, reference::Refusal>;
 type Completed = Result<kieselbrot::Completed, kieselbrot::Refusal>;
 type CompletedBySecond = Result<reference::Completed, reference::Refusal>;
+type Written = Result<usize, kieselbrot::Refusal>;
+type WrittenBySecond = Result<usize, reference::Refusal>;
 
 impl Dated {
     /// The library's check.
@@ -77,5 +79,17 @@ impl Dated {
     pub fn quick_by_second(&self, draft: &[u8], sheet: &mut [u8]) -> reference::Quick {
         let (date, record) = self.reference;
         reference::quick(draft, sheet, date, record)
+    }
+
+    /// The library's writer of MT103 lines.
+    pub fn write_lines(&self, sheet: &[u8], buffer: &mut [u8]) -> Written {
+        let (date, record) = self.library;
+        kieselbrot::write_lines(sheet, date, record, buffer)
+    }
+
+    /// The second implementation's.
+    pub fn write_lines_by_second(&self, sheet: &[u8], buffer: &mut [u8]) -> WrittenBySecond {
+        let (date, record) = self.reference;
+        reference::write_lines(sheet, date, record, buffer)
     }
 }

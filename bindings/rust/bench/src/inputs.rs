@@ -1,9 +1,10 @@
 //! What is measured with: for each row many inputs, all different.
 
-use cases::{blanked, budget, damaged_draft, disturb, message, with_forms, BLANKS, FIELDS};
+use cases::{blanked, budget, damaged_draft, disturb, lines_of, message, with_forms};
 use cases::{charge_in_range, parting_in_range, queue_of, register_of, sharing_of};
 use cases::{Account, Basis, Code, Date, Document, Draft, Forms, Payer, Random, Sheet, Texts};
 use cases::{Charge, Parting, Pooling, Sharing};
+use cases::{BLANKS, FIELDS};
 
 use crate::dates::GIVEN;
 
@@ -151,6 +152,31 @@ pub fn proposals(random: &mut Random) -> Vec<Proposal> {
         Proposal { draft, sheet, set }
     };
     count_97(random).into_iter().map(proposal).collect()
+}
+
+/// Accepted sheets of class A, with codes of each length.
+pub fn with_lines(random: &mut Random) -> Vec<Sheet> {
+    many(random, |random| {
+        let (account, status, code) = random.pick(&[
+            (Account::Treasury, "01", Code::Zero),
+            (Account::Treasury, "01", Code::Uin),
+            (Account::Institution, "08", Code::Four),
+            (Account::OtherA, "08", Code::Uin),
+        ]);
+        let forms = Forms {
+            account,
+            code,
+            status: Some(status),
+            ..FORMS_OF_S
+        };
+        with_forms(random, &forms).sheet()
+    })
+}
+
+/// Their MT103 lines.
+pub fn lines(random: &mut Random) -> Vec<Vec<u8>> {
+    let sheets = with_lines(random).into_iter();
+    sheets.map(|sheet| lines_of(&Texts::of(&sheet))).collect()
 }
 
 /// Drafts that status 16 completes, at count 433: no other order is completed later with
@@ -427,6 +453,24 @@ mod tests {
             assert_eq!(reference::take_up(&mut taken, &sheet, set), Ok(()));
             assert_ne!(taken, draft);
         }
+    }
+
+    #[test]
+    fn every_block_is_written_and_read() {
+        let sheets = with_lines(&mut random());
+        let blocks = lines(&mut random());
+        let mut lengths = Vec::new();
+        for (sheet, block) in sheets.iter().zip(&blocks) {
+            let mut buffer = [0; 137];
+            let length = GIVEN.write_lines_by_second(sheet, &mut buffer);
+            assert_eq!(length, Ok(block.len()));
+            assert_eq!(buffer[..block.len()], block[..]);
+            assert_eq!(reference::read_lines(block, &mut [0; 390]), Ok(()));
+            lengths.push(block.len());
+        }
+        lengths.sort_unstable();
+        lengths.dedup();
+        assert_eq!(lengths, cases::LINE_LENGTHS);
     }
 
     #[test]

@@ -63,6 +63,8 @@ fn measure_all() -> Report {
     let half_hopeless = inputs::half_hopeless_book(&mut other);
     rows.extend(book::rows(&book, &half_hopeless));
     rows.push(take_up(inputs::proposals(&mut inputs::random())));
+    rows.push(write_lines(inputs::with_lines(&mut inputs::random())));
+    rows.push(read_lines(inputs::lines(&mut inputs::random())));
     rows.push(charge(inputs::charges(&mut inputs::random())));
     rows.push(part(inputs::parts(&mut inputs::random())));
     rows.push(shares(inputs::shares(&mut inputs::random())));
@@ -253,6 +255,30 @@ fn take_up(proposals: Vec<Proposal>) -> Row {
             black_box(&draft);
             answer
         },
+    )
+}
+
+/// One buffer for all calls.
+fn write_lines(sheets: Vec<Sheet>) -> Row {
+    let buffer = RefCell::new([0; kieselbrot::LINES_BLOCK_MAX]);
+    Row::measure(
+        "writing MT103 lines",
+        NO_SLOWER,
+        &sheets,
+        |sheet| GIVEN.write_lines(sheet, &mut buffer.borrow_mut()[..]),
+        |sheet| GIVEN.write_lines_by_second(sheet, &mut buffer.borrow_mut()[..]),
+    )
+}
+
+/// One sheet for all calls.
+fn read_lines(blocks: Vec<Vec<u8>>) -> Row {
+    let sheet = RefCell::new([0; 390]);
+    Row::measure(
+        "reading MT103 lines",
+        NO_SLOWER,
+        &blocks,
+        |block| kieselbrot::read_lines(block, &mut sheet.borrow_mut()[..]),
+        |block| reference::read_lines(block, &mut sheet.borrow_mut()[..]),
     )
 }
 

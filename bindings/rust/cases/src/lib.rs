@@ -1,6 +1,6 @@
 //! Sheets, drafts and messages to try the library with, laid out byte by byte from
-//! document 01, dates, arguments of a charge, of a part of a year and of shares, registers,
-//! and payments: without code of the library or of the second implementation.
+//! document 01, dates, MT103 lines, arguments of a charge, of a part of a year and of shares,
+//! registers, and payments: without code of the library or of the second implementation.
 //!
 //! What depends on the order's date takes [`Dates`] where its name ends in `_at`, and is
 //! otherwise at those of the program.
@@ -13,6 +13,7 @@ mod damage;
 mod dates;
 mod fillings;
 mod forms;
+mod lines;
 mod orders;
 mod parts;
 mod payments;
@@ -29,6 +30,8 @@ pub use dates::{ALL_STATUSES, LISTS, NO_DAYS, ORDER_DATE_MIN, STATUSES};
 pub use fillings::{filled_set, fillings, fillings_at};
 pub use forms::{inn_remainder, inn_weights, list, list_at, snils_remainder};
 pub use forms::{BASES, CLASS_A, CLASS_B, SNILS_BOUND};
+pub use lines::{damaged_block, ended_by, lines_of, of_lines, trailing};
+pub use lines::{LINE_FIELDS, LINE_LENGTHS, MARKS};
 pub use orders::{accepted, accepted_at, blanked, budget, budget_at, class_a, with_forms};
 pub use orders::{disturb, disturb_at};
 pub use orders::{Account, Basis, Code, Date, Document, Forms, Payer};

@@ -124,6 +124,19 @@ impl Texts {
         Self(S.map(|text| Text::new(text.as_bytes())))
     }
 
+    /// The texts of a well-formed sheet.
+    ///
+    /// # Panics
+    ///
+    /// If a length is above 25.
+    #[must_use]
+    pub fn of(sheet: &[u8]) -> Self {
+        let slots = FIELDS.into_iter().zip(sheet.chunks_exact(26));
+        slots.fold(Self::BLANK, |texts, (field, slot)| {
+            texts.with(field, &slot[1..][..usize::from(slot[0])])
+        })
+    }
+
     /// The same with a field's text changed.
     #[must_use]
     pub fn with(mut self, field: u8, text: &[u8]) -> Self {

@@ -322,6 +322,42 @@ impl<'a, L: Library> Comparison<'a, L> {
         Ok(answer)
     }
 
+    /// Writes the MT103 lines of a sheet, which must stay, into a buffer, which is given back.
+    pub fn write_lines(
+        &mut self,
+        sheet: &[u8],
+        dates: Dates,
+        before: &Lent,
+    ) -> Outcome<(Result<usize, Refusal>, Lent)> {
+        let input = || {
+            let (sheet, size) = (shown_sheet(sheet), before.size);
+            format!("sheet {sheet}, {dates:?}, buffer of {size}")
+        };
+        let (answer, buffer) = lend_to_read("write_lines", sheet, input, |sheet| {
+            self.lend("write_lines", before, input, |library, buffer| {
+                library.write_lines(sheet, dates, buffer)
+            })
+        })?;
+        self.reached.write_lines(sheet, dates, before.size, answer);
+        Ok((answer, buffer))
+    }
+
+    /// Reads a block of MT103 lines, which must stay, into a sheet, which is given back.
+    pub fn read_lines(
+        &mut self,
+        block: &[u8],
+        before: &Lent,
+    ) -> Outcome<(Result<(), Refusal>, Lent)> {
+        let input = || format!("block {}, sheet of {}", block.escape_ascii(), before.size);
+        let (answer, sheet) = lend_to_read("read_lines", block, input, |block| {
+            self.lend("read_lines", before, input, |library, sheet| {
+                library.read_lines(block, sheet)
+            })
+        })?;
+        self.reached.read_lines(block, answer);
+        Ok((answer, sheet))
+    }
+
     /// Asks for a charge.
     pub fn charge(&mut self, charge: &Charge) -> Outcome<()> {
         let ask = |library: &dyn Library| {
@@ -433,7 +469,7 @@ impl<'a, L: Library> Comparison<'a, L> {
     }
 }
 
-/// Lends a draft, a sheet or a register, which must stay as it is, with the bytes around it.
+/// Lends a draft, a sheet, lines or a register, which must stay as it is, with the bytes around it.
 fn lend_to_read<T>(
     function: &'static str,
     bytes: &[u8],

@@ -1,13 +1,14 @@
 //! Cases that are gone through one and all.
 
 use cases::{blanked, with_forms, Account, Basis, Code, Date, Document, Forms, Payer};
-use cases::{budget_at, class_a, is_day, message, sheets, Random, Sheet, Text, Texts};
+use cases::{budget_at, class_a, is_day, lines_of, message, sheets, Random, Sheet, Text, Texts};
 use cases::{inn_of, Inn, Line, Pooling, LINES_MAX, LINE_SIZE, ORDER_MAX, POOL_SIZE};
 use cases::{slot_of, Dates, ALL_STATUSES, BLANKS, FIELDS, FILLABLE, LISTS, ORDER_DATE_MIN};
 use cases::{Charge, Parting, Payment, Queue, Sharing};
 use cases::{BALANCE_MAX, KOPECKS_MAX, PAYMENT_PLACES, RATE_MAX, SHARE_PLACES, YEARS};
 use kieselbrot::{Class, Refusal};
 
+use crate::blocks;
 use crate::comparison::{same, Comparison, Difference, Lent};
 use crate::fillings;
 use crate::library::Library;
@@ -194,6 +195,7 @@ pub fn sizes<L: Library>(comparison: &mut Comparison<'_, L>) -> Outcome {
     let sheet = Texts::s().sheet();
     let draft = Texts::s().draft(first_revision);
     let message = message(101, 2, b"08");
+    let lines = lines_of(&Texts::s());
     for size in 0..=900 {
         let sized = |bytes: &[u8]| {
             let mut bytes = bytes.to_vec();
@@ -204,7 +206,10 @@ pub fn sizes<L: Library>(comparison: &mut Comparison<'_, L>) -> Outcome {
             let _ = comparison.check(sized(&sheet).bytes(), dates)?;
             let _ = comparison.complete(sized(&draft).bytes(), Lent::new(&sheet), dates)?;
             let _ = comparison.complete(&draft, sized(&sheet), dates)?;
+            blocks::write(comparison, sized(&sheet).bytes(), dates, &sized(&lines))?;
         }
+        blocks::read(comparison, &lines, &sized(&sheet))?;
+        blocks::read(comparison, sized(&lines).bytes(), &Lent::new(&sheet))?;
         let mut other = comparison.fresh(sized(&draft))?;
         let _ = comparison.post(&mut other, &message)?;
         comparison.copy(sized(&draft).bytes(), Lent::new(&sheet))?;

@@ -2,20 +2,21 @@
 
 use cases::{accepted_at, blanked, budget_at, disturb_at, message, size_near};
 use cases::{charge, parting, pool_size, pooling, queue, sharing};
+use cases::{class_a, damaged_block, lines_of};
 use cases::{damaged_draft, damaged_message, damaged_sheet, Draft, Pooling};
 use cases::{day_after, day_before, fit_dates, refused_dates, Dates};
-use cases::{Random, Text, Texts, FIELDS};
+use cases::{Random, Text, Texts, ALL_STATUSES, FIELDS};
 
 use crate::comparison::{same, Comparison, Difference, Lent};
 use crate::library::Library;
 use crate::proposals::Proposal;
-use crate::{fillings, streams};
+use crate::{blocks, fillings, streams};
 
 type Outcome = Result<(), Difference>;
 
 /// One case: mostly one call, sometimes a list of them.
 pub fn case<L: Library>(comparison: &mut Comparison<'_, L>, random: &mut Random) -> Outcome {
-    match random.below(256) {
+    match random.below(268) {
         0..80 => check(comparison, random),
         80..100 => read(comparison, random),
         100..120 => write(comparison, random),
@@ -47,7 +48,9 @@ pub fn case<L: Library>(comparison: &mut Comparison<'_, L>, random: &mut Random)
             comparison.leave(&queue, &before)
         }
         248..252 => take_up_proposed(comparison, random),
-        _ => take_up(comparison, random),
+        252..256 => take_up(comparison, random),
+        256..262 => write_lines(comparison, random),
+        _ => read_lines(comparison, random),
     }
 }
 
@@ -334,7 +337,7 @@ fn without(order: Texts, set: u16) -> Texts {
     slots.fold(order, |order, slot| order.without(&[FIELDS[slot]]))
 }
 
-/// A sheet to take up from: the order's own, with some of it blank, damaged, or of another
+/// A sheet to take up from or to write lines of: the order's own, with some of it blank, damaged, or of another
 /// size.
 fn any_sheet(random: &mut Random, order: &Texts) -> Lent {
     let sheet = order.sheet();
@@ -362,4 +365,48 @@ fn any_set(random: &mut Random, open: u16) -> u16 {
         2 | 3 => fit & any | other,
         _ => fit & any,
     }
+}
+
+/// MT103 lines of a sheet, mostly of class A, into a buffer about as long.
+fn write_lines<L: Library>(comparison: &mut Comparison<'_, L>, random: &mut Random) -> Outcome {
+    let dates = fit_dates(random);
+    let texts = match random.percent(70) {
+        true => payment_to_the_treasury(random, &dates.statuses()),
+        false => order(random, dates),
+    };
+    let dates = asked(random, dates);
+    let sheet = any_sheet(random, &texts);
+    let size = match random.below(4) {
+        0 => random.below(201),
+        1 => size_near(random, lines_of(&texts).len()),
+        _ => 137 + random.below(64),
+    };
+    let before = Lent::filled(size, random.byte());
+    blocks::write(comparison, sheet.bytes(), dates, &before)
+}
+
+/// An order of class A with one of these statuses, or one that has a date.
+fn payment_to_the_treasury(random: &mut Random, statuses: &[&'static str]) -> Texts {
+    let any = random.pick(statuses);
+    let dated = random.pick(&["02", "32", "33"]);
+    let status = random.pick(&[any, any, dated]);
+    class_a(random, status)
+}
+
+/// A block of MT103 lines, or one near it, into a sheet.
+fn read_lines<L: Library>(comparison: &mut Comparison<'_, L>, random: &mut Random) -> Outcome {
+    let mut texts = match random.percent(60) {
+        true => payment_to_the_treasury(random, &ALL_STATUSES),
+        false => order(random, Dates::PROGRAM),
+    };
+    // With any account: the reader asks no rule of both.
+    if random.percent(20) {
+        texts.set(101, Text::new(random.pick(&ALL_STATUSES).as_bytes()));
+    }
+    let mut block = lines_of(&texts);
+    if random.percent(60) {
+        block = damaged_block(random, block);
+    }
+    let before = output(random);
+    blocks::read(comparison, &block, &before)
 }

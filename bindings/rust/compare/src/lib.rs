@@ -7,6 +7,7 @@
 #![forbid(unsafe_code)]
 #![warn(missing_docs)]
 
+mod blocks;
 mod charges;
 mod comparison;
 mod dates;
@@ -14,6 +15,7 @@ mod exhaustive;
 mod fillings;
 mod generated;
 mod library;
+mod lines;
 mod parts;
 mod planted;
 mod pools;

@@ -5,8 +5,8 @@ use kieselbrot::{Broken, Class, Completed, Message, Paid, Part, Posted, Quickene
 use kieselbrot::{PAYMENT_PLACES, SHARE_PLACES};
 
 /// The seven functions of document 01, the test ahead of completion, completing quickly,
-/// taking up part of a proposal, the bank's charge, part of a year, pooling a register, and
-/// which payments leave first.
+/// taking up part of a proposal, MT103 lines, the bank's charge, part of a year, pooling a
+/// register, and which payments leave first.
 pub trait Library: Sync {
     /// Checks a sheet at these dates.
     fn check(&self, sheet: &[u8], dates: Dates) -> Result<Class, Refusal>;
@@ -34,6 +34,10 @@ pub trait Library: Sync {
     fn quick(&self, draft: &[u8], sheet: &mut [u8], dates: Dates) -> Quickened;
     /// Takes up the values of a set of slots of a sheet.
     fn take_up(&self, draft: &mut [u8], sheet: &[u8], set: u16) -> Result<(), Refusal>;
+    /// Writes the MT103 lines of a sheet at these dates.
+    fn write_lines(&self, sheet: &[u8], dates: Dates, buffer: &mut [u8]) -> Result<usize, Refusal>;
+    /// Reads MT103 lines.
+    fn read_lines(&self, block: &[u8], sheet: &mut [u8]) -> Result<(), Refusal>;
     /// The bank's charge for an amount.
     fn charge(&self, amount: u64, rate: u64, least: u64, greatest: u64) -> Result<u64, Refusal>;
     /// The part of a year's amount for so many days.
@@ -103,6 +107,15 @@ impl Library for Linked {
 
     fn take_up(&self, draft: &mut [u8], sheet: &[u8], set: u16) -> Result<(), Refusal> {
         kieselbrot::take_up(draft, sheet, set)
+    }
+
+    fn write_lines(&self, sheet: &[u8], dates: Dates, buffer: &mut [u8]) -> Result<usize, Refusal> {
+        let (date, record) = library_dates(dates);
+        kieselbrot::write_lines(sheet, date, record, buffer)
+    }
+
+    fn read_lines(&self, block: &[u8], sheet: &mut [u8]) -> Result<(), Refusal> {
+        kieselbrot::read_lines(block, sheet)
     }
 
     fn charge(&self, amount: u64, rate: u64, least: u64, greatest: u64) -> Result<u64, Refusal> {
@@ -205,6 +218,15 @@ impl Library for Reference {
 
     fn take_up(&self, draft: &mut [u8], sheet: &[u8], set: u16) -> Result<(), Refusal> {
         reference::take_up(draft, sheet, set).map_err(refusal)
+    }
+
+    fn write_lines(&self, sheet: &[u8], dates: Dates, buffer: &mut [u8]) -> Result<usize, Refusal> {
+        let (date, record) = reference_dates(dates);
+        reference::write_lines(sheet, date, record, buffer).map_err(refusal)
+    }
+
+    fn read_lines(&self, block: &[u8], sheet: &mut [u8]) -> Result<(), Refusal> {
+        reference::read_lines(block, sheet).map_err(refusal)
     }
 
     fn charge(&self, amount: u64, rate: u64, least: u64, greatest: u64) -> Result<u64, Refusal> {
@@ -336,6 +358,7 @@ const fn refusal(refusal: reference::Refusal) -> Refusal {
         reference::Refusal::NoFilling { count } => Refusal::NoFilling {
             count: count as usize,
         },
+        reference::Refusal::NoLines => Refusal::NoLines,
         reference::Refusal::Undated => Refusal::Undated,
         reference::Refusal::Tariff => Refusal::Tariff,
         reference::Refusal::YearPart => Refusal::YearPart,

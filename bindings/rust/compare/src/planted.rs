@@ -7,6 +7,8 @@ use cases::{KOPECKS_MAX, LINE_SIZE, POOL_SIZE, RATE_MAX, YEARS};
 use kieselbrot::{Broken, Class, Completed, Message, Paid, Part, Posted, Quickened, Refusal};
 use kieselbrot::{PAYMENT_PLACES, SHARE_PLACES};
 
+mod lines;
+
 use crate::library::{Library, Reference};
 use crate::pretest::{is_blank, VARYING};
 use crate::quick::tried;
@@ -121,6 +123,52 @@ pub enum Planted {
     SizeFirst,
     /// A malformed sheet is not refused where the set is empty.
     UnreadSheet,
+    /// Writing lines clears the rest of the buffer.
+    LinesRestCleared,
+    /// The last line is written without its line feed.
+    LastFeedLeftOut,
+    /// The payer's INN is written in place of the recipient's.
+    PayersInn,
+    /// A buffer under 137 is too short for any lines.
+    RoomForTheLongest,
+    /// With 7 as much of the lines is written as there is room for.
+    HalfWritten,
+    /// Class B has lines, too.
+    LinesOfB,
+    /// Lines are written with any status at any date.
+    WrittenAtAnyDate,
+    /// Writing lines tests 12 before 1.
+    DatesBefore1,
+    /// Writing lines tests 12 after 8.
+    LinesLate12,
+    /// Writing lines tests 11 before 8.
+    ClassBefore8,
+    /// Writing lines tests 7 before 11.
+    ShortBefore11,
+    /// Lines are read without the last line feed, too.
+    LastFeedNotAsked,
+    /// What follows the lines is not looked at.
+    TrailingLeft,
+    /// Lines may be ended by CR LF.
+    CrLfTaken,
+    /// Lower-case letters are read as capitals.
+    CaseIgnored,
+    /// The recipient's INN is read with any check digit.
+    PayeeUnchecked,
+    /// Four digits are read as a code with any account of the treasury.
+    FourOnAnyAccount,
+    /// The reader asks rule 20, too.
+    Rule20Asked,
+    /// The reader refuses 02.
+    Refused02,
+    /// The texts that are not in the lines are left as they were.
+    OthersKept,
+    /// With 11 the sheet is blanked.
+    BlankedBy11,
+    /// Reading lines tests 11 before 7.
+    NoLinesFirst,
+    /// Lines are read into the start of a longer sheet.
+    LongSheet,
     /// A charge is rounded down.
     RoundedDown,
     /// Half a kopeck goes downward.
@@ -196,7 +244,7 @@ pub enum Planted {
 }
 
 /// All of them.
-pub const PLANTS: [Planted; 89] = [
+pub const PLANTS: [Planted; 112] = [
     Planted::Century,
     Planted::Status01,
     Planted::Without03252,
@@ -250,6 +298,29 @@ pub const PLANTS: [Planted; 89] = [
     Planted::ListlessTaken,
     Planted::SizeFirst,
     Planted::UnreadSheet,
+    Planted::LinesRestCleared,
+    Planted::LastFeedLeftOut,
+    Planted::PayersInn,
+    Planted::RoomForTheLongest,
+    Planted::HalfWritten,
+    Planted::LinesOfB,
+    Planted::WrittenAtAnyDate,
+    Planted::DatesBefore1,
+    Planted::LinesLate12,
+    Planted::ClassBefore8,
+    Planted::ShortBefore11,
+    Planted::LastFeedNotAsked,
+    Planted::TrailingLeft,
+    Planted::CrLfTaken,
+    Planted::CaseIgnored,
+    Planted::PayeeUnchecked,
+    Planted::FourOnAnyAccount,
+    Planted::Rule20Asked,
+    Planted::Refused02,
+    Planted::OthersKept,
+    Planted::BlankedBy11,
+    Planted::NoLinesFirst,
+    Planted::LongSheet,
     Planted::RoundedDown,
     Planted::HalvesDownward,
     Planted::Rate10001,
@@ -838,6 +909,14 @@ impl Library for Planted {
             }
             _ => answer,
         }
+    }
+
+    fn write_lines(&self, sheet: &[u8], dates: Dates, buffer: &mut [u8]) -> Result<usize, Refusal> {
+        self.changed_writing(sheet, dates, buffer)
+    }
+
+    fn read_lines(&self, block: &[u8], sheet: &mut [u8]) -> Result<(), Refusal> {
+        self.changed_reading(block, sheet)
     }
 
     fn charge(&self, amount: u64, rate: u64, least: u64, greatest: u64) -> Result<u64, Refusal> {

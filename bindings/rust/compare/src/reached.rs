@@ -9,6 +9,7 @@ use kieselbrot::{Class, Completed, Paid, Part, Posted, Quickened, Refusal};
 
 use crate::charges::{self, Charged};
 use crate::dates::{self, Dated};
+use crate::lines::{self, Lined};
 use crate::parts::{self, Parted};
 use crate::pools::{self, Pooled};
 use crate::pretest::{Tested, NAMED};
@@ -39,6 +40,7 @@ pub struct Reached {
     unnamed: BTreeMap<u8, u64>,
     skipped: BTreeMap<Skipped, u64>,
     taken: BTreeMap<Taken, u64>,
+    lines: BTreeMap<Lined, u64>,
     charges: BTreeMap<Charged, u64>,
     parts: BTreeMap<Parted, u64>,
     shares: BTreeMap<Shared, u64>,
@@ -138,7 +140,7 @@ enum Accepted {
 }
 
 /// The numbers that each function returns.
-const ANSWERS: [(&str, &[u8]); 15] = [
+const ANSWERS: [(&str, &[u8]); 17] = [
     ("check", &[0, 1, 12, 8]),
     ("read", &[0, 2, 3, 4, 5]),
     ("write", &[0, 2, 4, 5, 7]),
@@ -149,6 +151,8 @@ const ANSWERS: [(&str, &[u8]); 15] = [
     ("complete", &[0, 1, 7, 12, 8, 9, 10]),
     ("quick", &[0, 1, 7, 12, 8, 9, 10]),
     ("take_up", &[0, 1, 7, 20]),
+    ("write_lines", &[0, 1, 12, 8, 11, 7]),
+    ("read_lines", &[0, 7, 11]),
     ("charge", &[0, 14]),
     ("part", &[0, 15]),
     ("shares", &[0, 15]),
@@ -397,6 +401,30 @@ impl Reached {
         }
     }
 
+    /// Writing the lines of a sheet into a buffer of this size.
+    pub fn write_lines(
+        &mut self,
+        sheet: &[u8],
+        dates: Dates,
+        size: usize,
+        answer: Result<usize, Refusal>,
+    ) {
+        self.answer("write_lines", answer);
+        self.lines(lines::written(sheet, dates, size, answer));
+    }
+
+    /// Reading a block.
+    pub fn read_lines(&mut self, block: &[u8], answer: Result<(), Refusal>) {
+        self.answer("read_lines", answer);
+        self.lines(lines::read(block, answer));
+    }
+
+    fn lines(&mut self, reached: Vec<Lined>) {
+        for what in reached {
+            *self.lines.entry(what).or_default() += 1;
+        }
+    }
+
     /// What the test of a draft named, or where it named nothing what its
     /// completion answered.
     fn pretest(&mut self, tested: Tested, completed: Result<Completed, Refusal>) {
@@ -494,6 +522,7 @@ impl Reached {
         add(&mut self.unnamed, &other.unnamed);
         add(&mut self.skipped, &other.skipped);
         add(&mut self.taken, &other.taken);
+        add(&mut self.lines, &other.lines);
         add(&mut self.charges, &other.charges);
         add(&mut self.parts, &other.parts);
         add(&mut self.shares, &other.shares);
@@ -561,6 +590,9 @@ impl Reached {
         }
         for what in taken::all() {
             list.push((format!("taken up: {what}"), get(&self.taken, what)));
+        }
+        for what in lines::all() {
+            list.push((format!("lines: {what}"), get(&self.lines, what)));
         }
         for what in charges::all() {
             list.push((format!("a charge: {what}"), get(&self.charges, what)));

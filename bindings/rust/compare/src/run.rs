@@ -12,7 +12,7 @@ use cases::Random;
 use crate::comparison::{Comparison, Difference};
 use crate::library::Library;
 use crate::reached::Reached;
-use crate::{exhaustive, generated, streams};
+use crate::{blocks, exhaustive, generated, streams};
 
 /// The seed, unless `SEED` gives another.
 pub const SEED: u64 = 107;
@@ -107,6 +107,7 @@ enum Piece {
     Messages,
     Dates,
     TakeUps,
+    Lines,
     Charges,
     Parts,
     Shares,
@@ -165,7 +166,7 @@ impl Run {
         if self.exhaustive {
             pieces.extend([Piece::Table, Piece::Sizes, Piece::Places, Piece::Messages]);
             pieces.extend([Piece::Charges, Piece::Parts, Piece::Shares, Piece::Pools]);
-            pieces.extend([Piece::Queues, Piece::TakeUps]);
+            pieces.extend([Piece::Queues, Piece::TakeUps, Piece::Lines]);
             pieces.extend([Piece::Dates, Piece::Arrangements]);
             pieces.extend(generated.by_ref().take(10));
             pieces.extend((0..exhaustive::BLANK_PARTS).map(Piece::Blanks));
@@ -188,6 +189,7 @@ impl Run {
             Piece::Messages => exhaustive::messages(comparison),
             Piece::Dates => exhaustive::dates(comparison, &mut random(0)),
             Piece::TakeUps => exhaustive::take_ups(comparison, &mut random(10)),
+            Piece::Lines => blocks::every(comparison, &mut random(11)),
             Piece::Charges => exhaustive::charges(comparison),
             Piece::Parts => exhaustive::parts(comparison),
             Piece::Shares => exhaustive::shares(comparison),

@@ -2,7 +2,8 @@
 
 use std::fmt;
 
-use crate::{ffi, BALANCE_MAX, FIELDS, KOPECKS_MAX, LINES_MAX, PAYMENT_PLACES};
+use crate::PAYMENT_PLACES;
+use crate::{ffi, BALANCE_MAX, FIELDS, KOPECKS_MAX, LINES_BLOCK_MAX, LINES_MAX};
 
 /// The class of an accepted sheet.
 #[derive(Clone, Copy, Debug, PartialEq, Eq, Hash, PartialOrd, Ord)]
@@ -128,7 +129,8 @@ pub enum Refusal {
     Clash,
     /// 7: the output sheet's size is not 390, or the message buffer is too short; for
     /// [`pool`](crate::pool), the output has under 10,000 bytes; for
-    /// [`take_up`](crate::take_up), the proposed sheet's size is not 390.
+    /// [`take_up`](crate::take_up), the proposed sheet's size is not 390; for
+    /// [`write_lines`](crate::write_lines), the buffer is shorter than the lines, tested last.
     Output,
     /// 8: a rule is broken; in completion and its pretest only rules 1 to 3.
     Broken {
@@ -144,10 +146,13 @@ pub enum Refusal {
         /// The count of all fillings.
         count: usize,
     },
-    /// 12: for [`check`](crate::check), [`complete`](crate::complete) and
-    /// [`quick`](crate::quick), the order's date or an entry of the record is no Gregorian
-    /// date of the years 1900 to 2099, or the order's date is before 20230925; tested just
-    /// before 8.
+    /// 11: for [`write_lines`](crate::write_lines), an accepted sheet of class B or O; for
+    /// [`read_lines`](crate::read_lines), a block that is none of these lines.
+    NoLines,
+    /// 12: for [`check`](crate::check), [`complete`](crate::complete),
+    /// [`quick`](crate::quick) and [`write_lines`](crate::write_lines), the order's date or
+    /// an entry of the record is no Gregorian date of the years 1900 to 2099, or the order's
+    /// date is before 20230925; tested just before 8.
     Undated,
     /// 14: for [`charge`](crate::charge()), an argument is out of range or the least
     /// is above the greatest.
@@ -202,6 +207,7 @@ impl Refusal {
             Self::Broken { .. } => 8,
             Self::Ordinary => 9,
             Self::NoFilling { .. } => 10,
+            Self::NoLines => 11,
             Self::Undated => 12,
             Self::Tariff => 14,
             Self::YearPart => 15,
@@ -225,6 +231,7 @@ impl Refusal {
             6 => Self::Clash,
             7 => Self::Output,
             9 => Self::Ordinary,
+            11 => Self::NoLines,
             12 => Self::Undated,
             14 => Self::Tariff,
             15 => Self::YearPart,
@@ -398,6 +405,23 @@ impl From<ffi::TakeUp> for Result<(), Refusal> {
     }
 }
 
+impl From<ffi::Lines> for Result<usize, Refusal> {
+    fn from(answer: ffi::Lines) -> Self {
+        let ffi::Lines {
+            number,
+            field,
+            rule,
+            length,
+        } = answer;
+        match (number, field, rule, length) {
+            (0, 0, 0, 113 | 116 | 132 | LINES_BLOCK_MAX) => Ok(length),
+            (8, field, rule, 0) => Err(Refusal::Broken { field, rule }),
+            (number, 0, 0, 0) => Err(Refusal::plain(number)),
+            _ => Err(Refusal::Unknown { number }),
+        }
+    }
+}
+
 impl From<ffi::Charge> for Result<u64, Refusal> {
     fn from(answer: ffi::Charge) -> Self {
         let ffi::Charge { number, kopecks } = answer;
@@ -467,11 +491,11 @@ mod tests {
 
     #[test]
     fn numbers_are_those_of_the_table() {
-        for number in (1..=7).chain([9, 12, 14, 15, 16, 18, 19]) {
+        for number in (1..=7).chain([9, 11, 12, 14, 15, 16, 18, 19]) {
             assert_eq!(Refusal::plain(number).number(), number);
             assert!(!matches!(Refusal::plain(number), Refusal::Unknown { .. }));
         }
-        for number in [0, 8, 10, 11, 13, 17, 20, 255] {
+        for number in [0, 8, 10, 13, 17, 20, 255] {
             assert_eq!(Refusal::plain(number), Refusal::Unknown { number });
         }
         let broken = Refusal::Broken {
@@ -484,6 +508,7 @@ mod tests {
         );
         let none = Refusal::NoFilling { count: 1056 };
         assert_eq!((none.number(), none.to_string().as_str()), (10, "10 1056"));
+        assert_eq!(Refusal::NoLines.to_string(), "11");
         assert_eq!(Refusal::Undated.to_string(), "12");
         assert_eq!(Refusal::Tariff.to_string(), "14");
         assert_eq!(Refusal::YearPart.to_string(), "15");
@@ -589,6 +614,45 @@ mod tests {
         }
         for (number, field) in [(0, 14), (1, 101), (7, 14), (20, 16), (20, 255), (21, 0)] {
             assert_eq!(take_up(number, field), Err(Refusal::Unknown { number }));
+        }
+    }
+
+    #[test]
+    fn lines_have_one_of_four_lengths() {
+        let written = |number, field, rule, length| {
+            Result::<usize, Refusal>::from(ffi::Lines {
+                number,
+                field,
+                rule,
+                length,
+            })
+        };
+        for length in [113, 116, 132, 137] {
+            assert_eq!(written(0, 0, 0, length), Ok(length));
+        }
+        let (field, rule) = (61, 9);
+        let broken = Refusal::Broken { field, rule };
+        assert_eq!(written(8, field, rule, 0), Err(broken));
+        for refusal in [
+            Refusal::Malformed,
+            Refusal::Undated,
+            Refusal::NoLines,
+            Refusal::Output,
+        ] {
+            assert_eq!(written(refusal.number(), 0, 0, 0), Err(refusal));
+        }
+        for (number, field, rule, length) in [
+            (0, 0, 0, 0),
+            (0, 0, 0, 112),
+            (0, 0, 0, 138),
+            (0, 61, 9, 113),
+            (8, 61, 9, 113),
+            (11, 0, 0, 113),
+            (12, 0, 1, 0),
+            (20, 0, 0, 0),
+        ] {
+            let unknown = Err(Refusal::Unknown { number });
+            assert_eq!(written(number, field, rule, length), unknown);
         }
     }
 

@@ -82,6 +82,16 @@ pub struct TakeUp {
     pub field: u8,
 }
 
+/// The answer of writing MT103 lines.
+#[repr(C)]
+#[derive(Clone, Copy)]
+pub struct Lines {
+    pub number: u8,
+    pub field: u8,
+    pub rule: u8,
+    pub length: usize,
+}
+
 /// The answer of a charge.
 #[repr(C)]
 #[derive(Clone, Copy)]
@@ -129,6 +139,7 @@ const _: () = assert!(size_of::<Pretest>() == 3);
 const _: () = assert!(size_of::<Complete>() == 24);
 const _: () = assert!(size_of::<Quick>() == 32 && offset_of!(Quick, skipped) == 24);
 const _: () = assert!(size_of::<TakeUp>() == 2);
+const _: () = assert!(size_of::<Lines>() == 16);
 const _: () = assert!(size_of::<Charge>() == 16);
 const _: () = assert!(size_of::<Part>() == 16);
 const _: () = assert!(size_of::<Pool>() == 24);
@@ -169,6 +180,20 @@ extern "C" {
         sheet_len: usize,
         set: u16,
     ) -> TakeUp;
+    fn kieselbrot_write_lines(
+        sheet: *const u8,
+        sheet_len: usize,
+        date: Date,
+        record: Record,
+        buffer: *mut u8,
+        buffer_len: usize,
+    ) -> Lines;
+    fn kieselbrot_read_lines(
+        block: *const u8,
+        block_len: usize,
+        sheet: *mut u8,
+        sheet_len: usize,
+    ) -> u8;
     fn kieselbrot_charge(amount: u64, rate: u64, least: u64, greatest: u64) -> Charge;
     fn kieselbrot_part(amount: u64, days: u32, year: u32) -> Part;
     fn kieselbrot_shares(
@@ -274,6 +299,23 @@ pub fn take_up(draft: &mut [u8], sheet: &[u8], set: u16) -> TakeUp {
             set,
         )
     }
+}
+
+pub fn write_lines(sheet: &[u8], date: Date, record: Record, buffer: &mut [u8]) -> Lines {
+    unsafe {
+        kieselbrot_write_lines(
+            sheet.as_ptr(),
+            sheet.len(),
+            date,
+            record,
+            buffer.as_mut_ptr(),
+            buffer.len(),
+        )
+    }
+}
+
+pub fn read_lines(block: &[u8], sheet: &mut [u8]) -> u8 {
+    unsafe { kieselbrot_read_lines(block.as_ptr(), block.len(), sheet.as_mut_ptr(), sheet.len()) }
 }
 
 pub fn charge(amount: u64, rate: u64, least: u64, greatest: u64) -> Charge {

@@ -1,6 +1,6 @@
 //! Budget payment orders under 107n: field messages, the draft, the rules,
-//! completion, taking up part of what it proposes, the bank's charge, part of a year, the
-//! register of an order, and which payments leave first.
+//! completion, taking up part of what it proposes, MT103 lines, the bank's charge, part of a
+//! year, the register of an order, and which payments leave first.
 //!
 //! This crate is a thin, safe layer over a library whose code is proved: each
 //! function's answer, and every buffer that it was lent, equals a definition, for
@@ -108,6 +108,10 @@ pub const MESSAGE_HEAD_SIZE: usize = 8;
 
 /// The size of the longest message; a buffer of it is long enough for any.
 pub const MESSAGE_MAX: usize = 33;
+
+/// The size of the longest block of MT103 lines, that with a code of 25 digits; a buffer of
+/// it is long enough for any.
+pub const LINES_BLOCK_MAX: usize = 137;
 
 /// The earliest date of an order.
 pub const ORDER_DATE_MIN: Date = Date(20230925);
@@ -391,6 +395,96 @@ pub fn quick(draft: &[u8], sheet: &mut [u8], date: Date, record: Record) -> Quic
 #[inline]
 pub fn take_up(draft: &mut [u8], sheet: &[u8], set: u16) -> Result<(), Refusal> {
     ffi::take_up(draft, sheet, set).into()
+}
+
+/// Writes the MT103 lines of an accepted sheet of class A at the start of a buffer and tells
+/// their length; the rest of the buffer stays as it is.
+///
+/// The lines, each ended by a line feed: `:26T:S` and field 101; `:57D://RU`, field 14, `.`
+/// and field 15; `:59:/` and field 17; `INN`, field 61, `.KPP` and field 103; `:72:/UIP/` and
+/// field 22. They have 113, 116, 132 or [`LINES_BLOCK_MAX`] bytes: 112 and those of field 22.
+///
+/// # Errors
+///
+/// In this order: [`Refusal::Malformed`], [`Refusal::Undated`], [`Refusal::Broken`] with the
+/// first broken rule, as in [`check`]; [`Refusal::NoLines`] for class B or O;
+/// [`Refusal::Output`] for a buffer shorter than the lines.
+///
+/// # Examples
+///
+/// An order is completed, its lines are written and read back:
+///
+/// ```
+/// use kieselbrot::{complete, post, read_lines, write, write_lines};
+/// use kieselbrot::{Date, Record, Refusal, LINES_BLOCK_MAX, SHEET_SIZE};
+///
+/// # fn main() -> Result<(), Refusal> {
+/// let order: [(u8, &[u8]); 8] = [
+///     (14, b"004525987"),
+///     (15, b"40102810845370000004"),
+///     (17, b"03100643000000014800"),
+///     (60, b"7701569743"),
+///     (61, b"6730054024"),
+///     (102, b"770301001"),
+///     (103, b"772801001"),
+///     (104, b"18201061201010000510"),
+/// ];
+/// let mut draft = [0; kieselbrot::DRAFT_SIZE];
+/// let mut message = [0; kieselbrot::MESSAGE_MAX];
+/// for (field, text) in order {
+///     let length = write(field, 1, text, &mut message)?;
+///     post(&mut draft, &message[..length])?;
+/// }
+/// let date = Date(20240115);
+/// let mut sheet = [0; SHEET_SIZE];
+/// complete(&draft, &mut sheet, date, Record::GIVEN)?;
+///
+/// let mut buffer = [0; LINES_BLOCK_MAX];
+/// let length = write_lines(&sheet, date, Record::GIVEN, &mut buffer)?;
+/// let lines = b":26T:S01
+/// :57D://RU004525987.40102810845370000004
+/// :59:/03100643000000014800
+/// INN6730054024.KPP772801001
+/// :72:/UIP/0
+/// ";
+/// assert_eq!(buffer[..length], lines[..]);
+/// let short = write_lines(&sheet, date, Record::GIVEN, &mut buffer[..length - 1]);
+/// assert_eq!(short, Err(Refusal::Output));
+///
+/// // Field 14 has slot 0; field 60, in slot 4, is not in the lines.
+/// let mut back = [0xEE; SHEET_SIZE];
+/// read_lines(lines, &mut back)?;
+/// assert_eq!(back[..26], sheet[..26]);
+/// assert_eq!(back[4 * 26..5 * 26], [0; 26]);
+/// assert_eq!(read_lines(&lines[1..], &mut back), Err(Refusal::NoLines));
+/// # Ok(())
+/// # }
+/// ```
+#[inline]
+pub fn write_lines(
+    sheet: &[u8],
+    date: Date,
+    record: Record,
+    buffer: &mut [u8],
+) -> Result<usize, Refusal> {
+    ffi::write_lines(sheet, date, record, buffer).into()
+}
+
+/// Reads MT103 lines as [`write_lines`] writes them: fills a sheet, whatever that held, with
+/// their seven texts, all others blank. It is not meant to pass [`check`].
+///
+/// It takes exactly the blocks of these lines whose texts keep rules 1, 2, 3, 5, 7, 9, 10 and
+/// 12 and make class A. It takes no date: rule 10 lists all 23 statuses. What was written
+/// reads back as the same seven texts, and each block that reads is what the lines of its
+/// texts are.
+///
+/// # Errors
+///
+/// In this order: [`Refusal::Output`] for the sheet's size, [`Refusal::NoLines`] for any other
+/// block.
+#[inline]
+pub fn read_lines(block: &[u8], sheet: &mut [u8]) -> Result<(), Refusal> {
+    answers::number(ffi::read_lines(block, sheet))
 }
 
 /// The bank's charge for an amount, in kopecks: amount times rate over 10,000, halves

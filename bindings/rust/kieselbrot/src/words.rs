@@ -1,12 +1,12 @@
-//! Rules, fields, the answer of a completion and why a value can't be taken up in words, for
-//! people.
+//! Rules, fields, the answer of a completion, why a value can't be taken up and why MT103
+//! lines can't be written or read in words, for people.
 //!
 //! The library decides; this module says it in English. It is not proved. Unlike
 //! the functions of the library it allocates.
 
 use crate::fillings::{self, Sheet};
 use crate::{check, complete, copy, pretest, DRAFT_SLOT_SIZE, FIELDS, SHEET_SIZE};
-use crate::{Broken, Completed, Date, Record, Refusal};
+use crate::{Broken, Completed, Date, Record, Refusal, LINES_BLOCK_MAX};
 
 /// What the rules want, rule 1 first. Where [`LIST`] stands, the statuses follow that the
 /// date allows: in rule 10 all of them, in rule 19 those of [`TREASURY`].
@@ -165,6 +165,45 @@ fn revision(draft: &[u8], field: u8) -> Option<u32> {
     slot.first_chunk().copied().map(u32::from_be_bytes)
 }
 
+/// Why the MT103 lines of an order with this date can't be written, where
+/// [`write_lines`](crate::write_lines) refuses them so: a sentence.
+#[must_use]
+pub fn lines_not_written(refusal: Refusal, date: Date, record: Record) -> String {
+    match refusal {
+        Refusal::Malformed => "This sheet is malformed: it can't be read as an order.".to_owned(),
+        Refusal::Undated => UNDATED.to_owned(),
+        Refusal::Broken { field, rule } => format!(
+            "No lines are written of this order: rule {rule} is broken in field {}: {}.",
+            with_name(field),
+            Wording::new(date, record).rule_text(rule)
+        ),
+        Refusal::NoLines => "This order has no MT103 lines: it is no budget payment to an account \
+                             at the treasury."
+            .to_owned(),
+        Refusal::Output => format!(
+            "The buffer is shorter than the lines: {LINES_BLOCK_MAX} bytes are enough for any."
+        ),
+        _ => format!("The linked library is another one: writing lines never answers {refusal}."),
+    }
+}
+
+/// Why a block can't be read as MT103 lines, where [`read_lines`](crate::read_lines) refuses
+/// it so: a sentence.
+#[must_use]
+pub fn lines_not_read(refusal: Refusal) -> String {
+    match refusal {
+        Refusal::Output => format!("The sheet must have {SHEET_SIZE} bytes."),
+        Refusal::NoLines => "This block is not the MT103 lines of a budget payment to an account \
+                             at the treasury."
+            .to_owned(),
+        _ => format!("The linked library is another one: reading lines never answers {refusal}."),
+    }
+}
+
+/// What is wrong with dates.
+const UNDATED: &str = "These dates are refused: the order's date must not be before 20230925, and \
+                       it and the record's three must be dates YYYYMMDD of the years 1900 to 2099.";
+
 /// What words are by: the order's date, the record, and the statuses that are allowed.
 struct Wording {
     date: Date,
@@ -285,10 +324,7 @@ impl Wording {
             Refusal::Malformed => {
                 "This draft is malformed: it can't be read as an order.".to_owned()
             }
-            Refusal::Undated => "These dates are refused: the order's date must not be before \
-                                 20230925, and it and the record's three must be dates YYYYMMDD \
-                                 of the years 1900 to 2099."
-                .to_owned(),
+            Refusal::Undated => UNDATED.to_owned(),
             Refusal::Broken { field, rule } => format!(
                 "This order can't be completed yet: rule {rule} is broken in field {}: {}.",
                 with_name(field),
@@ -367,5 +403,8 @@ mod tests {
         assert_eq!(wording.sentence(broken), expected);
         let taken_up = not_taken_up(&[], &[], refusal);
         assert!(taken_up.ends_with("taking up never answers 77."));
+        let written = lines_not_written(refusal, Date(20240101), Record::GIVEN);
+        assert!(written.ends_with("writing lines never answers 77."));
+        assert!(lines_not_read(refusal).ends_with("reading lines never answers 77."));
     }
 }

@@ -20,6 +20,12 @@ pub enum Kind {
     /// Complete it, take up the values of the set between dates and messages, and complete
     /// it again.
     TakeUpAt,
+    /// Write the MT103 lines of a sheet at the dates before it, with room for any lines.
+    WriteLinesAt,
+    /// Write them into a buffer that is too short for any.
+    WriteShortAt,
+    /// Read MT103 lines.
+    ReadLines,
     /// Read a message.
     Message,
     /// Report on an input of the program `budgetorder`.
@@ -34,12 +40,15 @@ impl Kind {
             Self::CompleteAt => b'o',
             Self::QuickAt => b'q',
             Self::TakeUpAt => b't',
+            Self::WriteLinesAt => b'w',
+            Self::WriteShortAt => b's',
+            Self::ReadLines => b'l',
             Self::Message => b'm',
             Self::Report => b'r',
         }
     }
 
-    /// The output for these bytes: a line, or all lines of a report.
+    /// The output for these bytes: a line, or all lines of a report, or MT103 lines.
     fn output(self, bytes: &[u8]) -> Vec<u8> {
         match self {
             Self::Check => line(checked(bytes, Dates::PROGRAM)),
@@ -61,6 +70,15 @@ impl Kind {
                 let set = u16::from_be_bytes([set[0], set[1]]);
                 line(taken_up(messages, set, dates))
             }
+            Self::WriteLinesAt => {
+                let (dates, sheet) = dated(bytes);
+                line(lines_written(sheet, dates, 137))
+            }
+            Self::WriteShortAt => {
+                let (dates, sheet) = dated(bytes);
+                line(lines_written(sheet, dates, 112))
+            }
+            Self::ReadLines => line(lines_read(bytes)),
             Self::Message => line(message_read(bytes)),
             Self::Report => report(bytes),
         }
@@ -127,6 +145,32 @@ fn taken_up(messages: &[u8], set: u16, dates: Dates) -> Vec<u8> {
             let mut again: Sheet = [0; 390];
             let completed = Reference.complete(&draft, &mut again, dates);
             [b"ok ".to_vec(), completion(completed, &again)].concat()
+        }
+        Err(refusal) => refusal.to_string().into_bytes(),
+    }
+}
+
+/// `ok LENGTH` and, below it, the lines, written into a buffer of this size, or the refusal's
+/// number and what it returns.
+fn lines_written(sheet: &[u8], dates: Dates, size: usize) -> Vec<u8> {
+    let mut buffer = vec![0; size];
+    match Reference.write_lines(sheet, dates, &mut buffer) {
+        Ok(length) => [format!("ok {length}\n").as_bytes(), &buffer[..length]].concat(),
+        Err(refusal) => refusal.to_string().into_bytes(),
+    }
+}
+
+/// `ok` and the fifteen texts of the sheet, with `-` for a blank, or the refusal's number.
+fn lines_read(block: &[u8]) -> Vec<u8> {
+    let mut sheet: Sheet = [255; 390];
+    match Reference.read_lines(block, &mut sheet) {
+        Ok(()) => {
+            let mut line = b"ok".to_vec();
+            for slot in sheet.chunks_exact(26) {
+                line.push(b' ');
+                line.extend(shown(&slot[1..][..usize::from(slot[0])]));
+            }
+            line
         }
         Err(refusal) => refusal.to_string().into_bytes(),
     }
@@ -250,6 +294,9 @@ mod tests {
         assert_eq!(letter(Kind::CompleteAt), [b'o', 0, 0]);
         assert_eq!(letter(Kind::QuickAt), [b'q', 0, 0]);
         assert_eq!(letter(Kind::TakeUpAt), [b't', 0, 0]);
+        assert_eq!(letter(Kind::WriteLinesAt), [b'w', 0, 0]);
+        assert_eq!(letter(Kind::WriteShortAt), [b's', 0, 0]);
+        assert_eq!(letter(Kind::ReadLines), [b'l', 0, 0]);
     }
 
     #[test]

@@ -2,8 +2,8 @@
 //!
 //! `write DIR` writes DIR/stdin and DIR/stdout, `check DIR` compares them with
 //! what they should be. Each case of the input is one kind byte, a two-byte
-//! big-endian length and that many bytes; its output, one line or the lines of a
-//! report, comes from the second implementation.
+//! big-endian length and that many bytes; its output, one line, the lines of a
+//! report or MT103 lines, comes from the second implementation.
 
 use std::env;
 use std::fs;
@@ -12,6 +12,7 @@ use std::process::ExitCode;
 
 mod dates;
 mod example;
+mod lines;
 mod messages;
 mod quick;
 mod reports;
@@ -46,6 +47,7 @@ fn all() -> Vec<Example> {
         dates::all(),
         quick::all(),
         take_up::all(),
+        lines::all(),
     ]
     .concat()
 }
