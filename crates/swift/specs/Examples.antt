@@ -49,6 +49,11 @@ writings =
     ∷ ((given 20231231, ((101 ≔ "02") ∷ [], 113)), success (113 ∷ []))
     ∷ []
 
+-- a sheet that is malformed, before 12
+unformed : map (λ (D : Dates). writingLines D (26 ∷ []) []) (today ∷ given 20230924 ∷ []) ≡ refusal 1 [] ∷ refusal 1 [] ∷ []
+unfolding swiftComputing today
+unformed = refl
+
 written : map (λ (e : (Dates × (List Change × ℕ)) × Answer). wrote (e .0)) writings ≡ map (λ (e : (Dates × (List Change × ℕ)) × Answer). e .1) writings
 unfolding swiftComputing wrote today to03212 classB writings
 written = refl
