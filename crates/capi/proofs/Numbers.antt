@@ -18,17 +18,21 @@ use Rattle.rules.specs.declared.class.Class.{Class}
 use Rattle.rules.specs.declared.class.Class.the-variants.{A, B, O}
 use Rattle.rules.specs.declared.check.Verdict.{Verdict}
 use Rattle.rules.specs.declared.check.Verdict.the-variants.{Accepted}
-use Rattle.drafts.specs.Message.{messageField, revisionOf, messageText, readTests, readable, readingOf, readAnswer, writeTests, writingOf, writeAnswer}
+use Rattle.drafts.specs.Revision.{_by_}
+use Rattle.drafts.specs.Message.{headSize, versionOf, messageField, revisionOf, messageText, readTests, readable, readValues, readingOf, readAnswer, writeTests, writingOf, writeAnswer}
 use Rattle.drafts.specs.Draft.{beginTests, beginningOf, beginAnswer, word, comparisonOf, postTests, postingOf, postAnswer, copyTests, copyingOf, copyAnswer}
 use Rattle.drafts.specs.Promises.{Reads, Writes, Freshens, Posts, Copies}
 use Rattle.drafts.specs.declared.revision.Comparison.{Comparison}
 use Rattle.drafts.specs.declared.revision.Comparison.the-variants.{Newer, Same, Older, Clash}
+use Rattle.drafts.specs.declared.revision.Revision.{Revision}
+use Rattle.drafts.specs.declared.message.Version.{Version}
 use Rattle.drafts.specs.declared.message.Reading.{Reading}
+use Rattle.drafts.specs.declared.message.Reading.the-variants.{Message}
 use Rattle.drafts.specs.declared.message.Written.{Written}
 use Rattle.drafts.specs.declared.draft.Begun.{Begun}
 use Rattle.drafts.specs.declared.draft.Posted.{Posted}
 use Rattle.drafts.specs.declared.draft.Copied.{Copied}
-use Rattle.drafts.proofs.Messages.{readable-means, reading-is, text-length}
+use Rattle.drafts.proofs.Messages.{readable-means, reading-is, text-at, text-length}
 use Rattle.orders.specs.Complete.{completeAnswer, sheetTests, completeTests, completing}
 use Rattle.orders.specs.Whole.{Completes}
 use Rattle.orders.specs.Skipping.{skippedOf, withSkipped, quickening, quickAnswer, Quickens}
@@ -96,9 +100,9 @@ read-back : (t m : List ℕ) → Back (readNumbers t) readOf (readingOf m)
 unfolding readingOf readTests readNumbers readOf numbered
 read-back t m = tested (Back (readNumbers t) readOf) (readTests m) _ refl (search depth 12)
 
-write-back : (f r : ℕ) (t b : List ℕ) → Back writeNumbers writeOf (writingOf f r t b)
+write-back : (w f : ℕ) (v : Revision) (t b : List ℕ) → Back writeNumbers writeOf (writingOf w f v t b)
 unfolding writingOf writeTests writeNumbers writeOf numbered
-write-back f r t b = tested (Back writeNumbers writeOf) (writeTests f r t b) _ refl (search depth 12)
+write-back w f v t b = tested (Back writeNumbers writeOf) (writeTests w f v t b) _ refl (search depth 12)
 
 fresh-back : (d : List ℕ) → Back numberOf numberAnswer (beginningOf d)
 unfolding beginningOf beginTests numberAnswer numbered
@@ -199,16 +203,19 @@ module _ (m : List ℕ) (v : Reading) (p : Reads m v) (k : Reading) (e : v ≡ k
   numbers-are = cc
 
   module _ (h : readable m ≡ true) where
-    found-is : r ≡ readNumbers (messageText m) (success (messageField m ∷ revisionOf m ∷ []))
+    found-is : r ≡ readNumbers (messageText m) (success (readValues (versionOf m) (messageField m) (revisionOf m)))
     found-is = numbers-are ∙ ap (readNumbers (messageText m)) (reading-is m (readable-means m h))
 
-    text-is : (r .text ≡ 8) × (r .length ≡ length (messageText m))
+    text-is : (r .text ≡ headSize (versionOf m)) × (r .length ≡ length (messageText m))
     unfolding readNumbers
     text-is = (ap (λ (x : Read). x .text) found-is, ap (λ (x : Read). x .length) found-is)
 
     part-is : between m (r .text) (r .text + r .length) ≡ messageText m
-    unfolding between messageText
-    part-is = let l = text-is .1 in rw (text-is .0) (take-all (8 + r .length - 8) (drop 8 m) (omega arith))
+    unfolding between
+    part-is =
+        let k = text-at m in
+        let s = headSize (versionOf m) in
+        rw (text-is .0, k) (take-all (s + r .length - s) (drop s m) (omega (arith, text-is .1, ap length k)))
 
     within-is : r .text + r .length ≡ length m
     within-is = omega (arith, text-is, text-length m h)
@@ -216,9 +223,16 @@ module _ (m : List ℕ) (v : Reading) (p : Reads m v) (k : Reading) (e : v ≡ k
   pub read-is : ReadReturns m r
   read-is = record { numbers = numbers-are; answer = cc (read-back t m); part = part-is; within = within-is }
 
-module _ (f n : ℕ) (t b : List ℕ) (v : Written) (x : List ℕ) (p : Writes f n t b v x) (k : Written) (e : v ≡ k) (r : Write) (q : r ≡ writeNumbers (writeAnswer k)) where
-  pub written-is : WriteReturns f n t b r x
-  written-is = record { numbers = cc; answer = cc (write-back f n t b); buffer = p .buffer }
+-- the same, where the place of the text was asked of the version
+pub found-read : (m : List ℕ) (v : Reading) → Reads m v → (w : Version) (f : Field) (u : Revision) → v ≡ Message w f u → (t : List ℕ) → t ≡ messageText m → (s : ℕ) → s ≡ headSize (w .0)
+    → ReadReturns m (record { number = 0; version = w .0; party = u .party .0; field = f .0; revision = u .number; text = s; length = length t })
+unfolding readNumbers
+found-read m v p w f u e t g s h =
+    read-is m v p (Message w f u) e t g _ (λ i. record { number = 0; version = w .0; party = u .party .0; field = f .0; revision = u .number; text = h i; length = length t })
+
+module _ (w p f n : ℕ) (t b : List ℕ) (v : Written) (x : List ℕ) (P : Writes w f (n by p) t b v x) (k : Written) (e : v ≡ k) (r : Write) (q : r ≡ writeNumbers (writeAnswer k)) where
+  pub written-is : WriteReturns w p f n t b r x
+  written-is = record { numbers = cc; answer = cc (write-back w f (n by p) t b); buffer = P .buffer }
 
 module _ (d : List ℕ) (v : Begun) (x : List ℕ) (p : Freshens d v x) (k : Begun) (e : v ≡ k) (r : ℕ) (q : r ≡ numberOf (beginAnswer k)) where
   pub fresh-is : FreshReturns d r x

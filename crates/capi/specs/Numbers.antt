@@ -55,11 +55,12 @@ checkOf r = numbered (r .number) (r .class ∷ []) (cond (eqb (r .number) 8) (r 
 
 -- reading a message of the text t: where that begins, and how many bytes it has
 unfoldable pub readNumbers : Text → Answer → Read
-readNumbers t (success vs) = record { number = 0; field = getD vs 0 0; revision = getD vs 1 0; text = headSize; length = length t }
-readNumbers t (refusal n vs) = record { number = n; field = 0; revision = 0; text = 0; length = 0 }
+readNumbers t (success vs) =
+    record { number = 0; version = getD vs 0 0; party = getD vs 1 0; field = getD vs 2 0; revision = getD vs 3 0; text = headSize (getD vs 0 0); length = length t }
+readNumbers t (refusal n vs) = record { number = n; version = 0; party = 0; field = 0; revision = 0; text = 0; length = 0 }
 
 unfoldable pub readOf : Read → Answer
-readOf r = numbered (r .number) (r .field ∷ r .revision ∷ []) []
+readOf r = numbered (r .number) (r .version ∷ r .party ∷ r .field ∷ r .revision ∷ []) []
 
 unfoldable pub writeNumbers : Answer → Write
 writeNumbers (success vs) = record { number = 0; length = getD vs 0 0 }

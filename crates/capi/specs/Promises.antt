@@ -9,6 +9,7 @@ use Rattle.texts.specs.Texts.{between}
 use Rattle.texts.specs.Answers.{numberOf}
 use Rattle.sheets.specs.declared.dates.Dates.{Dates}
 use Rattle.rules.specs.Verdicts.{checked}
+use Rattle.drafts.specs.Revision.{_by_}
 use Rattle.drafts.specs.Message.{messageText, readable, readingOf, writingOf, writtenOf}
 use Rattle.drafts.specs.Draft.{beginningOf, begunFrom, postingOf, postedTo, copyingOf, copiedTo}
 use Rattle.orders.specs.Complete.{completed}
@@ -48,11 +49,11 @@ pub record ReadReturns (m : List ℕ) (r : Read) : Type 0 where
   pub part : readable m ≡ true → between m (r .text) (r .text + r .length) ≡ messageText m
   pub within : readable m ≡ true → r .text + r .length ≡ length m
 
--- writing the field f, the revision v and the text t to the buffer b returned r and left e
-pub record WriteReturns (f v : ℕ) (t b : List ℕ) (r : Write) (e : List ℕ) : Type 0 where
-  pub numbers : r ≡ writeNumbers (writingOf f v t b)
-  pub answer : writeOf r ≡ writingOf f v t b
-  pub buffer : e ≡ writtenOf f v t b
+-- writing the version w, the party p, the field f, the revision v and the text t to the buffer b returned r and left e
+pub record WriteReturns (w p f v : ℕ) (t b : List ℕ) (r : Write) (e : List ℕ) : Type 0 where
+  pub numbers : r ≡ writeNumbers (writingOf w f (v by p) t b)
+  pub answer : writeOf r ≡ writingOf w f (v by p) t b
+  pub buffer : e ≡ writtenOf w f (v by p) t b
 
 -- making d fresh returned the number r and left e
 pub record FreshReturns (d : List ℕ) (r : ℕ) (e : List ℕ) : Type 0 where

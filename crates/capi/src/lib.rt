@@ -12,9 +12,10 @@ use amounts::shares::Shared;
 use drafts::draft::Begun;
 use drafts::draft::Copied;
 use drafts::draft::Posted;
-use drafts::message::HEAD_SIZE;
 use drafts::message::Reading;
+use drafts::message::Version;
 use drafts::message::Written;
+use drafts::revision::Party;
 use drafts::revision::Revision;
 use orders::complete::Completed;
 use orders::pretest::Pretested;
@@ -40,6 +41,8 @@ pub struct Check {
 #[repr(C)]
 pub struct Read {
     pub number: u8,
+    pub version: u8,
+    pub party: u8,
     pub field: u8,
     pub revision: u32,
     pub text: usize,
@@ -192,15 +195,22 @@ pub extern "C" fn kieselbrot_read(message: &[u8]) -> Read
     let text = drafts::message::message_text(message);
     let v = drafts::message::read(message);
     match v {
-        Reading::Message(f, r) => Read {
-            number: 0,
-            field: f.0,
-            revision: r.number,
-            text: HEAD_SIZE,
-            length: text.len(),
-        },
+        Reading::Message(w, f, r) => {
+            let place = w.head_size();
+            Read {
+                number: 0,
+                version: w.0,
+                party: r.party.0,
+                field: f.0,
+                revision: r.number,
+                text: place,
+                length: text.len(),
+            }
+        }
         Reading::Refused(n) => Read {
             number: n.0,
+            version: 0,
+            party: 0,
             field: 0,
             revision: 0,
             text: 0,
@@ -211,14 +221,20 @@ pub extern "C" fn kieselbrot_read(message: &[u8]) -> Read
 
 #[no_mangle]
 pub extern "C" fn kieselbrot_write(
+    version: u8,
+    party: u8,
     field: u8,
     revision: u32,
     text: &[u8],
     buffer: &mut [u8],
 ) -> Write
-    ensures { λ r. ⌜ WriteReturns field revision (now (text .entry)) (now (buffer .entry)) r (now (buffer .exit)) ⌝ }
+    ensures { λ r. ⌜ WriteReturns version party field revision (now (text .entry)) (now (buffer .entry)) r (now (buffer .exit)) ⌝ }
 {
-    let v = drafts::message::write(Field(field), Revision { number: revision }, text, buffer);
+    let given = Revision {
+        number: revision,
+        party: Party(party),
+    };
+    let v = drafts::message::write(Version(version), Field(field), given, text, buffer);
     match v {
         Written::Bytes(n) => Write {
             number: 0,

@@ -1,23 +1,25 @@
 -- The order of posting does not count where no two readable messages of one field and rank differ in text.
 -- Assumes nothing.
 use mathlib.Core.Path.{_≡_, refl, sym, ap, ap₂, _∙_, subst}
-use mathlib.Core.Bool.{true}
-use mathlib.Core.List.{List, List·Memᴰ, List·Memᴰ·head, List·Memᴰ·tail, Memᴰ·append-right, List·Permᴰ, List·Permᴰ·nil, List·Permᴰ·cons, List·Permᴰ·swap, List·Permᴰ·trans, Permᴰ·symm}
+use mathlib.Core.Bool.{Bool, true, false, cond}
+use mathlib.Core.List.{List, [], _∷_, List·Memᴰ, List·Memᴰ·head, List·Memᴰ·tail, Memᴰ·append-right, List·Permᴰ, List·Permᴰ·nil, List·Permᴰ·cons, List·Permᴰ·swap, List·Permᴰ·trans, Permᴰ·symm}
 use Prim.Native.Nat.{ℕ, _+_, _*_, _/_, _%_, _<_, max}
 use native.Mathlib.Decide.{decLt}
 use native.Mathlib.Omega.{arith}
 use borrow.Author.Tests.{eq-eqb, ne-eqb}
+use lib.Dec.{eqb}
 use lib.ListN.{length, getD}
 use lib.Seq.{ext-getD}
+use Rattle.texts.proofs.Bools.{cases}
 use Rattle.sheets.specs.Sheet.{fields, slotCount}
-use Rattle.drafts.specs.Message.{messageField, readable}
+use Rattle.drafts.specs.Message.{partyOf, messageField, readable}
 use Rattle.drafts.specs.Draft.{slotSize, draftSize, slotIn, rankOf}
-use Rattle.drafts.specs.History.{postedAll, rankIn, highest, endSlot, AllBytes, NoClash}
+use Rattle.drafts.specs.History.{postedAll, names, rankIn, highest, firstOf, endSlot, AllBytes, NoClash, those, isOf, WroteAlone}
 use Rattle.drafts.specs.Promises.{Postings, Held}
 use Rattle.drafts.proofs.Messages.{readable-means, slotted}
 use Rattle.drafts.proofs.Slots.{at-slot, formed-by}
-use Rattle.drafts.proofs.Ranks.{with-same}
-use Rattle.drafts.proofs.EndSlots.{named, ranked, top, top-at, all-formed, all-slot, ends-right}
+use Rattle.drafts.proofs.Ranks.{with-same, rank-equal}
+use Rattle.drafts.proofs.EndSlots.{named, unranked, ranked, top, top-at, all-formed, all-slot, ends-right}
 
 -- ---- a draft is its slots
 
@@ -67,11 +69,43 @@ end-perm ms ns agree p i =
       | yes h ↦
           let (ma, za, fa, ra) = top-found i ms h in
           let (mb, zb, fb, rb) = top-found i ns (omega arith) in
-          let r : rankOf (top i ms) ≡ rankOf (top i ns) = omega arith in
+          let r = rank-equal (top i ms) (top i ns) za zb (omega arith) in
           rw (ne-eqb (highest i ms) 0 (λ z. omega arith), ne-eqb (highest i ns) 0 (λ z. omega arith))
           (with-same (top i ms) (top i ns) r (agree (top i ms) (top i ns) ma (perm-mem (Permᴰ·symm p) mb) za zb (fa ∙ sym fb) r))
       | no h ↦ rw (eq-eqb (highest i ms) 0 (omega arith), eq-eqb (highest i ns) 0 (omega arith))
     ]
+
+-- ---- only the messages that name a field count for its slot
+
+those-named : (i : ℕ) (ms : List (List ℕ))
+    → (highest i (those (names i) ms) ≡ highest i ms) × ((r : ℕ) → 0 < r → firstOf i r (those (names i) ms) ≡ firstOf i r ms)
+those-named i [] = (refl, λ r h. refl)
+those-named i (m ∷ ms) =
+    let p = those-named i ms in
+    cases (names i m)
+    (λ t. rw t (ap (max (rankIn i m)) (p .0), λ r h. ap (cond (eqb (rankIn i m) r) m) (p .1 r h)))
+    (λ f. let z = unranked i m f in rw (f, z) (omega (arith, p .0), λ r h. rw (ne-eqb 0 r (λ e. omega arith)) (p .1 r h)))
+
+end-named : (i : ℕ) (ms : List (List ℕ)) → endSlot i (those (names i) ms) ≡ endSlot i ms
+unfolding endSlot
+end-named i ms =
+    let p = those-named i ms in
+    elim (decLt 0 (highest i ms)) [
+      | yes h ↦ rw (p .0, p .1 (highest i ms) h)
+      | no h ↦ let z : highest i ms ≡ 0 = omega arith in rw (p .0, eq-eqb (highest i ms) 0 z)
+    ]
+
+-- where one party alone names a field, these are among its own
+named-alone : (p i : ℕ) (ms : List (List ℕ)) → WroteAlone p i ms → those (names i) (those (isOf p) ms) ≡ those (names i) ms
+unfolding isOf
+named-alone p i [] w = refl
+named-alone p i (m ∷ ms) w =
+    let q = named-alone p i ms (λ a h. w a (List·Memᴰ·tail h)) in
+    cases (names i m)
+    (λ t.
+    let o : isOf p m ≡ true = rw (named i m t .0) (eq-eqb (partyOf m) p (w m (List·Memᴰ·head refl) t)) in
+    rw (o, t) (ap (λ (x : List (List ℕ)). m ∷ x) q))
+    (λ f. cases (isOf p m) (λ o. rw (o, f) q) (λ o. rw (o, f) q))
 
 -- the first half of demand 3
 pub held-by : (ms : List (List ℕ)) (d : List ℕ) → Postings ms d → Held ms d
@@ -87,4 +121,12 @@ held-by ms d L =
           let c : AllBytes ns = λ m h. b m (perm-mem (Permᴰ·symm p) h) in
           slots-ext (postedAll ns) (postedAll ms) (all-formed ns c .sized) (all-formed ms b .sized)
           (λ i l. all-slot ns c i l ∙ sym (end-perm ms ns agree p i) ∙ sym (all-slot ms b i l));
+      named = λ i l ns c e. alike-by i l ns c e;
+      alone =
+          λ p i l w ns c x e.
+          alike-by i l ns c (sym (named-alone p i ns x) ∙ ap (those (names i)) e ∙ named-alone p i ms w);
     })
+  where
+    alike-by : (i : ℕ) → i < slotCount → (ns : List (List ℕ)) → AllBytes ns → those (names i) ns ≡ those (names i) ms → slotIn (postedAll ns) i ≡ slotIn (postedAll ms) i
+    alike-by i l ns c e =
+        all-slot ns c i l ∙ sym (end-named i ns) ∙ ap (endSlot i) e ∙ end-named i ms ∙ sym (all-slot ms (L .strings) i l)

@@ -7,7 +7,7 @@ use Prim.Native.Nat.{ℕ, _+_, _-_, _*_, _<_, _≤_}
 use native.Mathlib.Nat.{zero-add}
 use native.Mathlib.Numerals.{add-one}
 use native.Mathlib.Omega.{arith}
-use borrow.Author.Tests.{lt-ltb, le-ltb, ltb-true, ltb-false, eq-eqb, ne-eqb, eqb-true, not-true, not-false}
+use borrow.Author.Tests.{lt-ltb, le-ltb, ltb-true, ltb-false, eq-eqb, ne-eqb, eqb-true, not-true, not-false, le-leb, lt-leb}
 use borrow.Author.Needs.{needs}
 use mir.Syntax.{w8}
 use mir.Val.{Fits}
@@ -17,21 +17,23 @@ use lib.Seq.{drop-at}
 use Rattle.texts.specs.Texts.{same}
 use Rattle.texts.proofs.Bools.{cases, both}
 use Rattle.texts.proofs.Codes.{same-true, same-self}
-use Rattle.texts.specs.Numbers.{Bytes, bytesOf}
+use Rattle.texts.specs.Numbers.{Bytes, big, bytesOf}
 use Rattle.texts.specs.Buffers.{put, putAt, zeroed}
 use Rattle.texts.proofs.Puts.{put-fits, length-put, put-none, put-next, put-whole, put-zeros}
 use Rattle.sheets.specs.Sheet.{slotCount, textMax, cellSize, sheetSize, cell, slotOf}
 use Rattle.sheets.specs.declared.sheet.Field.{Field}
 use Rattle.texts.specs.Answers.{Answer, success, refusal, numberOf, passes, answerBy, bufferBy}
-use Rattle.drafts.specs.Message.{revisionSize, IsMessage, messageField, revisionOf, messageText, readTests, readable, readingOf, readAnswer}
-use Rattle.drafts.specs.Draft.{cellPlace, slotSize, draftSize, comparison, slotIn, slotRevision, slotCell, slotText, slotBytes, slotWith, draftFormed, freshDraft, beginTests, beginningOf, begunFrom, slotComparison, comparisonOf, word, draftBy, postTests, postingOf, stored, postedTo, postAnswer, cells, draftSheet, copyTests, copyingOf, copiedTo, copyAnswer}
+use Rattle.drafts.specs.Revision.{_by_, rank, comparison}
+use Rattle.drafts.specs.Message.{revisionSize, IsMessage, versionOf, messageField, revisionOf, messageText, readTests, readable, readingOf, readAnswer}
+use Rattle.drafts.specs.Draft.{cellPlace, slotSize, draftSize, slotIn, slotRevision, slotCell, slotText, slotBytes, slotWith, draftFormed, freshDraft, beginTests, beginningOf, begunFrom, slotComparison, comparisonOf, word, draftBy, postTests, postingOf, stored, postedTo, postAnswer, cells, draftSheet, copyTests, copyingOf, copiedTo, copyAnswer}
 use Rattle.drafts.specs.History.{postedFrom, postedAll}
-use Rattle.drafts.specs.Working.Steps.{sheetInto}
+use Rattle.drafts.specs.Working.Steps.{textPut, sheetInto}
 use Rattle.drafts.specs.Promises.{Reads, Postings, Freshens, Stands, newer as is-newer, same as is-same, older as is-older, clash as is-clash, Posts, Copies}
 use Rattle.drafts.specs.declared.revision.Revision.{Revision}
 use Rattle.drafts.specs.declared.revision.Comparison.{Comparison}
 use Rattle.drafts.specs.declared.revision.Comparison.the-variants.{Newer, Same, Older, Clash}
 use Rattle.texts.specs.declared.answers.Refusal.{Refusal}
+use Rattle.drafts.specs.declared.message.Version.{Version}
 use Rattle.drafts.specs.declared.message.Reading.{Reading}
 use Rattle.drafts.specs.declared.message.Reading.the-variants.{Message, Refused}
 use Rattle.drafts.specs.declared.draft.Begun.the-variants as begun
@@ -40,27 +42,46 @@ use Rattle.drafts.specs.declared.draft.Posted.the-variants as posted
 use Rattle.drafts.specs.declared.draft.Copied.{Copied}
 use Rattle.drafts.specs.declared.draft.Copied.the-variants as copied
 use Rattle.texts.proofs.Refusals.{no-success, none-of, succeeds, succeeded, refused, unchanged, never, Way, way-out, tested}
-use Rattle.drafts.proofs.Messages.{readable-means, slotted, reading-is, read-found, text-short, message-is}
-use Rattle.drafts.proofs.Ranks.{clashTest}
+use Rattle.drafts.proofs.Messages.{revision-is, small, readable-means, slotted, reading-is, read-found, text-short, party-known, message-is}
+use Rattle.drafts.proofs.Ranks.{clashTest, below-by, rank-same}
 use Rattle.drafts.proofs.EndSlots.{post-read}
 use Rattle.drafts.proofs.Arrangements.{held-by}
 use Rattle.drafts.proofs.DraftSheets.{length-cell, length-cells, length-sheet, sheet-made, sheet-into}
-use Rattle.drafts.proofs.Slots.{length-slot, formed-means}
+use Rattle.drafts.proofs.Slots.{length-slot, party-small, formed-means}
 
 -- ---- the ways out of `against`
 
-pub stand-is : (r h : ℕ) (b x y z : Bool) (s : Comparison) → ltb h r ≡ x → ltb r h ≡ y → b ≡ z → s ≡ cond x Newer (cond y Older (cond z Same Clash)) → s ≡ comparison r h b
-stand-is r h b x y z s p q w e = rw (p, q, w) e
+module _ (v u : Revision) (r h : ℕ) (b : Bool) (er : r ≡ rank v) (eh : h ≡ rank u) where
+  pub stand-newer : h < r → Newer ≡ comparison v u b
+  stand-newer l = rw (← er, ← eh, lt-ltb h r l)
+
+  module _ (n : r ≤ h) where
+    pub stand-older : r < h → Older ≡ comparison v u b
+    stand-older l = rw (← er, ← eh, le-ltb h r n, lt-ltb r h l)
+
+    module _ (o : h ≤ r) where
+      pub stand-same : b ≡ true → Same ≡ comparison v u b
+      stand-same t = rw (← er, ← eh, le-ltb h r n, le-ltb r h o, t)
+
+      pub stand-clash : b ≡ false → Clash ≡ comparison v u b
+      stand-clash f = rw (← er, ← eh, le-ltb h r n, le-ltb r h o, f)
+
+-- ---- the revision of a slot
+
+pub slot-read : (s : List ℕ) (a b c d p n : ℕ) → a ≡ getD s 0 0 → b ≡ getD s 1 0 → c ≡ getD s 2 0 → d ≡ getD s 3 0 → p ≡ getD s revisionSize 0 → n ≡ big (a ∷ b ∷ c ∷ d ∷ [])
+    → record { number = n; party = record { 0 = p } } ≡ slotRevision s
+unfolding slotRevision
+slot-read s a b c d p n ea eb ec ed ep en = revision-is (n by p) _ _ (en ∙ rw (ea, eb, ec, ed)) ep
 
 -- ---- the bytes of a slot
 
 -- the text begins behind the cell's length, a byte
-pub slot-made : (r : ℕ) (t d x y : List ℕ) → length t ≤ textMax → d ≡ bytesOf revisionSize r
-    → x ≡ putAt (replicate slotSize 0) 0 (getD d 0 0 ∷ getD d 1 0 ∷ getD d 2 0 ∷ getD d 3 0 ∷ length t ∷ []) → y ≡ putAt x (cellPlace + 1) t → y ≡ slotBytes r t
+pub slot-made : (v : Revision) (t d x y : List ℕ) → length t ≤ textMax → d ≡ bytesOf revisionSize (v .number)
+    → x ≡ putAt (replicate slotSize 0) 0 (getD d 0 0 ∷ getD d 1 0 ∷ getD d 2 0 ∷ getD d 3 0 ∷ v .party .0 ∷ length t ∷ []) → y ≡ putAt x (cellPlace + 1) t → y ≡ slotBytes v t
 unfolding slotBytes cell
-slot-made r t d x y l ed ex ey =
+slot-made v t d x y l ed ex ey =
     let z : List ℕ = replicate slotSize 0 in
-    let s : List ℕ = getD d 0 0 ∷ getD d 1 0 ∷ getD d 2 0 ∷ getD d 3 0 ∷ length t ∷ [] in
+    let s : List ℕ = getD d 0 0 ∷ getD d 1 0 ∷ getD d 2 0 ∷ getD d 3 0 ∷ v .party .0 ∷ length t ∷ [] in
     let fx : x ≡ put z 0 s = ex ∙ put-fits z 0 s (omega arith) in
     let fy : y ≡ put z 0 (s ++ t) = ey ∙ put-next z s t x (cellPlace + 1) refl (omega arith) fx in
     let n : slotSize ≡ cellPlace + 1 + length t + (textMax - length t) = omega arith in
@@ -117,15 +138,17 @@ posted-of posted.Same a p = ap postedOf p
 posted-of posted.Older a p = ap postedOf p
 posted-of (posted.Refused n) a p = ap postedOf p
 
--- by the revision and the text of the slot
-stands-by : (s : List ℕ) (v : ℕ) (t : List ℕ) → let st = slotComparison s v t in Stands s v t (postedOf (answerBy (clashTest st) (word st)))
+-- by the revision, the party and the text of the slot
+stands-by : (s : List ℕ) (v : Revision) (t : List ℕ) → slotRevision s .party .0 < 256 → v .party .0 < 256
+    → let st = slotComparison s v t in Stands s v t (postedOf (answerBy (clashTest st) (word st)))
 unfolding slotComparison postedOf
-stands-by s v t =
-    cases (ltb (slotRevision s) v) (λ x. rw x (is-newer (ltb-true _ _ x)))
+stands-by s v t ps pv =
+    let h = slotRevision s in
+    cases (ltb (rank h) (rank v)) (λ x. rw x (is-newer (below-by h v ps pv (ltb-true _ _ x))))
     (λ x. rw x
-    (cases (ltb v (slotRevision s)) (λ y. rw y (is-older (ltb-true _ _ y)))
+    (cases (ltb (rank v) (rank h)) (λ y. rw y (is-older (below-by v h pv ps (ltb-true _ _ y))))
     (λ y.
-    let e : slotRevision s ≡ v = omega (arith, ltb-false (slotRevision s) v x, ltb-false v (slotRevision s) y) in
+    let e : h ≡ v = rank-same h v ps pv (omega (arith, ltb-false (rank h) (rank v) x, ltb-false (rank v) (rank h) y)) in
     rw y (cases (same (slotText s) t) (λ z. rw z (is-same e (same-true _ _ z))) (λ z. rw z (is-clash e (λ q. true≢false (sym (same-self t) ∙ ap (λ (u : List ℕ). same u t) (sym q) ∙ z))))))))
 
 -- what reading refuses is refused with the same number
@@ -162,13 +185,15 @@ module _ (d m : List ℕ) (r : Posted) (p : postAnswer r ≡ postingOf d m) wher
     unfolding postedOf
     post-refused n h = posted-of r (refusal n []) (p ∙ sym (not-read d m n w (sym h) .0))
 
-    post-stands : (f v : ℕ) (t : List ℕ) → IsMessage m f v t → Stands (slotIn d (slotOf f)) v t r
+    post-stands : (u f : ℕ) (v : Revision) (t : List ℕ) → IsMessage m u f v t → Stands (slotIn d (slotOf f)) v t r
     unfolding comparisonOf readingOf readable
-    post-stands f v t M =
-        let (R, ef, ev, et) = message-is m f v t M in
+    post-stands u f v t M =
+        let (R, _, ef, ev, et) = message-is m u f v t M in
         let z = succeeded _ _ (readTests m) (sym (reading-is m R)) .0 in
         let o = post-read d m (comparisonOf d m) w z refl .0 in
-        rw (posted-of r _ (p ∙ sym o), ← ef, ← ev, ← et) (stands-by (slotIn d (slotOf (messageField m))) (revisionOf m) (messageText m))
+        let k = slotOf (messageField m) in
+        let b = party-small (slotIn d k) (formed-means d w .slot k (slotted (messageField m) (R .listed) .1)) in
+        rw (posted-of r _ (p ∙ sym o), ← ef, ← ev, ← et) (stands-by (slotIn d k) (revisionOf m) (messageText m) b (small _ (party-known m z)))
 
 -- the promise of `post`, from its two equations
 posts-by : (d m : List ℕ) (r : Posted) (e : List ℕ) → ((k : ℕ) → Fits w8 (getD m k 0)) → postAnswer r ≡ postingOf d m → e ≡ postedTo d m → Posts d m r e
@@ -195,30 +220,30 @@ module _ (d m : List ℕ) (h : (k : ℕ) → Fits w8 (getD m k 0)) (b : Bool) (e
     pub post-unread : (n : Refusal) → rd ≡ Refused n → Posts d m (posted.Refused n) d
     post-unread n e = let p = not-read d m (n .0) formed (ap readAnswer (sym e) ∙ R .answer) in posts-by d m _ d h (p .0) (p .1)
 
-    module _ (f : Field) (v : Revision) (er : rd ≡ Message f v) (t : List ℕ) (et : t ≡ messageText m) where
-      found : (readable m ≡ true) × (f .0 ≡ messageField m) × (v .number ≡ revisionOf m)
-      found = read-found m f v (ap readAnswer (sym er) ∙ R .answer)
+    module _ (u : Version) (f : Field) (v : Revision) (er : rd ≡ Message u f v) (t : List ℕ) (et : t ≡ messageText m) where
+      found : (readable m ≡ true) × (u .0 ≡ versionOf m) × (f .0 ≡ messageField m) × (v ≡ revisionOf m)
+      found = read-found m u f v (ap readAnswer (sym er) ∙ R .answer)
 
       pub post-short : length t ≤ textMax
       post-short = rw et (text-short m (found .0))
 
-      module _ (k : ℕ) (ek : k ≡ slotOf (f .0)) (s : List ℕ) (es : s ≡ slotIn d k) (st : Comparison) (est : st ≡ slotComparison s (v .number) t) where
+      module _ (k : ℕ) (ek : k ≡ slotOf (f .0)) (s : List ℕ) (es : s ≡ slotIn d k) (st : Comparison) (est : st ≡ slotComparison s v t) where
         slot-is : k ≡ slotOf (messageField m)
-        slot-is = ek ∙ ap slotOf (found .1)
+        slot-is = ek ∙ ap slotOf (found .2)
 
         stood : st ≡ comparisonOf d m
         unfolding comparisonOf
-        stood = est ∙ rw (es, slot-is, found .2, et)
+        stood = est ∙ rw (es, slot-is, found .3, et)
 
-        pub post-newer : (e : List ℕ) → st ≡ Newer → e ≡ putAt d (k * slotSize) (slotBytes (v .number) t) → Posts d m posted.Newer e
+        pub post-newer : (e : List ℕ) → st ≡ Newer → e ≡ putAt d (k * slotSize) (slotBytes v t) → Posts d m posted.Newer e
         unfolding stored slotWith
         post-newer e q w =
             let p = post-read d m Newer formed (found .0) (sym q ∙ stood) in
             let n = slotted (messageField m) (readable-means m (found .0) .listed) .1 in
-            let l = length-slot (v .number) t post-short in
+            let l = length-slot v t post-short in
             let z = formed-means d formed .sized in
-            let y : e ≡ put d (k * slotSize) (slotBytes (v .number) t) = w ∙ put-fits d (k * slotSize) (slotBytes (v .number) t) (omega (arith, slot-is)) in
-            posts-by d m _ e h (p .0) (y ∙ rw (slot-is, found .2, et) (p .1))
+            let y : e ≡ put d (k * slotSize) (slotBytes v t) = w ∙ put-fits d (k * slotSize) (slotBytes v t) (omega (arith, slot-is)) in
+            posts-by d m _ e h (p .0) (y ∙ rw (slot-is, found .3, et) (p .1))
 
         -- the draft as it was
         pub post-still : (x : Comparison) (r : Posted) → st ≡ x → postAnswer r ≡ answerBy (clashTest x) (word x) → d ≡ bufferBy (clashTest x) (draftBy x (stored d m) d) d → Posts d m r d
@@ -293,9 +318,22 @@ copy-made d s b o x e ee ex lo z eb nb =
     let l = length-sheet d sized in
     ee ∙ rw ed (put-fits s 0 (draftSheet d) (omega arith) ∙ put-whole s (draftSheet d) (l ∙ sym z))
 
-pub ruleset compares = (needs, lt-ltb, le-ltb, stand-is)
+-- ---- the ways out of `put_text`
 
-pub ruleset begins = (needs, slot-made, fresh-not, fresh-made)
+module _ (d : List ℕ) (i : ℕ) (v : Revision) (t : List ℕ) where
+  pub text-put : (e : List ℕ) → length t ≤ textMax → e ≡ putAt d (i * slotSize) (slotBytes v t) → e ≡ textPut d i v t
+  unfolding textPut
+  text-put e l q = rw (le-leb _ _ l) q
+
+  pub text-left : textMax < length t → d ≡ textPut d i v t
+  unfolding textPut
+  text-left l = rw (lt-leb _ _ l)
+
+pub ruleset compares = (needs, stand-newer, stand-older, stand-same, stand-clash)
+
+pub ruleset begins = (needs, slot-read, slot-made, fresh-not, fresh-made)
+
+pub ruleset puts = (needs, text-put, text-left)
 
 pub ruleset posts = (needs, post-malformed, post-unread, post-short, post-newer, post-still)
 

@@ -14,17 +14,20 @@ use lib.Seq.{ext-getD}
 use Rattle.texts.specs.Texts.{between, every, are}
 use Rattle.texts.proofs.Bools.{cases, both}
 use Rattle.texts.specs.Numbers.{Bytes}
+use Rattle.texts.specs.Buffers.{put}
 use Rattle.sheets.specs.Sheet.{slotCount, slotOf, cellText, cellOk}
 use Rattle.texts.specs.Answers.{answerBy, bufferBy}
+use Rattle.drafts.specs.Revision.{_below_, rank}
 use Rattle.drafts.specs.Message.{IsMessage, messageField, readTests, readable, readingOf}
 use Rattle.drafts.specs.Draft.{slotSize, draftSize, slotsFormed, slotIn, slotRevision, slotBytes, slotCell, slotText, slotFormed, rankOf, slotWith, draftFormed, freshDraft, comparisonOf, word, draftBy, postTests, postingOf, stored, postedTo}
 use Rattle.drafts.specs.History.{postedFrom, postedAll, names, rankIn, highest, firstOf, emptySlot, endSlot, Ends, none, won, AllBytes}
 use Rattle.drafts.specs.Working.Steps.{slotRank}
+use Rattle.drafts.specs.declared.revision.Revision.{Revision}
 use Rattle.drafts.specs.declared.revision.Comparison.{Comparison}
 use Rattle.texts.proofs.Refusals.{succeeded, fails, more}
-use Rattle.drafts.proofs.Messages.{Readable, readable-means, reading-is, message-is, slotted}
-use Rattle.drafts.proofs.Ranks.{clashTest, rank-above, length-with, rank-with, with-formed, empty-rank, rank-draft}
-use Rattle.drafts.proofs.Slots.{slot-formed, at-slot, length-slot-in, length-put-slot, slot-same, slot-other, Formed, formed-means, formed-by}
+use Rattle.drafts.proofs.Messages.{small, listed-slot, speaks-known, Readable, readable-means, reading-is, message-is, slotted}
+use Rattle.drafts.proofs.Ranks.{clashTest, rank-above, length-with, rank-with, with-formed, empty-rank, by-below, rank-below, rank-not-below, rank-draft}
+use Rattle.drafts.proofs.Slots.{slot-formed, party-small, at-slot, length-slot-in, length-put-slot, slot-same, slot-other, Formed, formed-means, formed-by}
 
 -- ---- the rank of a message in a slot
 
@@ -40,6 +43,10 @@ module _ (i : ℕ) (m : List ℕ) where
   pub ranked : 0 < rankIn i m → names i m ≡ true
   unfolding rankIn
   ranked h = cases (names i m) (λ t. t) (λ t. absurd (let z = rw t at h in omega arith))
+
+  pub unranked : names i m ≡ false → rankIn i m ≡ 0
+  unfolding rankIn
+  unranked f = rw f
 
   rank-other : (i ≡ own m → ⊥) → rankIn i m ≡ 0
   unfolding names rankIn
@@ -105,24 +112,41 @@ names-own : (m : List ℕ) (k : ℕ) → readable m ≡ true → own m ≡ k →
 unfolding names
 names-own m k z e = rw (z, e, eq-eqb k k refl)
 
--- a message of a revision above its slot's: it is stored there, and every other slot is as it was
-pub one-posted : (d m : List ℕ) (f v : ℕ) (t : List ℕ) → Formed d → IsMessage m f v t → v < 2 ^ 32 → slotRevision (slotIn d (slotOf f)) < v
+-- a message above its slot by revision, then party
+module _ (d m : List ℕ) (w f : ℕ) (v : Revision) (t : List ℕ) (F : Formed d) (M : IsMessage m w f v t) (a : slotRevision (slotIn d (slotOf f)) below v) where
+  over : (rankIn (slotOf f) m ≡ rank v) × (rank (slotRevision (slotIn d (slotOf f))) < rank v)
+  unfolding rankOf
+  over =
+      let (R, _, ef, ev, et) = message-is m w f v t M in
+      let p = small (v .party .0) (speaks-known w (v .party .0) (M .speaks) .1) in
+      let s = party-small (slotIn d (slotOf f)) (F .slot (slotOf f) (slotted f (listed-slot f (M .listed)) .1)) in
+      (named (slotOf f) m (names-own m (slotOf f) (reads m R) (ap slotOf ef)) .2 ∙ ap rank ev, by-below (slotRevision (slotIn d (slotOf f))) v s p a)
+
+  -- it is stored in its slot
+  pub stored-one : postedTo d m ≡ put d (slotOf f * slotSize) (slotBytes v t)
+  unfolding slotRank slotWith stored
+  stored-one =
+      let (_, _, ef, ev, et) = message-is m w f v t M in
+      let h : higher d m (own m) ≡ true = rw ef (ap (λ (k : ℕ). ltb (rank (slotRevision (slotIn d (slotOf f)))) k) (over .0) ∙ lt-ltb _ _ (over .1)) in
+      posted-is d m F ∙ rw (h, ef, ev, et)
+
+-- then it stands there, and every other slot is as it was
+pub one-posted : (d m : List ℕ) (w f : ℕ) (v : Revision) (t : List ℕ) → Formed d → IsMessage m w f v t → v .number < 2 ^ 32 → slotRevision (slotIn d (slotOf f)) below v
     → Formed (postedTo d m) × ((i : ℕ) → slotIn (postedTo d m) i ≡ cond (eqb i (slotOf f)) (slotBytes v t) (slotIn d i))
 unfolding slotRank rankOf slotWith
-one-posted d m f v t F M h a =
-    let (R, ef, ev, et) = message-is m f v t M in
-    let z = reads m R in
-    let n : names (slotOf f) m ≡ true = names-own m (slotOf f) z (ap slotOf ef) in
-    let k : rankIn (slotOf f) m ≡ v = named (slotOf f) m n .2 ∙ ev in
+one-posted d m w f v t F M h a =
+    let (R, _, ef, ev, et) = message-is m w f v t M in
+    let p = speaks-known w (v .party .0) (M .speaks) .1 in
+    let (k, l) = over d m w f v t F M a in
     let each : (i : ℕ) → slotIn (postedTo d m) i ≡ cond (eqb i (slotOf f)) (slotBytes v t) (slotIn d i) = λ i.
     step d m F .1 i
     ∙ elim (ℕ-discrete i (slotOf f)) [
-      | yes e ↦ rw (e, k, eq-eqb (slotOf f) (slotOf f) refl, lt-ltb (slotRank (slotIn d (slotOf f))) v a, ev, et)
+      | yes e ↦ rw (e, k, eq-eqb (slotOf f) (slotOf f) refl, lt-ltb (slotRank (slotIn d (slotOf f))) (rank v) l, ev, et)
       | no q ↦ rw (rank-other i m (λ e. q (e ∙ ap slotOf ef)), le-ltb (slotRank (slotIn d i)) 0 (omega arith), ne-eqb i (slotOf f) q)
     ] in (
       record {
         sized = step d m F .0;
-        slot = λ i l. rw (each i) (cases (eqb i (slotOf f)) (λ e. rw e (slot-formed v t h (M .given) (omega (arith, M .most)))) (λ e. rw e (F .slot i l)));
+        slot = λ i l. rw (each i) (cases (eqb i (slotOf f)) (λ e. rw e (slot-formed v t h (M .given) p (omega (arith, M .most)))) (λ e. rw e (F .slot i l)));
       },
       each,
     )
@@ -168,7 +192,7 @@ posted-list d (m ∷ ms) f b =
 -- ---- from a fresh draft
 
 fresh-formed : Formed freshDraft
-unfolding freshDraft draftFormed slotsFormed slotFormed slotIn slotCell slotText cellOk cellText between every are
+unfolding freshDraft draftFormed slotsFormed slotFormed slotIn slotRevision slotCell slotText cellOk cellText between every are
 fresh-formed = formed-means freshDraft refl
 
 fresh-slot : (i : ℕ) → i < slotCount → slotIn freshDraft i ≡ emptySlot
@@ -239,11 +263,11 @@ ends-right i ms =
       | yes h ↦
           let w = top-at i ms h in
           let n = ranked i (top i ms) (omega (arith, w .rank)) in
-          let r = named i (top i ms) n .2 in
+          let (y, s, r) = named i (top i ms) n in
           rw (ne-eqb (highest i ms) 0 (λ z. omega arith))
           (won (w .before) (w .after) (top i ms) (w .split) n
-          (λ a q t. omega (arith, bound i q, w .lower, w .rank, r, named i a t .2))
-          (λ a q t. omega (arith, bound i q, w .later, w .rank, r, named i a t .2))
+          (λ a q t. rank-below a (top i ms) (named i a t .0) y (omega (arith, bound i q, w .lower, w .rank, r, named i a t .2)))
+          (λ a q t. rank-not-below (top i ms) a y (named i a t .0) (omega (arith, bound i q, w .later, w .rank, r, named i a t .2)))
           refl)
       | no h ↦
           rw (eq-eqb (highest i ms) 0 (omega arith))

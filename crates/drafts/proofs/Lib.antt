@@ -1,4 +1,5 @@
 pub mod Messages
+pub mod MessagePromises
 pub mod Slots
 pub mod Ranks
 pub mod EndSlots
@@ -6,3 +7,4 @@ pub mod Arrangements
 pub mod DraftSheets
 pub mod DraftPromises
 pub mod Examples
+pub mod PartyExamples

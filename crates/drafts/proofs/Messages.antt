@@ -1,34 +1,28 @@
 -- Messages: what is known of a readable one, and the two ways round. Assumes nothing.
 use mathlib.Core.Path.{_≡_, refl, sym, ap, _∙_}
 use mathlib.Core.Logic.{_⊎_, inl, inr, ⊎-elim}
-use mathlib.Core.Bool.{Bool, true, false, not}
-use mathlib.Core.List.{List, [], _∷_, _++_, List·Memᴰ, List·Memᴰ·head, List·Memᴰ·tail, List·Memᴰ·cases-cons, List·Memᴰ·not-nil}
-use Prim.Native.Nat.{ℕ, zero, suc, _+_, _-_, _^_, _<_, _≤_}
+use mathlib.Core.Bool.{Bool, true, false, not, _||_, true≢false}
+use mathlib.Core.List.{List, [], _∷_, _++_, append-assoc, List·Memᴰ, List·Memᴰ·head, List·Memᴰ·tail, List·Memᴰ·cases-cons, List·Memᴰ·not-nil}
+use Prim.Native.Nat.{ℕ, zero, suc, _+_, _^_, _<_, _≤_}
 use native.Mathlib.Nat.{add-zero}
 use native.Mathlib.Omega.{arith}
 use borrow.Author.Tests.{le-ltb, eq-eqb, ne-eqb, ltb-false, eqb-true, eqb-false, not-false}
-use borrow.Author.Needs.{needs}
-use mir.Syntax.{w8, w32}
-use mir.Val.{Fits}
 use lib.Dec.{eqb, ltb}
-use lib.ListN.{length, take, drop, getD, length-drop}
-use lib.Seq.{take-all, drop-cons}
+use lib.ListN.{length, drop, getD, length-drop, length-append}
+use lib.Seq.{drop-cons, drop-drop, getD-drop}
 use Rattle.texts.specs.Answers.{success, passes}
-use Rattle.texts.specs.Texts.{between}
 use Rattle.texts.specs.Numbers.{Bytes, big, bytesOf, bytesAt}
-use Rattle.texts.specs.Buffers.{put, putAt}
+use Rattle.texts.specs.Buffers.{put}
 use Rattle.texts.proofs.Big.{big-bytes, each-at, bytes-big}
-use Rattle.texts.proofs.Puts.{put-fits, put-next, mid-put, drop-put}
 use Rattle.sheets.specs.Sheet.{fields, slotCount, placeOf, slotOf, textMax}
 use Rattle.sheets.specs.declared.sheet.Field.{Field}
-use Rattle.drafts.specs.Message.{revisionPlace, revisionSize, headSize, leastL, mostL, IsMessage, Writable, lengthOf, versionOf, messageField, revisionOf, messageText, readTests, readable, readingOf, readAnswer, headBytes, messageOf, writeTests, writingOf, writtenOf, writeAnswer}
-use Rattle.drafts.specs.Promises.{Reads, Writes}
+use Rattle.drafts.specs.Revision.{client, adviser, knownParty, Known, is-client, is-adviser, _by_}
+use Rattle.drafts.specs.Message.{knownVersion, opening, bodyPlace, revisionPlace, revisionSize, textPlace, headSize, leastL, mostL, Speaks, first, second, IsMessage, Writable, lengthOf, versionOf, partyOf, messageBody, messageField, revisionOf, messageText, misframed, readTests, readable, readValues, readingOf, readAnswer, headBytes, messageOf, allowed, writeTests, writingOf, writtenOf}
 use Rattle.drafts.specs.declared.revision.Revision.{Revision}
-use Rattle.drafts.specs.declared.message.Reading.{Reading}
-use Rattle.drafts.specs.declared.message.Reading.the-variants.{Message, Refused}
-use Rattle.drafts.specs.declared.message.Written.{Written}
-use Rattle.drafts.specs.declared.message.Written.the-variants as written
-use Rattle.texts.proofs.Refusals.{no-success, none-of, succeeds, succeeded, unchanged, Way, way-out, tested}
+use Rattle.drafts.specs.declared.message.Version.{Version}
+use Rattle.drafts.specs.declared.message.Reading.the-variants.{Message}
+use Rattle.texts.proofs.Bools.{cases, both}
+use Rattle.texts.proofs.Refusals.{none-of, succeeds, succeeded}
 
 -- ---- a listed field has a slot, and no other has one
 
@@ -53,103 +47,186 @@ pub listed-slot : (f : ℕ) → List·Memᴰ f fields → slotOf f ≡ slotCount
 unfolding slotOf
 listed-slot f m e = ⊎-elim (λ p. omega arith) (λ p. p .0 m) (place f fields)
 
+-- ---- versions and parties
+
+pub revision-is : (v : Revision) (n p : ℕ) → v .number ≡ n → v .party .0 ≡ p → v ≡ n by p
+revision-is v n p e q = λ i. record { number = e i; party = record { 0 = q i } }
+
+-- one of two numbers
+pub one-of : (x a b : ℕ) → (eqb x a || eqb x b) ≡ true → (x ≡ a) ⊎ (x ≡ b)
+one-of x a b e = cases (eqb x a) (λ t. inl (eqb-true x a t)) (λ f. inr (eqb-true x b (rw f at e)))
+
+pub known : (p : ℕ) → knownParty p ≡ true → Known p
+known p e = ⊎-elim is-client is-adviser (one-of p client adviser e)
+
+pub known-by : (p : ℕ) → Known p → knownParty p ≡ true
+known-by p (is-client e) = rw e
+known-by p (is-adviser e) = rw e
+
+pub small : (p : ℕ) → Known p → p < 256
+small p (is-client e) = omega arith
+small p (is-adviser e) = omega arith
+
+module _ (w p : ℕ) where
+  pub speaks-known : Speaks w p → (knownVersion w ≡ true) × Known p × (allowed w p ≡ true)
+  speaks-known (first e q) = (rw e, is-adviser q, rw (e, q))
+  speaks-known (second e q) = (rw e, q, rw (known-by p q, e))
+
+  speaks-of : knownVersion w ≡ true → allowed w p ≡ true → Speaks w p
+  speaks-of v a =
+      let (k, o) = both (knownParty p) (eqb w 2 || eqb p adviser) a in
+      ⊎-elim (λ e. first e (eqb-true p adviser (rw e at o))) (λ e. second e (known p k)) (one-of w 1 2 v)
+
+-- where the field stands
+pub placed : (w : ℕ) → (3 ≤ bodyPlace w) × (bodyPlace w ≤ 4)
+placed w = cases (eqb w 2) (λ t. rw t (omega arith, omega arith)) (λ f. rw f (omega arith, omega arith))
+
 -- ---- reading
 
 pub record Readable (m : List ℕ) : Type 0 where
   pub all : lengthOf m + 2 ≡ length m
-  pub low : leastL ≤ lengthOf m
-  pub high : lengthOf m ≤ mostL
-  pub version : versionOf m ≡ 1
+  pub low : leastL (versionOf m) ≤ lengthOf m
+  pub high : lengthOf m ≤ mostL (versionOf m)
+  pub speaks : Speaks (versionOf m) (partyOf m)
   pub listed : slotOf (messageField m) ≡ slotCount → ⊥
-  pub revised : revisionOf m ≡ 0 → ⊥
+  pub revised : revisionOf m .number ≡ 0 → ⊥
+
+-- a known party of a known version: that of version 1 is the adviser
+speaks-read : (m : List ℕ) → knownVersion (versionOf m) ≡ true → knownParty (partyOf m) ≡ true → Speaks (versionOf m) (partyOf m)
+unfolding partyOf
+speaks-read m v k = ⊎-elim (λ e. first e (rw e)) (λ e. second e (known (partyOf m) k)) (one-of (versionOf m) 1 2 v)
+
+-- L is the rest, and one that either version has
+pub neither : (a b : Bool) → (a || b) ≡ false → (a ≡ false) × (b ≡ false)
+neither true b e = absurd (true≢false e)
+neither false b e = (refl, e)
+
+pub frame-means : (m : List ℕ) → misframed m ≡ false → (lengthOf m + 2 ≡ length m) × (leastL 1 ≤ lengthOf m) × (lengthOf m ≤ mostL 2)
+unfolding misframed
+frame-means m e =
+    let p = neither (not (eqb (lengthOf m + 2) (length m))) _ (neither (ltb (length m) 2) _ e .1) in
+    let q = neither (ltb (lengthOf m) (leastL 1)) _ (p .1) in
+    (eqb-true _ _ (not-false _ (p .0)), ltb-false _ _ (q .0), ltb-false _ _ (q .1))
+
+pub frame-by : (m : List ℕ) → lengthOf m + 2 ≡ length m → leastL 1 ≤ lengthOf m → lengthOf m ≤ mostL 2 → misframed m ≡ false
+unfolding misframed
+frame-by m e l h =
+    let two : 2 ≤ length m = omega arith in
+    simp (le-ltb _ _ two, eq-eqb _ _ e, le-ltb _ _ l, le-ltb _ _ h)
 
 pub readable-means : (m : List ℕ) → readable m ≡ true → Readable m
 unfolding readable readTests
 readable-means m e =
     let p = none-of (readTests m) e in
+    let q = neither (ltb (lengthOf m) (leastL (versionOf m))) _ (p .1 .1 .0) in
     record {
-      all = eqb-true _ _ (not-false _ (p .1 .0));
-      low = ltb-false _ _ (p .1 .1 .0);
-      high = ltb-false _ _ (p .1 .1 .1 .0);
-      version = eqb-true _ _ (not-false _ (p .1 .1 .1 .1 .0));
-      listed = eqb-false _ _ (p .1 .1 .1 .1 .1 .0);
-      revised = eqb-false _ _ (p .1 .1 .1 .1 .1 .1 .0);
+      all = frame-means m (p .0) .0;
+      low = ltb-false _ _ (q .0);
+      high = ltb-false _ _ (q .1);
+      speaks = speaks-read m (not-false _ (p .1 .0)) (not-false _ (p .1 .1 .1 .0));
+      listed = eqb-false _ _ (p .1 .1 .1 .1 .0);
+      revised = eqb-false _ _ (p .1 .1 .1 .1 .1 .0);
     }
 
-pub reading-is : (m : List ℕ) → Readable m → readingOf m ≡ success (messageField m ∷ revisionOf m ∷ [])
+pub reading-is : (m : List ℕ) → Readable m → readingOf m ≡ success (readValues (versionOf m) (messageField m) (revisionOf m))
 unfolding readingOf readTests
 reading-is m R =
-    let two : 2 ≤ length m = omega arith in
-    simp (le-ltb _ _ two, eq-eqb _ _ (R .all), le-ltb _ _ (R .low), le-ltb _ _ (R .high), eq-eqb _ _ (R .version), ne-eqb _ _ (R .listed), ne-eqb _ _ (R .revised))
+    let b = placed (versionOf m) in
+    let k = speaks-known (versionOf m) (partyOf m) (R .speaks) in
+    let f = frame-by m (R .all) (omega (arith, R .low)) (omega (arith, R .high)) in
+    simp (f, k .0, le-ltb _ _ (R .low), le-ltb _ _ (R .high), known-by _ (k .1), ne-eqb _ _ (R .listed), ne-eqb _ _ (R .revised))
 
-pub text-length : (m : List ℕ) → readable m ≡ true → length (messageText m) + headSize ≡ length m
-unfolding messageText
-text-length m e = let R = readable-means m e in let l = length-drop headSize m in omega arith
+pub text-length : (m : List ℕ) → readable m ≡ true → length (messageText m) + headSize (versionOf m) ≡ length m
+unfolding messageText messageBody
+text-length m e =
+    let R = readable-means m e in
+    omega (arith, placed (versionOf m), length-drop textPlace (drop (bodyPlace (versionOf m)) m), length-drop (bodyPlace (versionOf m)) m)
 
-pub read-found : (m : List ℕ) (f : Field) (v : Revision) → readAnswer (Message f v) ≡ readingOf m → (readable m ≡ true) × (f .0 ≡ messageField m) × (v .number ≡ revisionOf m)
-unfolding readingOf readable
-read-found m f v e =
-    let (z, q) = succeeded (messageField m ∷ revisionOf m ∷ []) (f .0 ∷ v .number ∷ []) (readTests m) e in
-    (z, cc, cc)
+pub text-at : (m : List ℕ) → messageText m ≡ drop (headSize (versionOf m)) m
+unfolding messageText messageBody
+text-at m = drop-drop textPlace (bodyPlace (versionOf m)) m
+
+pub read-found : (m : List ℕ) (w : Version) (f : Field) (v : Revision) → readAnswer (Message w f v) ≡ readingOf m
+    → (readable m ≡ true) × (w .0 ≡ versionOf m) × (f .0 ≡ messageField m) × (v ≡ revisionOf m)
+unfolding readingOf readable revisionOf
+read-found m w f v e =
+    let (z, q) = succeeded (readValues (versionOf m) (messageField m) (revisionOf m)) (readValues (w .0) (f .0) v) (readTests m) e in
+    (z, cc, cc, revision-is v _ _ (cc) (cc))
 
 -- ---- what writing asks for
 
-writable : (f r : ℕ) (t b : List ℕ) → passes (writeTests f r t b) ≡ true → Writable f r t b
-unfolding writeTests
-writable f r t b e =
-    let p = none-of (writeTests f r t b) e in
-    record {
-      short = ltb-false _ _ (p .0);
-      listed = slotted f (eqb-false _ _ (p .1 .0)) .0;
-      given = eqb-false _ _ (p .1 .1 .0);
-      room = ltb-false _ _ (p .1 .1 .1 .0);
-    }
+module _ (w f : ℕ) (v : Revision) (t b : List ℕ) where
+  pub writable : passes (writeTests w f v t b) ≡ true → Writable w f v t b
+  unfolding writeTests
+  writable e =
+      let p = none-of (writeTests w f v t b) e in
+      record {
+        short = ltb-false _ _ (p .0);
+        speaks = speaks-of w (v .party .0) (not-false _ (p .1 .0)) (not-false _ (p .1 .1 .0));
+        listed = slotted f (eqb-false _ _ (p .1 .1 .1 .0)) .0;
+        given = eqb-false _ _ (p .1 .1 .1 .1 .0);
+        room = ltb-false _ _ (p .1 .1 .1 .1 .1 .0);
+      }
 
-pub written-by : (f r : ℕ) (t b : List ℕ) → Writable f r t b → passes (writeTests f r t b) ≡ true
-unfolding writeTests
-written-by f r t b W = simp (le-ltb _ _ (W .short), ne-eqb _ _ (listed-slot f (W .listed)), ne-eqb _ _ (W .given), le-ltb _ _ (W .room))
+  pub written-by : Writable w f v t b → passes (writeTests w f v t b) ≡ true
+  unfolding writeTests
+  written-by W =
+      let k = speaks-known w (v .party .0) (W .speaks) in
+      simp (le-ltb _ _ (W .short), k .0, k .2, ne-eqb _ _ (listed-slot f (W .listed)), ne-eqb _ _ (W .given), le-ltb _ _ (W .room))
 
--- ---- a written message
+  -- ---- a written message
 
--- it is one of its field, its revision and its text
-pub message-of : (f r : ℕ) (t b : List ℕ) → r < 2 ^ 32 → Writable f r t b → IsMessage (messageOf f r t) f r t
-unfolding messageOf headBytes
-message-of f r t b h W =
-    record {
-      l1 = 0;
-      l2 = length t + leastL;
-      r1 = getD (bytesOf revisionSize r) 0 0;
-      r2 = getD (bytesOf revisionSize r) 1 0;
-      r3 = getD (bytesOf revisionSize r) 2 0;
-      r4 = getD (bytesOf revisionSize r) 3 0;
-      parts = refl;
-      size = omega arith;
-      most = omega (arith, W .short);
-      listed = W .listed;
-      revision = big-bytes revisionSize r h;
-      given = W .given;
-    }
+  -- it is one of its version, its field, its revision and its text
+  pub message-of : v .number < 2 ^ 32 → Writable w f v t b → IsMessage (messageOf w f v t) w f v t
+  unfolding messageOf headBytes
+  message-of h W =
+      record {
+        l1 = 0;
+        l2 = length t + leastL w;
+        r1 = getD (bytesOf revisionSize (v .number)) 0 0;
+        r2 = getD (bytesOf revisionSize (v .number)) 1 0;
+        r3 = getD (bytesOf revisionSize (v .number)) 2 0;
+        r4 = getD (bytesOf revisionSize (v .number)) 3 0;
+        speaks = W .speaks;
+        parts = ap (λ (x : List ℕ). 0 ∷ (length t + leastL w) ∷ x) (append-assoc (opening w (v .party .0)) (f ∷ bytesOf revisionSize (v .number)) t);
+        size = omega arith;
+        most = omega (arith, W .short);
+        listed = W .listed;
+        revision = big-bytes revisionSize (v .number) h;
+        given = W .given;
+      }
+
+-- what stands behind L is read back
+opened : (m : List ℕ) (w p l1 l2 : ℕ) (x : List ℕ) → m ≡ l1 ∷ l2 ∷ (opening w p ++ x) → Speaks w p
+    → (versionOf m ≡ w) × (partyOf m ≡ p) × (messageBody m ≡ x) × (length m ≡ bodyPlace w + length x) × (lengthOf m ≡ big (l1 ∷ l2 ∷ []))
+unfolding opening partyOf messageBody
+opened m w p l1 l2 x e (first a b) = rw (e, a, b) (refl, refl, refl, omega arith, refl)
+opened m w p l1 l2 x e (second a b) = rw (e, a) (refl, refl, refl, omega arith, refl)
 
 -- what it is made of is read back from it
-pub message-is : (m : List ℕ) (f v : ℕ) (t : List ℕ) → IsMessage m f v t → Readable m × (messageField m ≡ f) × (revisionOf m ≡ v) × (messageText m ≡ t)
-unfolding messageText
-message-is m f v t M =
-    let R : Readable (M .l1 ∷ M .l2 ∷ 1 ∷ f ∷ M .r1 ∷ M .r2 ∷ M .r3 ∷ M .r4 ∷ t) = record {
+pub message-is : (m : List ℕ) (w f : ℕ) (v : Revision) (t : List ℕ) → IsMessage m w f v t
+    → Readable m × (versionOf m ≡ w) × (messageField m ≡ f) × (revisionOf m ≡ v) × (messageText m ≡ t)
+unfolding messageText revisionOf
+message-is m w f v t M =
+    let (ew, ep, eb, el, ey) = opened m w (v .party .0) (M .l1) (M .l2) (f ∷ M .r1 ∷ M .r2 ∷ M .r3 ∷ M .r4 ∷ t) (M .parts) (M .speaks) in
+    let b = placed w in
+    let n : big (bytesAt (messageBody m) revisionPlace revisionSize) ≡ v .number = rw eb (M .revision) in
+    let R : Readable m = record {
       all = omega (arith, M .size);
-      low = omega (arith, M .size);
-      high = omega (arith, M .size, M .most);
-      version = refl;
-      listed = listed-slot f (M .listed);
-      revised = λ e. M .given (sym (M .revision) ∙ e);
+      low = rw ew (omega (arith, M .size));
+      high = rw ew (omega (arith, M .size, M .most));
+      speaks = rw (ew, ep) (M .speaks);
+      listed = rw eb (listed-slot f (M .listed));
+      revised = λ e. M .given (sym n ∙ e);
     } in
-    rw (M .parts) (R, refl, M .revision, refl)
+    (R, ew, rw eb, sym (revision-is v _ _ (sym n) (sym ep)), rw eb)
 
-read-back : (m : List ℕ) (f v : ℕ) (t : List ℕ) → IsMessage m f v t → (readingOf m ≡ success (f ∷ v ∷ [])) × (messageText m ≡ t)
-read-back m f v t M =
-    let q = message-is m f v t M in
-    (reading-is m (q .0) ∙ rw (q .1, q .2), q .3)
+pub read-back : (m : List ℕ) (w f : ℕ) (v : Revision) (t : List ℕ) → IsMessage m w f v t → (readingOf m ≡ success (readValues w f v)) × (messageText m ≡ t)
+read-back m w f v t M =
+    let q = message-is m w f v t M in
+    (reading-is m (q .0) ∙ rw (q .1, q .2, q .3), q .4)
 
--- ---- a readable message is the one that the writer makes of its field, revision and text
+-- ---- a readable message is the one that the writer makes of its version, party, field, revision and text
 
 -- what stands from place i on: k bytes, and the rest
 bytes-from : (m : List ℕ) (k i : ℕ) → i + k ≤ length m → drop i m ≡ bytesAt m i k ++ drop (i + k) m
@@ -158,156 +235,73 @@ bytes-from m (suc k) i l =
     let e : suc i + k ≡ i + suc k = omega arith in
     drop-cons m i 0 (omega arith) ∙ ap (λ (x : List ℕ). getD m i 0 ∷ x) (rw e at (bytes-from m k (suc i) (omega arith)))
 
-written-read : (m : List ℕ) → Bytes m → readable m ≡ true → messageOf (messageField m) (revisionOf m) (messageText m) ≡ m
-unfolding messageOf headBytes messageText
+-- what stands behind L: the version and the party, and the rest
+opens : (m : List ℕ) → Speaks (versionOf m) (partyOf m) → 4 ≤ length m → m ≡ getD m 0 0 ∷ getD m 1 0 ∷ (opening (versionOf m) (partyOf m) ++ messageBody m)
+unfolding opening partyOf messageBody
+opens m (first e p) l = rw e (rw e at (bytes-from m 3 0 (omega arith)))
+opens m (second e p) l = rw e (rw e at (bytes-from m 4 0 (omega arith)))
+
+bytes-body : (m : List ℕ) → Bytes m → Bytes (messageBody m)
+unfolding messageBody
+bytes-body m h j = rw getD-drop (h (bodyPlace (versionOf m) + j))
+
+body-length : (m : List ℕ) → Readable m → textPlace ≤ length (messageBody m)
+unfolding messageBody
+body-length m R = omega (arith, placed (versionOf m), length-drop (bodyPlace (versionOf m)) m)
+
+written-read : (m : List ℕ) → Bytes m → readable m ≡ true → messageOf (versionOf m) (messageField m) (revisionOf m) (messageText m) ≡ m
+unfolding messageOf headBytes messageText revisionOf
 written-read m h e =
     let R = readable-means m e in
     let l = text-length m e in
-    let z : getD m 0 0 ≡ 0 = omega (arith, h 0, h 1) in
-    let o : length (drop headSize m) + leastL ≡ getD m 1 0 = omega (arith, h 0, h 1) in
-    ap (λ (x : List ℕ). 0 ∷ (length (drop headSize m) + leastL) ∷ 1 ∷ getD m 3 0 ∷ (x ++ drop headSize m)) (bytes-big (bytesAt m revisionPlace revisionSize) (each-at m revisionPlace revisionSize h))
-    ∙ sym (bytes-from m headSize 0 (omega arith) ∙ rw (z, R .version, o))
+    let k = placed (versionOf m) in
+    let b = messageBody m in
+    let z : 0 ≡ getD m 0 0 = omega (arith, h 0, h 1) in
+    let o : length (drop textPlace b) + leastL (versionOf m) ≡ getD m 1 0 = omega (arith, h 0, h 1) in
+    let s : List ℕ = opening (versionOf m) (partyOf m) in
+    let n = body-length m R in
+    ap (λ (x : List ℕ). (0 ∷ (length (drop textPlace b) + leastL (versionOf m)) ∷ (s ++ (getD b 0 0 ∷ x))) ++ drop textPlace b) (bytes-big (bytesAt b revisionPlace revisionSize) (each-at b revisionPlace revisionSize (bytes-body m h)))
+    ∙ ap (λ (x : List ℕ). 0 ∷ (length (drop textPlace b) + leastL (versionOf m)) ∷ x) (append-assoc s (getD b 0 0 ∷ bytesAt b revisionPlace revisionSize) (drop textPlace b))
+    ∙ ap (λ (x : List ℕ). 0 ∷ (length (drop textPlace b) + leastL (versionOf m)) ∷ (s ++ x)) (sym (bytes-from b textPlace 0 n))
+    ∙ (λ i. z i ∷ o i ∷ (s ++ b))
+    ∙ sym (opens m (R .speaks) (omega arith))
 
-read-writable : (m b : List ℕ) → readable m ≡ true → length m ≤ length b → Writable (messageField m) (revisionOf m) (messageText m) b
+read-writable : (m b : List ℕ) → readable m ≡ true → length m ≤ length b → Writable (versionOf m) (messageField m) (revisionOf m) (messageText m) b
+unfolding revisionOf
 read-writable m b e u =
     let R = readable-means m e in
     let l = text-length m e in
-    record { short = omega arith; listed = slotted (messageField m) (R .listed) .0; given = R .revised; room = omega arith }
+    let k = placed (versionOf m) in
+    record { short = omega arith; speaks = R .speaks; listed = slotted (messageField m) (R .listed) .0; given = R .revised; room = omega arith }
 
 pub text-short : (m : List ℕ) → readable m ≡ true → length (messageText m) ≤ textMax
 text-short m e = read-writable m m e (omega arith) .short
 
-pub revision-fits : (m : List ℕ) → Bytes m → revisionOf m < 2 ^ 32
-revision-fits m h = omega (arith, h revisionPlace, h (revisionPlace + 1), h (revisionPlace + 2), h (revisionPlace + 3))
+pub party-known : (m : List ℕ) → readable m ≡ true → Known (revisionOf m .party .0)
+unfolding revisionOf
+party-known m e = speaks-known (versionOf m) (partyOf m) (readable-means m e .speaks) .1
 
-is-message : (m : List ℕ) → Bytes m → readable m ≡ true → IsMessage m (messageField m) (revisionOf m) (messageText m)
+pub revision-fits : (m : List ℕ) → Bytes m → revisionOf m .number < 2 ^ 32
+unfolding revisionOf
+revision-fits m h = let k = bytes-body m h in omega (arith, k 1, k 2, k 3, k 4)
+
+pub is-message : (m : List ℕ) → Bytes m → readable m ≡ true → IsMessage m (versionOf m) (messageField m) (revisionOf m) (messageText m)
 is-message m h e =
-    rw (written-read m h e) at (message-of (messageField m) (revisionOf m) (messageText m) m (revision-fits m h) (read-writable m m e (omega arith)))
+    rw (written-read m h e) at (message-of (versionOf m) (messageField m) (revisionOf m) (messageText m) m (revision-fits m h) (read-writable m m e (omega arith)))
 
-written-again : (m b : List ℕ) → Bytes m → readable m ≡ true → length m ≤ length b
-    → (writingOf (messageField m) (revisionOf m) (messageText m) b ≡ success (length m ∷ [])) × (writtenOf (messageField m) (revisionOf m) (messageText m) b ≡ put b 0 m)
+pub written-again : (m b : List ℕ) → Bytes m → readable m ≡ true → length m ≤ length b
+    → (writingOf (versionOf m) (messageField m) (revisionOf m) (messageText m) b ≡ success (length m ∷ []))
+    × (writtenOf (versionOf m) (messageField m) (revisionOf m) (messageText m) b ≡ put b 0 m)
 unfolding writingOf writtenOf
 written-again m b h e u =
-    let w = written-by (messageField m) (revisionOf m) (messageText m) b (read-writable m b e u) in
-    (succeeds _ [] (writeTests (messageField m) (revisionOf m) (messageText m) b) w ∙ rw (text-length m e), rw (w, written-read m h e))
+    let w = written-by (versionOf m) (messageField m) (revisionOf m) (messageText m) b (read-writable m b e u) in
+    (succeeds _ [] (writeTests (versionOf m) (messageField m) (revisionOf m) (messageText m) b) w ∙ rw (text-length m e), rw (w, written-read m h e))
 
--- ---- read
+-- as many bytes before the text as its version has
+pub length-head : (w f : ℕ) (v : Revision) (n : ℕ) → length (headBytes w f v n) ≡ headSize w
+unfolding headBytes opening
+length-head w f v n = cases (eqb w 2) (λ t. rw t) (λ t. rw t)
 
-reading-made : (r : Reading) (f : Field) (v : Revision) → readAnswer r ≡ success (f .0 ∷ v .number ∷ []) → r ≡ Message f v
-reading-made (Message g w) f v e =
-    let p : g .0 ≡ f .0 = cc in
-    let q : w .number ≡ v .number = cc in
-    λ i. Message (record { 0 = p i }) (record { number = q i })
-reading-made (Refused n) f v e = absurd (no-success (n .0) [] _ e)
-
--- the promise of `read`, from its equation
-reads-by : (m : List ℕ) (r : Reading) → ((k : ℕ) → Fits w8 (getD m k 0)) → readAnswer r ≡ readingOf m → Reads m r
-reads-by m r h e = record {
-  answer = e;
-  exactly = λ f v t. (
-    λ p.
-        let q = read-found m f v (ap readAnswer (sym (p .0)) ∙ e) in
-        rw (q .1, q .2, ← (p .1)) (is-message m (λ k. h k .fits) (q .0)),
-    λ M.
-        let q = read-back m (f .0) (v .number) t M in
-        (reading-made r f v (e ∙ q .0), q .1),
-  );
-  made =
-      λ f v q b u.
-      let p = read-found m f v (ap readAnswer (sym q) ∙ e) in
-      rw (p .1, p .2) (written-again m b (λ k. h k .fits) (p .0) u);
-}
-
--- the ways out of `read`
-pub read-out : (k : ℕ) (m : List ℕ) (r : Reading) → ((i : ℕ) → Fits w8 (getD m i 0)) → Way (messageField m ∷ revisionOf m ∷ []) [] [] (readAnswer r) [] (Reads m r) k (readTests m)
-unfolding readingOf
-read-out k m r h = way-out _ [] [] _ [] _ k (readTests m) (λ p q. reads-by m r h p)
-
--- its tests, by what the code has for the parts of the message
-pub field-as : (g f k : ℕ) (z : Bool) → k ≡ slotOf f → f ≡ g → eqb k slotCount ≡ z → eqb (slotOf g) slotCount ≡ z
-field-as g f k z ek ef h = rw (← ef, ← ek) h
-
-module _ (m : List ℕ) where
-  module _ (a b l : ℕ) (el : l ≡ big (a ∷ b ∷ [])) (ea : a ≡ getD m 0 0) (eb : b ≡ getD m 1 0) (z : Bool) where
-    length-is : l ≡ lengthOf m
-    length-is = cc
-
-    pub rest-as : not (eqb (l + 2) (length m)) ≡ z → not (eqb (lengthOf m + 2) (length m)) ≡ z
-    rest-as h = rw (← length-is) h
-
-    pub low-as : ltb l leastL ≡ z → ltb (lengthOf m) leastL ≡ z
-    low-as h = rw (← length-is) h
-
-    pub high-as : ltb mostL l ≡ z → ltb mostL (lengthOf m) ≡ z
-    high-as h = rw (← length-is) h
-
-  pub version-as : (v : ℕ) (z : Bool) → v ≡ getD m 2 0 → not (eqb v 1) ≡ z → not (eqb (versionOf m) 1) ≡ z
-  version-as v z e h = rw (← e) h
-
-  module _ (p q r s n : ℕ) (en : n ≡ big (p ∷ q ∷ r ∷ s ∷ [])) (ep : p ≡ getD m revisionPlace 0) (eq : q ≡ getD m (revisionPlace + 1) 0) (er : r ≡ getD m (revisionPlace + 2) 0) (es : s ≡ getD m (revisionPlace + 3) 0) where
-    number-is : n ≡ revisionOf m
-    number-is = cc
-
-    pub number-as : (z : Bool) → eqb n 0 ≡ z → eqb (revisionOf m) 0 ≡ z
-    number-as z h = rw (← number-is) h
-
-    pub values-as : (f : ℕ) → f ≡ getD m 3 0 → success (f ∷ n ∷ []) ≡ success (messageField m ∷ revisionOf m ∷ [])
-    values-as f e = rw (← number-is, ← e)
-
-pub ruleset reading = (tested, field-as, rest-as, low-as, high-as, version-as, number-as, values-as)
-
-pub text-is : (m t : List ℕ) → t ≡ between m headSize (length m) → t ≡ messageText m
-unfolding between messageText
-text-is m t e = let l = length-drop headSize m in e ∙ take-all (length m - headSize) (drop headSize m) (omega arith)
-
--- ---- write
-
-written-made : (w : Written) (n : ℕ) → writeAnswer w ≡ success (n ∷ []) → w ≡ written.Bytes n
-written-made (written.Bytes k) n e = cc
-written-made (written.Refused k) n e = absurd (no-success (k .0) [] _ e)
-
--- the promise of `write`, from its two equations
-writes-by : (f r : ℕ) (t b : List ℕ) (w : Written) (e : List ℕ) → Fits w32 r → writeAnswer w ≡ writingOf f r t b → e ≡ writtenOf f r t b → Writes f r t b w e
-unfolding writingOf writtenOf
-writes-by f r t b w e h p q = record {
-  answer = p;
-  buffer = q;
-  refused = λ n. q ∙ unchanged _ _ _ (writeTests f r t b) (λ s. n (length t + headSize) (written-made w (length t + headSize) (p ∙ s)));
-  exactly = (
-    λ s. writable f r t b (succeeded _ _ (writeTests f r t b) (ap writeAnswer (sym s) ∙ p) .0),
-    λ W. written-made w (length t + headSize) (p ∙ succeeds _ [] (writeTests f r t b) (written-by f r t b W)),
-  );
-  made = λ n s. let o = out-of n s in (rw (o .1) (o .0), o .2);
-  back = λ n s. let o = out-of n s in rw (o .1) (read-back _ f r t (o .0));
-}
-  where
-    -- the message, and what stands before and behind its end
-    out-of : (n : ℕ) → w ≡ written.Bytes n → IsMessage (messageOf f r t) f r t × (take n e ≡ messageOf f r t) × (drop n e ≡ drop n b)
-    out-of n s =
-        let (z, k) = succeeded _ (n ∷ []) (writeTests f r t b) (ap writeAnswer (sym s) ∙ p) in
-        let o : n ≡ length t + headSize = cc in
-        let M = message-of f r t b (h .fits) (writable f r t b z) in
-        let l = ap length (M .parts) in
-        let u : e ≡ put b 0 (messageOf f r t) = q ∙ rw z in (
-          M,
-          ap (take n) u ∙ mid-put b 0 (messageOf f r t) n (omega arith) (omega arith),
-          ap (drop n) u ∙ drop-put b 0 (messageOf f r t) n (omega arith) (omega arith),
-        )
-
-pub head-is : (f r n : ℕ) (d : List ℕ) → d ≡ bytesOf revisionSize r → 0 ∷ (n + leastL) ∷ 1 ∷ f ∷ getD d 0 0 ∷ getD d 1 0 ∷ getD d 2 0 ∷ getD d 3 0 ∷ [] ≡ headBytes f r n
-unfolding headBytes
-head-is f r n d e = rw e
-
--- the ways out of `write`
-pub write-out : (k f r : ℕ) (t b : List ℕ) (w : Written) (e : List ℕ) → Fits w32 r → Way ((length t + headSize) ∷ []) (put b 0 (messageOf f r t)) b (writeAnswer w) e (Writes f r t b w e) k (writeTests f r t b)
-unfolding writingOf writtenOf
-write-out k f r t b w e h = way-out _ _ _ _ e _ k (writeTests f r t b) (writes-by f r t b w e h)
-
-pub message-put : (f r : ℕ) (t b d x e : List ℕ) → e ≡ putAt x headSize t → x ≡ putAt b 0 d → d ≡ headBytes f r (length t) → length t + headSize ≤ length b → e ≡ put b 0 (messageOf f r t)
-unfolding messageOf headBytes
-message-put f r t b d x e ee ex ed u =
-    let ld : length d ≡ headSize = ap length ed in
-    let fx : x ≡ put b 0 d = ex ∙ put-fits b 0 d (omega arith) in
-    ee ∙ put-next b d t x headSize ld (omega arith) fx ∙ rw ed
-
-pub ruleset writing = (needs, tested, head-is, text-is, field-as, message-put)
+pub length-message : (w f : ℕ) (v : Revision) (t : List ℕ) → length (messageOf w f v t) ≡ length t + headSize w
+unfolding messageOf
+length-message w f v t = length-append (headBytes w f v (length t)) t ∙ omega (arith, length-head w f v (length t))

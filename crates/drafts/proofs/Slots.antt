@@ -9,31 +9,37 @@ use native.Mathlib.Decide.{decLt}
 use native.Mathlib.Omega.{arith}
 use borrow.Author.Tests.{ltb-true, le-leb, eq-eqb, ne-eqb, eqb-true, not-true, not-false}
 use borrow.Author.Needs.{needs}
+use mir.Syntax.{w8}
+use mir.Val.{Fits}
 use lib.Dec.{eqb, ltb}
 use lib.ListN.{length, getD, take, drop, replicate, length-append, length-drop, length-replicate}
 use lib.Seq.{getD-take, getD-drop, take-all, take-add, take-take, drop-at, drop-drop, drop-append-seam, length-take-le}
 use Rattle.texts.specs.Texts.{between, blank, every, are}
+use Rattle.texts.specs.Numbers.{big}
 use Rattle.texts.specs.Buffers.{put}
 use Rattle.texts.proofs.Big.{big-bytes}
-use Rattle.texts.proofs.Bools.{both, and2, alike}
+use Rattle.texts.proofs.Bools.{cases, both, and2, alike}
 use Rattle.texts.proofs.Puts.{length-put, part-put, mid-put}
 use Rattle.sheets.proofs.Frames.{length-cell}
 use Rattle.sheets.proofs.Cells.{cells-each, cells-by}
 use Rattle.sheets.specs.Sheet.{slotCount, textMax, cellSize, cell, cellText, cellOk}
 use Rattle.sheets.specs.Working.Cells.{cellAt, cellsAt}
+use Rattle.drafts.specs.Revision.{knownParty, Known}
 use Rattle.drafts.specs.Message.{revisionSize}
-use Rattle.drafts.specs.Draft.{cellPlace, slotSize, draftSize, slotIn, slotRevision, slotCell, slotText, slotBytes, slotFormed, slotsFormed, draftFormed}
-use Rattle.drafts.specs.Working.Steps.{unrevised, unrevisedAll}
+use Rattle.drafts.specs.Draft.{cellPlace, slotSize, draftSize, slotIn, slotRevision, slotCell, slotText, slotBytes, partyFits, slotFormed, slotsFormed, draftFormed}
+use Rattle.drafts.specs.Working.Steps.{unknownParty, misfit, misfitAll}
+use Rattle.drafts.specs.declared.revision.Revision.{Revision}
+use Rattle.drafts.proofs.Messages.{revision-is, known, known-by, small}
 
--- ---- a slot of a revision and a text
+-- ---- a slot of a revision, its party and a text
 
-pub length-slot : (r : ℕ) (t : List ℕ) → length t ≤ textMax → length (slotBytes r t) ≡ slotSize
+pub length-slot : (v : Revision) (t : List ℕ) → length t ≤ textMax → length (slotBytes v t) ≡ slotSize
 unfolding slotBytes cell
-length-slot r t h = simp (length-append, length-replicate) (omega arith)
+length-slot v t h = simp (length-append, length-replicate) (omega arith)
 
-pub slot-revision : (r : ℕ) (t : List ℕ) → r < 2 ^ 32 → slotRevision (slotBytes r t) ≡ r
-unfolding slotBytes cell
-slot-revision r t h = big-bytes revisionSize r h
+pub slot-revision : (v : Revision) (t : List ℕ) → v .number < 2 ^ 32 → slotRevision (slotBytes v t) ≡ v
+unfolding slotBytes cell slotRevision
+slot-revision v t h = sym (revision-is v _ _ (sym (big-bytes revisionSize (v .number) h)) refl)
 
 every-zeros : (n : ℕ) → every (are 0) (replicate n 0) ≡ true
 unfolding every are
@@ -47,14 +53,22 @@ cell-ok t h =
     let f : cellSize - suc (length t) ≡ textMax - length t = omega arith in
     rw (le-leb _ _ h, e, f, drop-append-seam t (replicate (textMax - length t) 0), take-all {A = ℕ} (textMax - length t) (replicate (textMax - length t) 0) (omega (arith, length-replicate {A = ℕ} (textMax - length t) 0))) (every-zeros (textMax - length t))
 
-pub slot-formed : (r : ℕ) (t : List ℕ) → r < 2 ^ 32 → (r ≡ 0 → ⊥) → length t ≤ textMax → slotFormed (slotBytes r t) ≡ true
+pub slot-formed : (v : Revision) (t : List ℕ) → v .number < 2 ^ 32 → (v .number ≡ 0 → ⊥) → Known (v .party .0) → length t ≤ textMax → slotFormed (slotBytes v t) ≡ true
 unfolding slotFormed slotCell slotBytes between
-slot-formed r t h z l = rw (take-all cellSize (cell t) (omega (arith, length-cell t l)), cell-ok t l, slot-revision r t h, ne-eqb r 0 z)
+slot-formed v t h z k l = rw (take-all cellSize (cell t) (omega (arith, length-cell t l)), cell-ok t l, slot-revision v t h, ne-eqb (v .number) 0 z, known-by (v .party .0) k)
+
+-- the party in a slot that is formed is a byte
+pub party-small : (s : List ℕ) → slotFormed s ≡ true → slotRevision s .party .0 < 256
+unfolding slotFormed
+party-small s e =
+    let v = slotRevision s in
+    let q = both (partyFits v) _ (both (cellOk (slotCell s)) _ e .1) .0 in
+    cases (eqb (v .number) 0) (λ t. omega (arith, eqb-true (v .party .0) 0 (rw t at q))) (λ f. small (v .party .0) (known (v .party .0) (rw f at q)))
 
 -- its cell is that of the text
-pub slot-cell : (r : ℕ) (t : List ℕ) → length t ≤ textMax → slotCell (slotBytes r t) ≡ cell t
+pub slot-cell : (v : Revision) (t : List ℕ) → length t ≤ textMax → slotCell (slotBytes v t) ≡ cell t
 unfolding slotCell slotBytes between
-slot-cell r t l = take-all cellSize (cell t) (omega (arith, length-cell t l))
+slot-cell v t l = take-all cellSize (cell t) (omega (arith, length-cell t l))
 
 -- ---- the slots of a draft
 
@@ -88,23 +102,44 @@ pub formed-other : (d : List ℕ) → (length d ≡ draftSize → ⊥) → false
 unfolding draftFormed
 formed-other d e = simp (ne-eqb (length d) draftSize e)
 
--- the loop: the lengths of texts without a revision, summed
-pub unrevised-none : (d : List ℕ) → 0 ≡ unrevisedAll d 0
-unfolding unrevisedAll
-unrevised-none d = refl
+-- the loop: what does not fit, summed
+pub misfit-none : (d : List ℕ) → 0 ≡ misfitAll d 0
+unfolding misfitAll
+misfit-none d = refl
 
-pub unrevised-more : (d s : List ℕ) (n k m : ℕ) → k ≡ unrevisedAll d n → s ≡ slotIn d n → m ≡ unrevised s → k + m ≡ unrevisedAll d (n + 1)
-unfolding unrevisedAll
-unrevised-more d s n k m e es em = rw (add-one n, e, em, es)
+pub misfit-more : (d s : List ℕ) (n k m : ℕ) → k ≡ misfitAll d n → s ≡ slotIn d n → m ≡ misfit s → k + m ≡ misfitAll d (n + 1)
+unfolding misfitAll
+misfit-more d s n k m e es em = rw (add-one n, e, em, es)
 
--- the ways out of `unrevised`
-pub unrevised-text : (s : List ℕ) (r m n : ℕ) → r ≡ slotRevision s → r ≡ 0 → m ≡ getD s cellPlace 0 → n ≡ m → n ≡ unrevised s
-unfolding unrevised
-unrevised-text s r m n e z g w = rw (eq-eqb _ _ (sym e ∙ z)) (w ∙ g)
+-- the ways out of `unknown_party`
+module _ (p : ℕ) (b : Bool) (e : b ≡ knownParty p) where
+  pub unknown-not : b ≡ true → 0 ≡ unknownParty p
+  unfolding unknownParty
+  unknown-not t = rw (← e, t)
 
-pub unrevised-given : (s : List ℕ) (r : ℕ) → r ≡ slotRevision s → (r ≡ 0 → ⊥) → 0 ≡ unrevised s
-unfolding unrevised
-unrevised-given s r e z = rw (ne-eqb _ _ (λ q. z (e ∙ q)))
+  pub unknown-is : b ≡ false → 1 ≡ unknownParty p
+  unfolding unknownParty
+  unknown-is f = rw (← e, f)
+
+unknown-most : (p : ℕ) → unknownParty p ≤ 1
+unfolding unknownParty
+unknown-most p = cases (knownParty p) (λ t. rw t (omega arith)) (λ f. rw f (omega arith))
+
+party-byte : (s : List ℕ) → ((k : ℕ) → Fits w8 (getD s k 0)) → slotRevision s .party .0 < 256
+unfolding slotRevision
+party-byte s h = h revisionSize .fits
+
+-- the ways out of `misfit`
+module _ (s : List ℕ) (v : Revision) (ev : v ≡ slotRevision s) where
+  pub misfit-zero : ((k : ℕ) → Fits w8 (getD s k 0)) → (a n : ℕ) → a ≡ getD s cellPlace 0 → n ≡ big (a ∷ v .party .0 ∷ []) → v .number ≡ 0 → (n ≡ misfit s) × (n ≤ 65535)
+  unfolding misfit
+  misfit-zero h a n ea en z =
+      let p : v .party .0 < 256 = rw ev (party-byte s h) in
+      (rw (← ev, eq-eqb _ _ z, ← ea) en, omega (arith, h cellPlace .fits))
+
+  pub misfit-given : (m : ℕ) → m ≡ unknownParty (v .party .0) → (v .number ≡ 0 → ⊥) → (m ≡ misfit s) × (m ≤ 65535)
+  unfolding misfit
+  misfit-given m e z = (rw (← ev, ne-eqb _ _ z) e, omega (arith, unknown-most (v .party .0)))
 
 pub record Formed (d : List ℕ) : Type 0 where
   pub sized : length d ≡ draftSize
@@ -149,8 +184,8 @@ unfolding cellAt
 slot-inside d z i h = rw (le-leb (cellPlace + i * slotSize + cellSize) (length d) (omega arith), slot-cell-at d z i h)
 
 -- a sum is 0 exactly if each of its numbers is
-sum-none : (d : List ℕ) (n : ℕ) → unrevisedAll d n ≡ 0 → (i : ℕ) → i < n → unrevised (slotIn d i) ≡ 0
-unfolding unrevisedAll
+sum-none : (d : List ℕ) (n : ℕ) → misfitAll d n ≡ 0 → (i : ℕ) → i < n → misfit (slotIn d i) ≡ 0
+unfolding misfitAll
 sum-none d zero e i h = absurd (omega arith)
 sum-none d (suc n) e i h =
     elim (decLt i n) [
@@ -158,8 +193,8 @@ sum-none d (suc n) e i h =
       | no q ↦ let k : i ≡ n = omega arith in rw k (omega arith)
     ]
 
-none-sum : (d : List ℕ) (n : ℕ) → ((i : ℕ) → i < n → unrevised (slotIn d i) ≡ 0) → unrevisedAll d n ≡ 0
-unfolding unrevisedAll
+none-sum : (d : List ℕ) (n : ℕ) → ((i : ℕ) → i < n → misfit (slotIn d i) ≡ 0) → misfitAll d n ≡ 0
+unfolding misfitAll
 none-sum d zero f = refl
 none-sum d (suc n) f = rw (none-sum d n (λ i h. f i (omega arith)), f n (omega arith))
 
@@ -180,37 +215,44 @@ text-blank s l =
     let g : getD c 0 0 ≡ getD s cellPlace 0 = getD-take cellSize (drop cellPlace s) 0 0 (omega arith) ∙ getD-drop cellPlace s 0 0 in
     short-blank c k ∙ ap (λ (n : ℕ). eqb n 0) g
 
--- "revision 0 with a text", as the definition and as the code ask it
+-- what fits before a text, as the definition and as the code ask it
 twice : (b : Bool) → not (not b) ≡ b
 twice true = refl
 twice false = refl
 
-no-text : (z : Bool) (n : ℕ) → not (z && not (eqb n 0)) ≡ eqb (cond z n 0) 0
-no-text true n = twice (eqb n 0)
-no-text false n = refl
+neither : (n p : ℕ) → (eqb p 0 && not (not (eqb n 0))) ≡ eqb (big (n ∷ p ∷ [])) 0
+neither n p =
+    alike (eqb p 0 && not (not (eqb n 0))) (eqb (big (n ∷ p ∷ [])) 0)
+    (λ t. let q = both (eqb p 0) (not (not (eqb n 0))) t in eq-eqb (big (n ∷ p ∷ [])) 0 (omega (arith, eqb-true p 0 (q .0), eqb-true n 0 (sym (twice (eqb n 0)) ∙ q .1))))
+    (λ t. let e = eqb-true (big (n ∷ p ∷ [])) 0 t in and2 (eqb p 0) (not (not (eqb n 0))) (eq-eqb p 0 (omega arith)) (twice (eqb n 0) ∙ eq-eqb n 0 (omega arith)))
 
-slot-is : (s : List ℕ) → length s ≡ slotSize → slotFormed s ≡ (cellOk (slotCell s) && eqb (unrevised s) 0)
-unfolding slotFormed unrevised
-slot-is s l = rw (text-blank s l, no-text (eqb (slotRevision s) 0) (getD s cellPlace 0))
+heads-fit : (z : Bool) (n p : ℕ) → (cond z (eqb p 0) (knownParty p) && not (z && not (eqb n 0))) ≡ eqb (cond z (big (n ∷ p ∷ [])) (unknownParty p)) 0
+unfolding unknownParty
+heads-fit true n p = neither n p
+heads-fit false n p = cases (knownParty p) (λ t. rw t) (λ f. rw f)
+
+slot-is : (s : List ℕ) → length s ≡ slotSize → slotFormed s ≡ (cellOk (slotCell s) && eqb (misfit s) 0)
+unfolding slotFormed misfit
+slot-is s l = rw (text-blank s l, heads-fit (eqb (slotRevision s .number) 0) (getD s cellPlace 0) (slotRevision s .party .0))
 
 module _ (d : List ℕ) (z : length d ≡ draftSize) (q : Bool) (e : q ≡ cellsAt slotSize slotCount d cellPlace) where
-  slot-at : (i : ℕ) → i < slotCount → slotFormed (slotIn d i) ≡ (cellAt d (cellPlace + i * slotSize) && eqb (unrevised (slotIn d i)) 0)
+  slot-at : (i : ℕ) → i < slotCount → slotFormed (slotIn d i) ≡ (cellAt d (cellPlace + i * slotSize) && eqb (misfit (slotIn d i)) 0)
   slot-at i h = slot-is (slotIn d i) (length-slot-in d z i h) ∙ rw (slot-inside d z i h)
 
-  both-formed : draftFormed d ≡ true → (q ≡ true) × (unrevisedAll d slotCount ≡ 0)
+  both-formed : draftFormed d ≡ true → (q ≡ true) × (misfitAll d slotCount ≡ 0)
   both-formed t =
       let w = formed-means d t in
-      let each : (i : ℕ) → i < slotCount → (cellAt d (cellPlace + i * slotSize) ≡ true) × (eqb (unrevised (slotIn d i)) 0 ≡ true) = λ i j. both _ _ (sym (slot-at i j) ∙ w .slot i j) in
+      let each : (i : ℕ) → i < slotCount → (cellAt d (cellPlace + i * slotSize) ≡ true) × (eqb (misfit (slotIn d i)) 0 ≡ true) = λ i j. both _ _ (sym (slot-at i j) ∙ w .slot i j) in
       (e ∙ cells-by slotSize d slotCount cellPlace (λ i j. each i j .0), none-sum d slotCount (λ i j. eqb-true _ _ (each i j .1)))
 
   pub cells-not : not q ≡ true → false ≡ draftFormed d
   cells-not f = alike false (draftFormed d) (λ x. absurd (false≢true x)) (λ t. sym (not-true q f) ∙ both-formed t .0)
 
-  pub tested : (n k : ℕ) → not q ≡ false → k ≡ unrevisedAll d n → n ≤ slotCount → slotCount ≤ n → eqb k 0 ≡ draftFormed d
+  pub tested : (n k : ℕ) → not q ≡ false → k ≡ misfitAll d n → n ≤ slotCount → slotCount ≤ n → eqb k 0 ≡ draftFormed d
   tested n k t c l h =
-      let all : unrevisedAll d slotCount ≡ k = let m : n ≡ slotCount = omega arith in rw (← m) (sym c) in
+      let all : misfitAll d slotCount ≡ k = let m : n ≡ slotCount = omega arith in rw (← m) (sym c) in
       alike (eqb k 0) (draftFormed d)
       (λ u. formed-by d (record { sized = z; slot = λ i j. slot-at i j ∙ and2 _ _ (cells-each slotSize d slotCount cellPlace (sym e ∙ not-false q t) i j) (eq-eqb _ _ (sum-none d slotCount (all ∙ eqb-true _ _ u) i j)) }))
       (λ u. eq-eqb _ _ (sym all ∙ both-formed u .1))
 
-pub ruleset forms = (needs, formed-other, cells-not, unrevised-none, unrevised-more, unrevised-text, unrevised-given, tested)
+pub ruleset forms = (needs, formed-other, cells-not, unknown-not, unknown-is, misfit-none, misfit-more, tested)

@@ -1,8 +1,8 @@
--- The draft (document 01, "Draft and sheet"). Assumes nothing.
+-- The draft (document 01, "Draft and sheet"; R-8). Assumes nothing.
 use mathlib.Core.Bool.{Bool, true, false, cond, not, _&&_}
 use mathlib.Core.List.{List, [], _∷_, _++_}
 use Prim.Native.Nat.{ℕ, zero, suc, _+_, _-_, _*_}
-use lib.Dec.{eqb, ltb}
+use lib.Dec.{eqb}
 use lib.ListN.{length, getD, replicate}
 use Rattle.texts.specs.Quoted.{Text, bytes}
 use Rattle.texts.specs.Texts.{between, same, blank}
@@ -10,7 +10,9 @@ use Rattle.texts.specs.Numbers.{big, bytesOf, bytesAt}
 use Rattle.texts.specs.Buffers.{put}
 use Rattle.texts.specs.Answers.{Answer, success, refusal, Test, _refuses_, answerBy, bufferBy}
 use Rattle.sheets.specs.Sheet.{slotCount, slotOf, cellSize, sheetSize, cell, cellText, cellOk}
+use Rattle.drafts.specs.Revision.{knownParty, _by_, rank, comparison}
 use Rattle.drafts.specs.Message.{revisionSize, messageField, revisionOf, messageText, readTests}
+use Rattle.drafts.specs.declared.revision.Revision.{Revision}
 use Rattle.drafts.specs.declared.revision.Comparison.{Comparison}
 use Rattle.drafts.specs.declared.revision.Comparison.the-variants.{Newer, Same, Older, Clash}
 use Rattle.drafts.specs.declared.draft.Begun.{Begun}
@@ -20,11 +22,12 @@ use Rattle.drafts.specs.declared.draft.Posted.the-variants as posted
 use Rattle.drafts.specs.declared.draft.Copied.{Copied}
 use Rattle.drafts.specs.declared.draft.Copied.the-variants as copied
 
--- a slot: "revision (4, big-endian, 0 = never given), text length (1), text padded with zero bytes to 25": a sheet's cell ends it
+-- a slot: "revision (4, big-endian, 0 = never given)", "a party byte after its revision", "text length (1), text padded with zero bytes to
+-- 25": a sheet's cell ends it
 abbrev pub cellPlace : ℕ
-cellPlace = revisionSize
+cellPlace = revisionSize + 1
 
--- "A draft has 450 bytes, slot i at 30 × i"
+-- "it has 31 bytes and a draft 465"
 abbrev pub slotSize : ℕ
 slotSize = cellPlace + cellSize
 
@@ -34,8 +37,8 @@ draftSize = slotCount * slotSize
 unfoldable pub slotIn : List ℕ → ℕ → List ℕ
 slotIn d i = between d (i * slotSize) (i * slotSize + slotSize)
 
-abbrev pub slotRevision : List ℕ → ℕ
-slotRevision s = big (bytesAt s 0 revisionSize)
+unfoldable pub slotRevision : List ℕ → Revision
+slotRevision s = big (bytesAt s 0 revisionSize) by getD s revisionSize 0
 
 unfoldable pub slotCell : List ℕ → List ℕ
 slotCell s = between s cellPlace slotSize
@@ -43,20 +46,24 @@ slotCell s = between s cellPlace slotSize
 unfoldable pub slotText : List ℕ → Text
 slotText s = cellText (slotCell s)
 
-unfoldable pub slotBytes : ℕ → Text → List ℕ
-slotBytes r t = bytesOf revisionSize r ++ cell t
+unfoldable pub slotBytes : Revision → Text → List ℕ
+slotBytes v t = bytesOf revisionSize (v .number) ++ (v .party .0 ∷ cell t)
 
--- what wins is the higher rank: a message's is its revision, and 0, that of a slot never given, is none's
+-- what wins is the higher rank, a message's being that of its revision and party; 0, that of a slot never given, is none's
 unfoldable pub rankOf : List ℕ → ℕ
-rankOf m = revisionOf m
+rankOf m = rank (revisionOf m)
 
 -- the slot that holds the message m
 unfoldable pub slotWith : List ℕ → List ℕ
 slotWith m = slotBytes (revisionOf m) (messageText m)
 
--- "Malformed: another size, a length above 25, a nonzero pad byte; in a draft also revision 0 with a text"
+-- "0 exactly if the revision is 0 and otherwise 1 or 2"
+abbrev pub partyFits : Revision → Bool
+partyFits v = cond (eqb (v .number) 0) (eqb (v .party .0) 0) (knownParty (v .party .0))
+
+-- "Malformed: another size, a length above 25, a nonzero pad byte; in a draft also revision 0 with a text", and a party that does not fit
 unfoldable pub slotFormed : List ℕ → Bool
-slotFormed s = cellOk (slotCell s) && not (eqb (slotRevision s) 0 && not (blank (slotText s)))
+slotFormed s = cellOk (slotCell s) && (partyFits (slotRevision s) && not (eqb (slotRevision s .number) 0 && not (blank (slotText s))))
 
 -- the first n slots
 unfoldable pub slotsFormed : List ℕ → ℕ → Bool
@@ -66,7 +73,7 @@ slotsFormed d (suc n) = slotsFormed d n && slotFormed (slotIn d n)
 unfoldable pub draftFormed : List ℕ → Bool
 draftFormed d = eqb (length d) draftSize && slotsFormed d slotCount
 
--- "Fresh: all zero"; "for fresh, size not 450"
+-- "Fresh: all zero"; for fresh, size not 465
 unfoldable pub freshDraft : List ℕ
 freshDraft = replicate draftSize 0
 
@@ -83,13 +90,9 @@ abbrev pub beginAnswer : Begun → Answer
 beginAnswer begun.Made = success []
 beginAnswer (begun.Refused n) = refusal (n .0) []
 
--- "Posting a message, by its revision against the slot's: higher, stored, "newer"; equal with the same text, "same";
--- lower, "older""; a clash is "equal revision, other text"
-abbrev pub comparison : ℕ → ℕ → Bool → Comparison
-comparison r h alike = cond (ltb h r) Newer (cond (ltb r h) Older (cond alike Same Clash))
-
-unfoldable pub slotComparison : List ℕ → ℕ → Text → Comparison
-slotComparison s r t = comparison r (slotRevision s) (same (slotText s) t)
+-- "Posting a message, by its revision against the slot's", and by the party
+unfoldable pub slotComparison : List ℕ → Revision → Text → Comparison
+slotComparison s v t = comparison v (slotRevision s) (same (slotText s) t)
 
 -- how a message stands to the slot of its field
 unfoldable pub comparisonOf : List ℕ → List ℕ → Comparison

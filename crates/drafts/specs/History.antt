@@ -3,12 +3,13 @@
 use mathlib.Core.Path.{_≡_}
 use mathlib.Core.Bool.{Bool, true, false, cond, _&&_}
 use mathlib.Core.List.{List, [], _∷_, _++_, List·Memᴰ}
-use Prim.Native.Nat.{ℕ, _<_, _≤_, max}
+use Prim.Native.Nat.{ℕ, max}
 use lib.Dec.{eqb}
 use lib.ListN.{replicate}
 use Rattle.texts.specs.Numbers.{Bytes}
 use Rattle.sheets.specs.Sheet.{slotOf}
-use Rattle.drafts.specs.Message.{messageField, messageText, readable}
+use Rattle.drafts.specs.Revision.{_below_}
+use Rattle.drafts.specs.Message.{partyOf, messageField, revisionOf, messageText, readable}
 use Rattle.drafts.specs.Draft.{slotSize, rankOf, slotWith, freshDraft, postedTo}
 
 -- "The first posting gets a fresh draft, each later one the draft as the posting before left it"
@@ -27,12 +28,12 @@ names i m = readable m && eqb (slotOf (messageField m)) i
 unfoldable pub rankIn : ℕ → List ℕ → ℕ
 rankIn i m = cond (names i m) (rankOf m) 0
 
--- "the highest revision among the readable messages that name its field"
+-- the highest rank, "by revision, then party", among the readable messages that name its field
 abbrev pub highest : ℕ → List (List ℕ) → ℕ
 highest i [] = 0
 highest i (m ∷ ms) = max (rankIn i m) (highest i ms)
 
--- "the first in the list that has this revision"
+-- "the first in the list among equals"
 abbrev pub firstOf : ℕ → ℕ → List (List ℕ) → List ℕ
 firstOf i r [] = []
 firstOf i r (m ∷ ms) = cond (eqb (rankIn i m) r) m (firstOf i r ms)
@@ -41,12 +42,14 @@ firstOf i r (m ∷ ms) = cond (eqb (rankIn i m) r) m (firstOf i r ms)
 unfoldable pub emptySlot : List ℕ
 emptySlot = replicate slotSize 0
 
--- "a slot holds the highest revision .., with the text of the first in the list that has this revision"
+-- "each slot ends with the revision, party and text of the readable message for its field that is greatest by revision, then party, the
+-- first in the list among equals"
 unfoldable pub endSlot : ℕ → List (List ℕ) → List ℕ
 endSlot i ms = cond (eqb (highest i ms) 0) emptySlot (slotWith (firstOf i (highest i ms) ms))
 
 -- the same with no function: none names the field of slot i and the slot is all zero; or m stands in the list and names it,
--- every earlier one that names it has a lower rank (revision), and no later one a higher, and the slot holds m's revision and text
+-- every earlier one that names it is below it by revision, then party, and it is below no later one, and the slot holds m's revision,
+-- party and text
 pub data Ends (i : ℕ) (ms : List (List ℕ)) (slot : List ℕ) : Type 0 where
   none : ((a : List ℕ) → List·Memᴰ a ms → names i a ≡ false) → slot ≡ emptySlot → Ends i ms slot
   won :
@@ -54,8 +57,8 @@ pub data Ends (i : ℕ) (ms : List (List ℕ)) (slot : List ℕ) : Type 0 where
       (m : List ℕ)
       → ms ≡ before ++ m ∷ after
       → names i m ≡ true
-      → ((a : List ℕ) → List·Memᴰ a before → names i a ≡ true → rankOf a < rankOf m)
-      → ((a : List ℕ) → List·Memᴰ a after → names i a ≡ true → rankOf a ≤ rankOf m)
+      → ((a : List ℕ) → List·Memᴰ a before → names i a ≡ true → revisionOf a below revisionOf m)
+      → ((a : List ℕ) → List·Memᴰ a after → names i a ≡ true → revisionOf m below revisionOf a → ⊥)
       → slot ≡ slotWith m
       → Ends i ms slot
 
@@ -63,7 +66,7 @@ pub data Ends (i : ℕ) (ms : List (List ℕ)) (slot : List ℕ) : Type 0 where
 abbrev pub AllBytes : List (List ℕ) → Type 0
 AllBytes ms = (m : List ℕ) → List·Memᴰ m ms → Bytes m
 
--- no two readable messages of one field and rank (revision) differ in text
+-- "the premise on the list: same field, revision and party, same text"
 abbrev pub NoClash : List (List ℕ) → Type 0
 NoClash ms =
     (a b : List ℕ)
@@ -72,5 +75,18 @@ NoClash ms =
     → readable a ≡ true
     → readable b ≡ true
     → messageField a ≡ messageField b
-    → rankOf a ≡ rankOf b
+    → revisionOf a ≡ revisionOf b
     → messageText a ≡ messageText b
+
+-- the messages of a list that a test passes, in their order
+abbrev pub those : (List ℕ → Bool) → List (List ℕ) → List (List ℕ)
+those t [] = []
+those t (m ∷ ms) = cond (t m) (m ∷ those t ms) (those t ms)
+
+-- m is a readable message of the party p
+unfoldable pub isOf : ℕ → List ℕ → Bool
+isOf p m = readable m && eqb (partyOf m) p
+
+-- "A field that only one party wrote": all that name the field of slot i are of the party p
+abbrev pub WroteAlone : ℕ → ℕ → List (List ℕ) → Type 0
+WroteAlone p i ms = (a : List ℕ) → List·Memᴰ a ms → names i a ≡ true → partyOf a ≡ p

@@ -1,3 +1,4 @@
+pub mod Revision
 pub mod Message
 pub mod Draft
 pub mod History

@@ -5,17 +5,19 @@ ghost use lib.ListN.{length};
 ghost use Rattle.texts.specs.Buffers.{putAt};
 ghost use Rattle.sheets.specs.Sheet.{textMax};
 ghost use Rattle.drafts.specs.Draft.{slotSize, slotIn, slotRevision, slotCell, slotText, draftFormed, slotComparison, slotBytes};
-ghost use Rattle.drafts.specs.Working.Steps.{unrevised, sheetInto};
+ghost use Rattle.drafts.specs.Working.Steps.{unknownParty, misfit, textPut, sheetInto};
 ghost use Rattle.drafts.specs.Promises.{Freshens, Posts, Copies};
 use crate::message::REVISION_SIZE;
 use crate::message::Reading;
 use crate::message::message_text;
 use crate::message::read;
 use crate::revision::Comparison;
+use crate::revision::Party;
 use crate::revision::Revision;
 use sheets::sheet::CELL_SIZE;
 use sheets::sheet::SHEET_SIZE;
 use sheets::sheet::SLOT_COUNT;
+use sheets::sheet::TEXT_MAX;
 use sheets::sheet::cell_text;
 use sheets::sheet::cells_ok;
 use sheets::sheet::slot_of;
@@ -24,17 +26,18 @@ use texts::buffers::clear;
 use texts::buffers::put;
 use texts::comparisons::equals;
 use texts::numbers::bytes_of_4;
+use texts::numbers::number_of_2;
 use texts::numbers::number_of_4;
 use texts::parts::at;
 use texts::parts::part;
 use texts::parts::wide;
 
-// A slot is a revision and a sheet's cell: where the cell begins, and the text in it.
-const CELL_PLACE: usize = REVISION_SIZE;
+// A slot is a revision, its party and a sheet's cell: where the cell begins, and the text in it.
+const CELL_PLACE: usize = REVISION_SIZE + 1;
 
 const TEXT_PLACE: usize = CELL_PLACE + 1;
 
-// "A draft has 450 bytes, slot i at 30 × i".
+// "31 bytes and a draft 465".
 const SLOT_SIZE: usize = CELL_PLACE + CELL_SIZE;
 
 pub const DRAFT_SIZE: usize = SLOT_COUNT as usize * SLOT_SIZE;
@@ -69,18 +72,19 @@ fn slot_in(draft: &[u8], slot: u8) -> &[u8]
     part(draft, a, a + SLOT_SIZE)
 }
 
-// The revision that a slot holds.
+// The revision that a slot holds, and its party.
 fn slot_revision(slot: &[u8]) -> Revision
-    ensures { λ r. ⌜ r .number ≡ slotRevision (now (slot .entry)) ⌝ }
+    ensures { λ r. ⌜ r ≡ slotRevision (now (slot .entry)) ⌝ }
 {
     Revision {
         number: number_of_4(at(slot, 0), at(slot, 1), at(slot, 2), at(slot, 3)),
+        party: Party(at(slot, REVISION_SIZE)),
     }
 }
 
-// The revision that a slot of a draft holds, and its text; of no slot 0 and the blank.
+// The revision that a slot of a draft holds, with its party, and its text; of no slot 0, of none, and the blank.
 pub fn revision_in(draft: &[u8], slot: u8) -> Revision
-    ensures { λ r. ⌜ r .number ≡ slotRevision (slotIn (now (draft .entry)) slot) ⌝ }
+    ensures { λ r. ⌜ r ≡ slotRevision (slotIn (now (draft .entry)) slot) ⌝ }
 {
     slot_revision(slot_in(draft, slot))
 }
@@ -98,20 +102,27 @@ fn slot_cell(slot: &[u8]) -> &[u8]
     part(slot, CELL_PLACE, SLOT_SIZE)
 }
 
-// "Revision 0 with a text": the length of such a text, 0 where there is none.
-fn unrevised(slot: &[u8]) -> usize
-    ensures { λ r. ⌜ (r ≡ unrevised (now (slot .entry))) × (r ≤ 255) ⌝ }
+// 1 for a party that is not known.
+fn unknown_party(party: Party) -> usize
+    ensures { λ r. ⌜ r ≡ unknownParty (party .0) ⌝ }
 {
-    let n = wide(at(slot, CELL_PLACE));
-    if slot_revision(slot).number == 0 {
-        n
-    } else {
-        0
-    }
+    if party.known() { 0 } else { 1 }
 }
 
-// "Malformed: another size, a length above 25, a nonzero pad byte; in a draft also revision 0 with a text". The lengths of texts without a
-// revision are summed: a test for each slot is compiled to a branch, and which slots are given is hard to foretell.
+// What does not fit before a slot's text, as a number: in a slot of revision 0 the length of a text and the party, read as one, in another
+// 1 for an unknown party. Both are made before it is asked which, so that no branch stands for it.
+fn misfit(slot: &[u8]) -> usize
+    ensures { λ r. ⌜ (r ≡ misfit (now (slot .entry))) × (r ≤ 65535) ⌝ }
+{
+    let revision = slot_revision(slot);
+    let given = number_of_2(at(slot, CELL_PLACE), revision.party.0);
+    let unknown = unknown_party(revision.party);
+    if revision.number == 0 { given } else { unknown }
+}
+
+// "Malformed: another size, a length above 25, a nonzero pad byte; in a draft also revision 0 with a text", and a party that is not "0 exactly
+// if the revision is 0 and otherwise 1 or 2". What does not fit is summed: a test for each slot is compiled to a branch, and which slots are
+// given is hard to foretell.
 pub fn well_formed(draft: &[u8]) -> bool
     ensures { λ r. ⌜ r ≡ draftFormed (now (draft .entry)) ⌝ }
 {
@@ -124,7 +135,7 @@ pub fn well_formed(draft: &[u8]) -> bool
     let mut sum = 0;
     let mut slot: u8 = 0;
     while slot < SLOT_COUNT {
-        sum += unrevised(slot_in(draft, slot));
+        sum += misfit(slot_in(draft, slot));
         slot += 1;
     }
     sum == 0
@@ -143,7 +154,7 @@ pub fn fresh(draft: &mut [u8]) -> Begun
 
 // How a message of a revision and a text stands to a slot.
 fn stands(slot: &[u8], revision: Revision, text: &[u8]) -> Comparison
-    ensures { λ r. ⌜ r ≡ slotComparison (now (slot .entry)) (revision .number) (now (text .entry)) ⌝ }
+    ensures { λ r. ⌜ r ≡ slotComparison (now (slot .entry)) revision (now (text .entry)) ⌝ }
 {
     let same_text = equals(cell_text(slot_cell(slot)), text);
     revision.against(slot_revision(slot), same_text)
@@ -152,10 +163,10 @@ fn stands(slot: &[u8], revision: Revision, text: &[u8]) -> Comparison
 // The bytes of a slot.
 fn slot_bytes(revision: Revision, text: &[u8]) -> [u8; SLOT_SIZE]
     requires { ⌜ length (now text) ≤ textMax ⌝ }
-    ensures { λ r. ⌜ r ≡ slotBytes (revision .number) (now (text .entry)) ⌝ }
+    ensures { λ r. ⌜ r ≡ slotBytes revision (now (text .entry)) ⌝ }
 {
     let d = bytes_of_4(revision.number);
-    let head = [d[0], d[1], d[2], d[3], text.len() as u8];
+    let head = [d[0], d[1], d[2], d[3], revision.party.0, text.len() as u8];
     let mut slot = [0u8; SLOT_SIZE];
     put(&mut slot, 0, &head);
     put(&mut slot, TEXT_PLACE, text);
@@ -164,10 +175,19 @@ fn slot_bytes(revision: Revision, text: &[u8]) -> [u8; SLOT_SIZE]
 
 fn store(draft: &mut [u8], slot: u8, revision: Revision, text: &[u8])
     requires { ⌜ length (now text) ≤ textMax ⌝ }
-    ensures { λ _. ⌜ now (draft .exit) ≡ putAt (now (draft .entry)) (slot * slotSize) (slotBytes (revision .number) (now (text .entry))) ⌝ }
+    ensures { λ _. ⌜ now (draft .exit) ≡ putAt (now (draft .entry)) (slot * slotSize) (slotBytes revision (now (text .entry))) ⌝ }
 {
     let bytes = slot_bytes(revision, text);
     put(draft, wide(slot) * SLOT_SIZE, &bytes);
+}
+
+// Stores a text in a slot of a draft, with a revision; one that is too long is not stored.
+pub fn put_text(draft: &mut [u8], slot: u8, revision: Revision, text: &[u8])
+    ensures { λ _. ⌜ now (draft .exit) ≡ textPut (now (draft .entry)) slot revision (now (text .entry)) ⌝ }
+{
+    if text.len() <= TEXT_MAX {
+        store(draft, slot, revision, text);
+    }
 }
 
 // Posts a message to a draft.
@@ -179,7 +199,7 @@ pub fn post(draft: &mut [u8], message: &[u8]) -> Posted
     }
     match read(message) {
         Reading::Refused(refusal) => Posted::Refused(refusal),
-        Reading::Message(field, revision) => {
+        Reading::Message(_, field, revision) => {
             let slot = slot_of(field);
             let text = message_text(message);
             match stands(slot_in(draft, slot), revision, text) {

@@ -68,8 +68,12 @@ fn write_text(text: &[u8]) {
 // Kind 'm': a message is read.
 fn run_message(message: &[u8]) {
     match read(message) {
-        Reading::Message(field, revision) => {
+        Reading::Message(version, field, revision) => {
             io::write_all(STDOUT_FILENO, b"ok ");
+            write_number(version.0);
+            io::write_all(STDOUT_FILENO, b" ");
+            write_number(revision.party.0);
+            io::write_all(STDOUT_FILENO, b" ");
             write_number(field.0);
             io::write_all(STDOUT_FILENO, b" ");
             io::print_decimal(STDOUT_FILENO, revision.number as u64);

@@ -171,12 +171,12 @@ counts : map (λ (D : Dates). firstFilling D hopelessS) (given 20240101 ∷ give
 unfolding picked hopelessS
 counts = λ i. hopelessAt (given 20240101) i ∷ hopelessAt (given 20231015) i ∷ hopelessAt (given 20230930) i ∷ hopelessAt (datesOf 20240101 20240101 20240101 20240101) i ∷ hopelessAt (datesOf 20240101 20240102 20240102 20231231) i ∷ []
 
--- what is tested first: 1, 7, 12, then 8, 9 and 10, of a draft that has each text with revision 1
+-- what is tested first: 1, 7, 12, then 8, 9 and 10, of a draft that has each text with revision 1 of the adviser
 abbrev noDraft : List ℕ
 noDraft = []
 
 ordinary : List ℕ
-ordinary = joined (map (λ (t : List ℕ). 0 ∷ 0 ∷ 0 ∷ 1 ∷ cell t) (words "044525006  40204810000000000000   6730054024   772801001      "))
+ordinary = joined (map (λ (t : List ℕ). 0 ∷ 0 ∷ 0 ∷ 1 ∷ 2 ∷ cell t) (words "044525006  40204810000000000000   6730054024   772801001      "))
 
 tested : map (λ (e : ℕ × List ℕ × List ℕ). completing (given (e .0)) (e .1) (e .2)) (
     (0, noDraft, [])

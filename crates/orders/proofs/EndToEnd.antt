@@ -1,5 +1,5 @@
 -- One order from its messages to the answer, of the definitions that the contracts cite: document 01's "status 04, count 97", with all
--- fifteen fields posted, seven of them blank, and field 60 corrected by revision 258. Assumes nothing.
+-- fifteen fields posted, seven of them blank, and field 60 corrected by the client's revision 258. Assumes nothing.
 use mathlib.Core.Path.{_≡_, refl, ap, _∙_}
 use mathlib.Core.Bool.{true}
 use mathlib.Core.List.{List, [], _∷_, _++_}
@@ -10,6 +10,7 @@ use Rattle.texts.specs.Quoted.{bytes}
 use Rattle.texts.specs.Answers.{success}
 use Rattle.sheets.specs.Sheet.{slots, cell}
 use Rattle.rules.specs.Verdicts.{checked}
+use Rattle.drafts.specs.Revision.{client, adviser, _by_}
 use Rattle.drafts.specs.Message.{messageOf}
 use Rattle.drafts.specs.Draft.{draftFormed, draftSheet}
 use Rattle.drafts.specs.History.{postedAll}
@@ -27,45 +28,45 @@ use Rattle.drafts.specs.Working.Computing.{draftsComputing}
 
 order : List (List ℕ)
 order =
-    messageOf 14 1 (bytes "004525987")
-    ∷ messageOf 15 1 (bytes "40102810845370000004")
-    ∷ messageOf 17 1 (bytes "03100643000000014800")
-    ∷ messageOf 22 1 (bytes "")
-    ∷ messageOf 60 1 (bytes "7701569743")
-    ∷ messageOf 61 1 (bytes "6730054024")
-    ∷ messageOf 101 1 (bytes "")
-    ∷ messageOf 102 1 (bytes "0")
-    ∷ messageOf 103 1 (bytes "772801001")
-    ∷ messageOf 104 1 (bytes "18201061201010000510")
-    ∷ messageOf 105 1 (bytes "")
-    ∷ messageOf 106 1 (bytes "")
-    ∷ messageOf 107 1 (bytes "")
-    ∷ messageOf 108 1 (bytes "")
-    ∷ messageOf 109 1 (bytes "")
-    ∷ messageOf 60 258 (bytes "0")
+    messageOf 1 14 (1 by adviser) (bytes "004525987")
+    ∷ messageOf 1 15 (1 by adviser) (bytes "40102810845370000004")
+    ∷ messageOf 1 17 (1 by adviser) (bytes "03100643000000014800")
+    ∷ messageOf 1 22 (1 by adviser) (bytes "")
+    ∷ messageOf 1 60 (1 by adviser) (bytes "7701569743")
+    ∷ messageOf 1 61 (1 by adviser) (bytes "6730054024")
+    ∷ messageOf 1 101 (1 by adviser) (bytes "")
+    ∷ messageOf 1 102 (1 by adviser) (bytes "0")
+    ∷ messageOf 1 103 (1 by adviser) (bytes "772801001")
+    ∷ messageOf 1 104 (1 by adviser) (bytes "18201061201010000510")
+    ∷ messageOf 1 105 (1 by adviser) (bytes "")
+    ∷ messageOf 1 106 (1 by adviser) (bytes "")
+    ∷ messageOf 1 107 (1 by adviser) (bytes "")
+    ∷ messageOf 1 108 (1 by adviser) (bytes "")
+    ∷ messageOf 1 109 (1 by adviser) (bytes "")
+    ∷ messageOf 2 60 (258 by client) (bytes "0")
     ∷ []
 
 zeros : ℕ → List ℕ
 zeros n = replicate n 0
 
--- the draft, byte for byte: "revision (4, big-endian), text length (1), text padded with zero bytes to 25"
+-- the draft, byte for byte: "revision (4, big-endian)", the party, "text length (1), text padded with zero bytes to 25"
 draft : List ℕ
 draft =
-    (0 ∷ 0 ∷ 0 ∷ 1 ∷ 9 ∷ bytes "004525987") ++ zeros 16
-    ++ (0 ∷ 0 ∷ 0 ∷ 1 ∷ 20 ∷ bytes "40102810845370000004") ++ zeros 5
-    ++ (0 ∷ 0 ∷ 0 ∷ 1 ∷ 20 ∷ bytes "03100643000000014800") ++ zeros 5
-    ++ (0 ∷ 0 ∷ 0 ∷ 1 ∷ 0 ∷ bytes "") ++ zeros 25
-    ++ (0 ∷ 0 ∷ 1 ∷ 2 ∷ 1 ∷ bytes "0") ++ zeros 24
-    ++ (0 ∷ 0 ∷ 0 ∷ 1 ∷ 10 ∷ bytes "6730054024") ++ zeros 15
-    ++ (0 ∷ 0 ∷ 0 ∷ 1 ∷ 0 ∷ bytes "") ++ zeros 25
-    ++ (0 ∷ 0 ∷ 0 ∷ 1 ∷ 1 ∷ bytes "0") ++ zeros 24
-    ++ (0 ∷ 0 ∷ 0 ∷ 1 ∷ 9 ∷ bytes "772801001") ++ zeros 16
-    ++ (0 ∷ 0 ∷ 0 ∷ 1 ∷ 20 ∷ bytes "18201061201010000510") ++ zeros 5
-    ++ (0 ∷ 0 ∷ 0 ∷ 1 ∷ 0 ∷ bytes "") ++ zeros 25
-    ++ (0 ∷ 0 ∷ 0 ∷ 1 ∷ 0 ∷ bytes "") ++ zeros 25
-    ++ (0 ∷ 0 ∷ 0 ∷ 1 ∷ 0 ∷ bytes "") ++ zeros 25
-    ++ (0 ∷ 0 ∷ 0 ∷ 1 ∷ 0 ∷ bytes "") ++ zeros 25
-    ++ (0 ∷ 0 ∷ 0 ∷ 1 ∷ 0 ∷ bytes "") ++ zeros 25
+    (0 ∷ 0 ∷ 0 ∷ 1 ∷ 2 ∷ 9 ∷ bytes "004525987") ++ zeros 16
+    ++ (0 ∷ 0 ∷ 0 ∷ 1 ∷ 2 ∷ 20 ∷ bytes "40102810845370000004") ++ zeros 5
+    ++ (0 ∷ 0 ∷ 0 ∷ 1 ∷ 2 ∷ 20 ∷ bytes "03100643000000014800") ++ zeros 5
+    ++ (0 ∷ 0 ∷ 0 ∷ 1 ∷ 2 ∷ 0 ∷ bytes "") ++ zeros 25
+    ++ (0 ∷ 0 ∷ 1 ∷ 2 ∷ 1 ∷ 1 ∷ bytes "0") ++ zeros 24
+    ++ (0 ∷ 0 ∷ 0 ∷ 1 ∷ 2 ∷ 10 ∷ bytes "6730054024") ++ zeros 15
+    ++ (0 ∷ 0 ∷ 0 ∷ 1 ∷ 2 ∷ 0 ∷ bytes "") ++ zeros 25
+    ++ (0 ∷ 0 ∷ 0 ∷ 1 ∷ 2 ∷ 1 ∷ bytes "0") ++ zeros 24
+    ++ (0 ∷ 0 ∷ 0 ∷ 1 ∷ 2 ∷ 9 ∷ bytes "772801001") ++ zeros 16
+    ++ (0 ∷ 0 ∷ 0 ∷ 1 ∷ 2 ∷ 20 ∷ bytes "18201061201010000510") ++ zeros 5
+    ++ (0 ∷ 0 ∷ 0 ∷ 1 ∷ 2 ∷ 0 ∷ bytes "") ++ zeros 25
+    ++ (0 ∷ 0 ∷ 0 ∷ 1 ∷ 2 ∷ 0 ∷ bytes "") ++ zeros 25
+    ++ (0 ∷ 0 ∷ 0 ∷ 1 ∷ 2 ∷ 0 ∷ bytes "") ++ zeros 25
+    ++ (0 ∷ 0 ∷ 0 ∷ 1 ∷ 2 ∷ 0 ∷ bytes "") ++ zeros 25
+    ++ (0 ∷ 0 ∷ 0 ∷ 1 ∷ 2 ∷ 0 ∷ bytes "") ++ zeros 25
 
 -- its sheet, and the filling: "text length, text padded to 25"
 blanks : List ℕ

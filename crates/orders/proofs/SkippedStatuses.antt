@@ -4,32 +4,36 @@ use mathlib.Core.Bool.{Bool, true}
 use mathlib.Core.List.{List, [], _∷_, map}
 use Prim.Native.Nat.{ℕ, _+_}
 use Prim.Native.String.{String}
+use native.Mathlib.Omega.{arith}
 use borrow.Author.Tests.{eqb-true}
 use lib.Dec.{eqb}
 use lib.ListN.{length, getD}
 use Rattle.texts.specs.Texts.{every, blank}
 use Rattle.texts.proofs.Bools.{both}
 use Rattle.sheets.specs.Sheet.{textOf}
-use Rattle.sheets.specs.Dates.{statusCount}
+use Rattle.sheets.specs.Dates.{statusCount, programDates}
 use Rattle.sheets.specs.declared.dates.Dates.{Dates}
 use Rattle.sheets.specs.Working.Entries.{filledAt}
 use Rattle.sheets.specs.DatesTable.{datesOf, given}
+use Rattle.rules.specs.Rules.{fieldOf, firstNot}
 use Rattle.rules.specs.Working.Computing.{rulesComputing}
 use Rattle.fillings.specs.Fillings.{width, Look, found, none, look}
+use Rattle.fillings.specs.Fillings as of
 use Rattle.fillings.specs.Filled.{tally}
 use Rattle.fillings.specs.Working.Places.{places}
 use Rattle.fillings.specs.Working.Parts.{mapLook}
 use Rattle.fillings.proofs.Looking.{none-look}
-use Rattle.orders.specs.Fillings.{firstFilling}
+use Rattle.orders.specs.Fillings.{listOf, firstFilling}
 use Rattle.orders.specs.Complete.{counted}
-use Rattle.orders.specs.Skipping.{skippedOf}
+use Rattle.orders.specs.Pretest.{brokenByAll}
+use Rattle.orders.specs.Skipping.{skippedOf, AreSkipped}
 use Rattle.orders.specs.Working.Entering.{baseOf, pickedOf}
 use Rattle.orders.specs.Working.Search.{passesAt, picks, firstPick}
 use Rattle.orders.specs.Working.Quick.{skips}
 use Rattle.orders.proofs.Keeping.{first-is}
 use Rattle.orders.proofs.Passing.{broken-fixed}
 use Rattle.orders.proofs.Skipping.{skipped-none, skipped-found}
-use Rattle.orders.proofs.Counts.{sheet}
+use Rattle.orders.proofs.Counts.{sheet, ahead1, ahead-is}
 
 abbrev pair : ℕ → ℕ → ℕ × ℕ
 pair n k = (n, k)
@@ -154,3 +158,15 @@ hopeless-all : map (λ (D : Dates). answered D (sheet hopeless)) (given 20240101
     ≡ pair 1056 22 ∷ pair 1104 23 ∷ pair 1008 21 ∷ []
 unfolding hopeless sheet every filledAt places picks baseOf skips rulesComputing
 hopeless-all = λ i. hopelessAt (given 20240101) i ∷ hopelessAt (datesOf 20240101 20240101 20240101 20240101) i ∷ hopelessAt (given 20230925) i ∷ []
+
+-- the test ahead names rule 22 of it, so that `AreSkipped .caught` speaks of it: all 22 statuses of the program's date
+named-22 : brokenByAll programDates (sheet hopeless) ≡ 22
+unfolding ahead1 hopeless sheet every filledAt baseOf pickedOf firstNot fieldOf rulesComputing
+named-22 = ap (λ (p : ℕ × ℕ). p .1) (ahead-is (sheet hopeless) refl)
+
+all-caught : (n : ℕ) → AreSkipped programDates (sheet hopeless) n → n ≡ 22
+unfolding hopeless sheet every filledAt of.toFill of.choices listOf rulesComputing
+all-caught n A = A .caught refl refl (λ e. zero-not (sym e ∙ named-22)) .1
+  where
+    zero-not : _≡_ {A = ℕ} 0 22 → ⊥
+    zero-not e = omega arith

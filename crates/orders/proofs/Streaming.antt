@@ -16,6 +16,7 @@ use Rattle.sheets.specs.declared.sheet.Field.{Field}
 use Rattle.drafts.specs.Message.{lengthOf}
 use Rattle.drafts.specs.Promises.{Reads, Postings, Posts}
 use Rattle.drafts.specs.declared.revision.Revision.{Revision}
+use Rattle.drafts.specs.declared.message.Version.{Version}
 use Rattle.texts.specs.declared.answers.Refusal.{Refusal}
 use Rattle.drafts.specs.declared.message.Reading.{Reading}
 use Rattle.drafts.specs.declared.message.Reading.the-variants.{Message, Refused}
@@ -43,9 +44,9 @@ piece-length s n = simp length-take (omega arith, omega arith)
 -- ---- the end of a stream
 
 module _ (m : List ℕ) (rd : Reading) (R : Reads m rd) where
-  pub ends-not : (f : Field) (v : Revision) → rd ≡ Message f v → false ≡ endsStream m
+  pub ends-not : (w : Version) (f : Field) (v : Revision) → rd ≡ Message w f v → false ≡ endsStream m
   unfolding endsStream
-  ends-not f v e = rw (← R .answer, e)
+  ends-not w f v e = rw (← R .answer, e)
 
   pub ends-by : (n : Refusal) → rd ≡ Refused n → eqb (n .0) 2 ≡ endsStream m
   unfolding endsStream

@@ -2,39 +2,39 @@
 use mathlib.Core.Path.{_≡_, refl, sym, ap, _∙_, subst}
 use mathlib.Core.Bool.{Bool, true, false, not, cond, _&&_, _||_, and-false, false≢true, true≢false}
 use mathlib.Core.List.{List, [], _∷_, _++_, map, append-nil, List·Memᴰ, List·Memᴰ·eq-of-singleton, Memᴰ·of-map}
-use mathlib.Core.Logic.{_↔_}
+use mathlib.Core.Logic.{inl}
 use Prim.Native.Nat.{ℕ, zero, suc, _+_, _-_, _*_, _/_, _%_, _^_, _<_, _≤_}
 use native.Mathlib.Decide.{decLt, ℕ-discrete}
 use native.Mathlib.Nat.{div-eq-of-lt}
 use native.Mathlib.Numerals.{add-one}
 use native.Mathlib.Omega.{arith}
-use borrow.Author.Needs.{needs}
-use borrow.Author.Tests.{leb-true, lt-ltb, le-ltb, ltb-true, eq-eqb, ne-eqb, eqb-true, not-true, not-false}
+use borrow.Author.Tests.{leb-true, le-leb, lt-ltb, le-ltb, ltb-true, eq-eqb, ne-eqb, eqb-true, not-true, not-false}
+use mir.Syntax.{w32}
+use mir.Val.{Fits}
 use lib.Dec.{eqb, ltb, leb}
 use lib.ListN.{length, getD, take, drop, replicate, length-replicate}
 use Rattle.texts.specs.Quoted.{Text}
 use Rattle.texts.specs.Texts.{every, any, are, among, between, blank}
 use Rattle.texts.specs.Answers.{success, refusal, passes}
-use Rattle.texts.specs.declared.answers.Refusal.{Refusal}
-use Rattle.texts.specs.Buffers.{put, putAt}
 use Rattle.texts.proofs.Bools.{both, and2}
-use Rattle.texts.proofs.Puts.{put-fits, put-whole, mid-put}
+use Rattle.texts.specs.Buffers.{put, putAt}
+use Rattle.texts.proofs.Puts.{put-fits}
 use Rattle.texts.proofs.Refusals.{no-success, succeeds, unchanged}
 use Rattle.sheets.specs.Sheet.{fields, slots, slotCount, sheetSize, textMax, slotOf, fieldIn, cell, cellOf, cellText, cellOk, slotOk, textOf, given, wellFormed}
 use Rattle.sheets.specs.Dates.{statusTexts}
 use Rattle.sheets.specs.declared.dates.Dates.{Dates}
 use Rattle.sheets.specs.declared.sheet.Field.{Field}
 use Rattle.rules.specs.Rules.{keepsAll}
-use Rattle.drafts.specs.Message.{headSize, Writable, IsMessage, headBytes, messageOf, writeAnswer, writtenOf}
-use Rattle.drafts.specs.Draft.{draftSize, slotIn, slotRevision, slotCell, slotText, slotBytes, draftFormed, draftSheet, postedTo}
+use Rattle.drafts.specs.Revision.{adviser, _by_, _below_}
+use Rattle.drafts.specs.Message.{headSize, first, IsMessage}
+use Rattle.drafts.specs.Draft.{slotSize, slotIn, slotRevision, slotCell, slotText, slotBytes, draftFormed, draftSheet, postedTo}
 use Rattle.drafts.specs.History.{postedFrom}
-use Rattle.drafts.specs.Promises.{Writes}
-use Rattle.drafts.specs.declared.message.Written.{Written}
-use Rattle.drafts.specs.declared.message.Written.the-variants as written
-use Rattle.drafts.proofs.Messages.{written-by, message-of}
-use Rattle.drafts.proofs.Slots.{cell-ok, slot-cell, Formed, formed-means, formed-by}
+use Rattle.drafts.specs.Working.Steps.{textPut}
+use Rattle.drafts.specs.declared.revision.Revision.{Revision}
+use Rattle.drafts.proofs.Messages.{message-of}
+use Rattle.drafts.proofs.Slots.{cell-ok, length-slot, slot-cell, Formed, formed-means, formed-by}
 use Rattle.drafts.proofs.DraftSheets.{length-sheet, sheet-cell, sheet-made}
-use Rattle.drafts.proofs.EndSlots.{one-posted}
+use Rattle.drafts.proofs.EndSlots.{stored-one, one-posted}
 use Rattle.drafts.proofs.DraftPromises.{posted-more}
 use Rattle.fillings.specs.Working.Places as at
 use Rattle.fillings.proofs.EveryFilling.{every-mem, entry-sized, choice-given}
@@ -44,7 +44,7 @@ use Rattle.fillings.specs.Fillings as of
 use Rattle.orders.specs.Fillings.{lists, listOf, toFill, Filling}
 use Rattle.orders.specs.Complete.{completing, completed}
 use Rattle.orders.specs.Again.{CompletesAgain}
-use Rattle.orders.specs.TakeUp.{inSet, greatest, fit, spared, setPlaces, firstUnfit, takeTests, proposal, proposals, taking, takenInto, takeAnswer, TakesUp}
+use Rattle.orders.specs.TakeUp.{inSet, greatest, fit, spared, setPlaces, firstUnfit, takeTests, next, proposal, proposals, taking, takenInto, takeAnswer, TakesUp}
 use Rattle.orders.specs.declared.take_up.TakenUp.{TakenUp}
 use Rattle.orders.specs.declared.take_up.TakenUp.the-variants.{Made, Unfit, Refused}
 use Rattle.orders.specs.Working.Upto.{FirstUnfit, Postable}
@@ -95,6 +95,14 @@ module _ (D : Dates) (d t : List ℕ) (set i : ℕ) (a b : Bool) (ha : a ≡ inS
 
 -- ---- take
 
+pub number-more : (v u : Revision) → v ≡ u → u .number < greatest → Fits w32 (v .number + 1)
+number-more v u e h = record { fits = rw e (omega arith) }
+
+pub took : (d t x e : List ℕ) (i : ℕ) (v : Revision) → v ≡ slotRevision (slotIn d i) → x ≡ textOf t i → e ≡ textPut d i ((v .number + 1) by adviser) x → e ≡ textPut d i (next d i) (textOf t i)
+took d t x e i v ev ex q = q ∙ rw (ev, ex)
+
+-- ---- what they leave in each slot
+
 field-of : (i : ℕ) → i < slotCount → List·Memᴰ (fieldIn i) fields
 field-of i l = entry-in 0 fields i l
 
@@ -102,64 +110,37 @@ field-slot : (i : ℕ) → i < slotCount → slotOf (fieldIn i) ≡ i
 unfolding every slotOf at.places
 field-slot i l = eqb-true _ _ (every-mem (λ (k : ℕ). eqb (slotOf (fieldIn k)) k) {l = at.places slotCount 0} refl (at-place slotCount i l))
 
--- what the writer asks for
-writable : (i r : ℕ) (t : List ℕ) → i < slotCount → length t ≤ textMax → Writable (fieldIn i) (r + 1) t (replicate (headSize + textMax) 0)
-writable i r t l h = record { short = h; listed = field-of i l; given = λ e. omega arith; room = omega (arith, length-replicate {A = ℕ} (headSize + textMax) 0) }
-
-module _ (g t : List ℕ) (i f h : ℕ) (x m : List ℕ) (w : Written) (P : (i < slotCount) × (slotRevision (slotIn g i) < greatest) × (length (textOf t i) ≤ textMax)) (ef : f ≡ fieldIn i) (eh : h ≡ slotRevision (slotIn g i)) (ex : x ≡ textOf t i) (W : Writes f (h + 1) x (replicate (headSize + textMax) 0) w m) where
-  fits : Writable f (h + 1) x (replicate (headSize + textMax) 0)
-  fits = rw (ef, ex) (writable i h (textOf t i) (P .0) (P .2))
-
-  made : w ≡ written.Bytes (length x + headSize)
-  made = W .exactly .1 fits
-
-  pub take-refused : (n : Refusal) (e d : List ℕ) → w ≡ written.Refused n → e ≡ postedTo d (proposal g t i)
-  take-refused n e d q = absurd (no-success (n .0) [] _ (ap writeAnswer (sym q ∙ made)))
-
-  pub took : (n : ℕ) (d e s : List ℕ) → w ≡ written.Bytes n → s ≡ between m 0 n → e ≡ postedTo d s → e ≡ postedTo d (proposal g t i)
-  unfolding writtenOf between messageOf headBytes
-  took n d e s q es ee =
-      let k : n ≡ length x + headSize = cc (made, q) in
-      let u : m ≡ put (replicate (headSize + textMax) 0) 0 (messageOf f (h + 1) x) = W .buffer ∙ rw (written-by f (h + 1) x (replicate (headSize + textMax) 0) fits) in
-      let z : n - 0 ≡ n = omega arith in
-      let v : s ≡ messageOf f (h + 1) x = es ∙ rw z (ap (take n) u ∙ mid-put (replicate (headSize + textMax) 0) 0 (messageOf f (h + 1) x) n (omega arith) (omega arith)) in
-      ee ∙ ap (postedTo d) (v ∙ rw (ef, eh, ex))
-
--- ---- take_all
-
-pub given-whole : (d g : List ℕ) → length d ≡ draftSize → g ≡ putAt (replicate draftSize 0) 0 d → g ≡ d
-given-whole d g z e =
-    let n = length-replicate {A = ℕ} draftSize 0 in
-    e ∙ put-fits (replicate draftSize 0) 0 d (omega arith) ∙ put-whole (replicate draftSize 0) d (omega arith)
-
-module _ (d t : List ℕ) (set n : ℕ) (a e : List ℕ) (h : a ≡ postedFrom d (proposals d t set n)) where
-  pub take-more : (g : List ℕ) → g ≡ d → inSet set n ≡ true → e ≡ postedTo a (proposal g t n) → e ≡ postedFrom d (proposals d t set (n + 1))
-  take-more g z b q = q ∙ ap (λ (x : List ℕ). postedTo a (proposal x t n)) z ∙ ap (λ (x : List ℕ). postedTo x (proposal d t n)) h ∙ sym (posted-more (proposal d t n) d (proposals d t set n)) ∙ rw (add-one n, b)
-
-  pub take-none : inSet set n ≡ false → e ≡ a → e ≡ postedFrom d (proposals d t set (n + 1))
-  take-none b q = q ∙ h ∙ rw (add-one n, b, append-nil (proposals d t set n))
-
--- ---- what they leave in each slot
-
-below : (n i : ℕ) → (i ≡ n → ⊥) → ltb i n ≡ ltb i (suc n)
-below n i q = elim (decLt i n) [
+before : (n i : ℕ) → (i ≡ n → ⊥) → ltb i n ≡ ltb i (suc n)
+before n i q = elim (decLt i n) [
   | yes y ↦ lt-ltb i n y ∙ sym (lt-ltb i (suc n) (omega arith))
   | no y ↦ le-ltb i n (omega arith) ∙ sym (le-ltb i (suc n) (omega arith))
 ]
 
-module _ (d t : List ℕ) (set : ℕ) (F : Formed d) (P : Postable d t set) where
+module _ (d t : List ℕ) (set : ℕ) (P : Postable d t set) where
   abbrev after : ℕ → List ℕ
   after n = postedFrom d (proposals d t set n)
 
   abbrev SlotsAfter : ℕ → Type 0
-  SlotsAfter n = Formed (after n) × ((i : ℕ) → i < slotCount → slotIn (after n) i ≡ cond (ltb i n && inSet set i) (slotBytes (slotRevision (slotIn d i) + 1) (textOf t i)) (slotIn d i))
+  SlotsAfter n = Formed (after n) × ((i : ℕ) → i < slotCount → slotIn (after n) i ≡ cond (ltb i n && inSet set i) (slotBytes (next d i) (textOf t i)) (slotIn d i))
+
+  module _ (n : ℕ) (l : n < slotCount) (A : SlotsAfter n) (e : inSet set n ≡ true) where
+    own : slotIn (after n) n ≡ slotIn d n
+    own = A .1 n l ∙ rw (le-ltb n n (omega arith))
+
+    -- what is posted to the slot, and that it is above what stands there
+    value : IsMessage (proposal d t n) 1 (fieldIn n) (next d n) (textOf t n)
+    value =
+        let (v, h) = P .slot n l e in
+        message-of 1 (fieldIn n) (next d n) (textOf t n) (replicate (headSize 1 + textMax) 0) (omega arith)
+        (record { short = h; speaks = first refl refl; listed = field-of n l; given = λ z. omega arith; room = omega (arith, length-replicate {A = ℕ} (headSize 1 + textMax) 0) })
+
+    over : slotRevision (slotIn (after n) (slotOf (fieldIn n))) below next d n
+    over = rw (field-slot n l, own) (inl (omega arith))
 
   slot-next : (n : ℕ) → n < slotCount → SlotsAfter n → (b : Bool) → inSet set n ≡ b → SlotsAfter (suc n)
   slot-next n l A true e =
       let (v, h) = P .slot n l e in
-      let own : slotIn (after n) n ≡ slotIn d n = A .1 n l ∙ rw (le-ltb n n (omega arith)) in
-      let M = message-of (fieldIn n) (slotRevision (slotIn d n) + 1) (textOf t n) (replicate (headSize + textMax) 0) (omega arith) (writable n (slotRevision (slotIn d n)) (textOf t n) l h) in
-      let w = one-posted (after n) (proposal d t n) (fieldIn n) (slotRevision (slotIn d n) + 1) (textOf t n) (A .0) M (omega arith) (rw (field-slot n l, own) (omega arith)) in
+      let w = one-posted (after n) (proposal d t n) 1 (fieldIn n) (next d n) (textOf t n) (A .0) (value n l A e) (omega arith) (over n l A e) in
       let p : after (suc n) ≡ postedTo (after n) (proposal d t n) = rw e (posted-more (proposal d t n) d (proposals d t set n)) in (
         subst Formed (sym p) (w .0),
         λ i j.
@@ -168,7 +149,7 @@ module _ (d t : List ℕ) (set : ℕ) (F : Formed d) (P : Postable d t set) wher
             ∙ rw (field-slot n l)
             (elim (ℕ-discrete i n) [
               | yes q ↦ rw (q, eq-eqb n n refl, lt-ltb n (suc n) (omega arith), e)
-              | no q ↦ rw (ne-eqb i n q) (A .1 i j ∙ ap (λ (b : Bool). cond (b && inSet set i) (slotBytes (slotRevision (slotIn d i) + 1) (textOf t i)) (slotIn d i)) (below n i q))
+              | no q ↦ rw (ne-eqb i n q) (A .1 i j ∙ ap (λ (b : Bool). cond (b && inSet set i) (slotBytes (next d i) (textOf t i)) (slotIn d i)) (before n i q))
             ]),
       )
   slot-next n l A false e =
@@ -179,16 +160,37 @@ module _ (d t : List ℕ) (set : ℕ) (F : Formed d) (P : Postable d t set) wher
             ∙ A .1 i j
             ∙ elim (ℕ-discrete i n) [
               | yes q ↦ rw (q, e, and-false (ltb n n), and-false (ltb n (suc n)))
-              | no q ↦ ap (λ (b : Bool). cond (b && inSet set i) (slotBytes (slotRevision (slotIn d i) + 1) (textOf t i)) (slotIn d i)) (below n i q)
+              | no q ↦ ap (λ (b : Bool). cond (b && inSet set i) (slotBytes (next d i) (textOf t i)) (slotIn d i)) (before n i q)
             ],
       )
 
   slots-after : (n : ℕ) → n ≤ slotCount → SlotsAfter n
-  slots-after zero l = (F, λ i j. rw (le-ltb i 0 (omega arith)))
+  slots-after zero l = (formed-means d (P .formed), λ i j. rw (le-ltb i 0 (omega arith)))
   slots-after (suc n) l = slot-next n (omega arith) (slots-after n (omega arith)) (inSet set n) refl
 
-  pub slots-taken : Formed (after slotCount) × ((i : ℕ) → i < slotCount → slotIn (after slotCount) i ≡ cond (inSet set i) (slotBytes (slotRevision (slotIn d i) + 1) (textOf t i)) (slotIn d i))
+  pub slots-taken : Formed (after slotCount) × ((i : ℕ) → i < slotCount → slotIn (after slotCount) i ≡ cond (inSet set i) (slotBytes (next d i) (textOf t i)) (slotIn d i))
   slots-taken = let A = slots-after slotCount (omega arith) in (A .0, λ i j. A .1 i j ∙ rw (lt-ltb i slotCount j))
+
+  -- ---- take_all: putting a value into its slot is posting it
+
+  module _ (n : ℕ) (l : n < slotCount) (a : List ℕ) (h : a ≡ after n) where
+    pub take-can : inSet set n ≡ true → slotRevision (slotIn a n) .number < greatest
+    take-can b = rw (h, own n l (slots-after n (omega arith)) b) (P .slot n l b .0)
+
+    pub take-more : (e : List ℕ) → inSet set n ≡ true → e ≡ textPut a n (next a n) (textOf t n) → e ≡ after (n + 1)
+    unfolding textPut
+    take-more e b q =
+        let A = slots-after n (omega arith) in
+        let (v, k) = P .slot n l b in
+        let r : next a n ≡ next d n = ap (λ (s : List ℕ). (slotRevision s .number + 1) by adviser) (ap (λ (x : List ℕ). slotIn x n) h ∙ own n l A b) in
+        let z = A .0 .sized in
+        let y = length-slot (next d n) (textOf t n) k in
+        let w : textPut a n (next a n) (textOf t n) ≡ putAt (after n) (n * slotSize) (slotBytes (next d n) (textOf t n)) = rw (r, le-leb _ _ k, h) in
+        let u : postedTo (after n) (proposal d t n) ≡ put (after n) (n * slotSize) (slotBytes (next d n) (textOf t n)) = stored-one (after n) (proposal d t n) 1 (fieldIn n) (next d n) (textOf t n) (A .0) (value n l A b) (over n l A b) ∙ rw (field-slot n l) in
+        q ∙ w ∙ put-fits (after n) (n * slotSize) (slotBytes (next d n) (textOf t n)) (omega arith) ∙ sym u ∙ sym (posted-more (proposal d t n) d (proposals d t set n)) ∙ rw (add-one n, b)
+
+    pub take-none : (e : List ℕ) → inSet set n ≡ false → e ≡ a → e ≡ after (n + 1)
+    take-none e b q = q ∙ h ∙ rw (add-one n, b, append-nil (proposals d t set n))
 
 -- ---- the first place that is not spared
 
@@ -254,7 +256,7 @@ module _ (D : Dates) (d t : List ℕ) (set : ℕ) (b : List ℕ) (n all k : ℕ)
   unfolding at.places
   sheet-fine = and2 (eqb (length t) sheetSize) (every (slotOk t) slots) (eq-eqb (length t) sheetSize (filling .sized)) (all-spared (slotOk t) slotCount 0 (λ i x y. cell-fine i (omega arith)))
 
-  module _ (part : (i : ℕ) → i < slotCount + 1 → inSet set i ≡ true → (inSet all i ≡ true) × (slotRevision (slotIn d i) < greatest)) where
+  module _ (part : (i : ℕ) → i < slotCount + 1 → inSet set i ≡ true → (inSet all i ≡ true) × (slotRevision (slotIn d i) .number < greatest)) where
     part-fit : (i : ℕ) → i < slotCount → inSet set i ≡ true → fit D d t i ≡ true
     unfolding fit given textOf of.toFill
     part-fit i l e =
@@ -262,8 +264,8 @@ module _ (D : Dates) (d t : List ℕ) (set : ℕ) (b : List ℕ) (n all k : ℕ)
         let f : toFill D (draftSheet d) i ≡ true = sym (in-all i l) ∙ p .0 in
         let g : given t i ≡ true = choice-given (proper D) (draftSheet d) i (cellOf t i) (filling .slot i l) ∙ rw f in
         let h : (ltb 0 (length (listOf D i)) && blank (slotText (slotIn d i))) ≡ true = rw (← (sheet-made d formed-d .1 i l)) f in
-        and2 (ltb 0 (length (listOf D i)) && blank (slotText (slotIn d i))) (given t i && ltb (slotRevision (slotIn d i)) greatest) h
-        (and2 (given t i) (ltb (slotRevision (slotIn d i)) greatest) g (lt-ltb _ _ (p .1)))
+        and2 (ltb 0 (length (listOf D i)) && blank (slotText (slotIn d i))) (given t i && ltb (slotRevision (slotIn d i) .number) greatest) h
+        (and2 (given t i) (ltb (slotRevision (slotIn d i) .number) greatest) g (lt-ltb _ _ (p .1)))
 
     part-spared : (i : ℕ) → i < slotCount + 1 → spared D d t set i ≡ true
     unfolding spared
@@ -331,9 +333,9 @@ module _ {D : Dates} {d t : List ℕ} {set : ℕ} where
             pub postable : Postable d t set
             unfolding fit
             postable = record {
-              sized = formed-means d formed .sized;
+              formed = formed;
               slot = λ i j e. (
-                ltb-true _ _ (both (given t i) (ltb (slotRevision (slotIn d i)) greatest) (both (ltb 0 (length (listOf D i)) && blank (slotText (slotIn d i))) _ (each i j e) .1) .1),
+                ltb-true _ _ (both (given t i) (ltb (slotRevision (slotIn d i) .number) greatest) (both (ltb 0 (length (listOf D i)) && blank (slotText (slotIn d i))) _ (each i j e) .1) .1),
                 text-fits t (sym hv ∙ not-false v g) i j,
               );
             }
@@ -346,17 +348,17 @@ module _ {D : Dates} {d t : List ℕ} {set : ℕ} where
             abbrev taken : List ℕ
             taken = postedFrom d (proposals d t set slotCount)
 
-            left : Formed taken × ((i : ℕ) → i < slotCount → slotIn taken i ≡ cond (inSet set i) (slotBytes (slotRevision (slotIn d i) + 1) (textOf t i)) (slotIn d i))
-            left = slots-taken d t set (formed-means d formed) postable
+            left : Formed taken × ((i : ℕ) → i < slotCount → slotIn taken i ≡ cond (inSet set i) (slotBytes (next d i) (textOf t i)) (slotIn d i))
+            left = slots-taken d t set postable
 
             module _ (b : List ℕ) (n all k : ℕ) (done : completing D d b ≡ success (n ∷ all ∷ k ∷ [])) (same : completed D d b ≡ t) where
               cell-taken : (i : ℕ) → i < slotCount → cellOf (draftSheet taken) i ≡ cond (toFill D (draftSheet d) i && inSet set i) (cellOf (completed D d b) i) (cellOf (draftSheet d) i)
               cell-taken i j = sheet-cell taken (left .0 .sized) i j ∙ ap slotCell (left .1 i j) ∙ go (inSet set i) refl
                 where
-                  go : (y : Bool) → inSet set i ≡ y → slotCell (cond y (slotBytes (slotRevision (slotIn d i) + 1) (textOf t i)) (slotIn d i)) ≡ cond (toFill D (draftSheet d) i && y) (cellOf (completed D d b) i) (cellOf (draftSheet d) i)
+                  go : (y : Bool) → inSet set i ≡ y → slotCell (cond y (slotBytes (next d i) (textOf t i)) (slotIn d i)) ≡ cond (toFill D (draftSheet d) i && y) (cellOf (completed D d b) i) (cellOf (draftSheet d) i)
                   go true e =
                       rw (to-fill i j e)
-                      (slot-cell (slotRevision (slotIn d i) + 1) (textOf t i) (postable .slot i j e .1)
+                      (slot-cell (next d i) (textOf t i) (postable .slot i j e .1)
                       ∙ ap (λ (x : List ℕ). cell (textOf x i)) (sym same)
                       ∙ proposed-cell D d b n all k done i j (to-fill i j e))
                   go false e = rw (and-false (toFill D (draftSheet d) i)) (sym (sheet-cell d (formed-means d formed .sized) i j))

@@ -1,8 +1,9 @@
 -- R-9 in examples: counts after some values were taken up, what the slots hold then, and what is refused. Assumes nothing.
 use mathlib.Core.Path.{_≡_, refl, sym, ap, _∙_, subst}
-use mathlib.Core.Bool.{Bool, true, cond}
+use mathlib.Core.Logic.{inl, inr}
+use mathlib.Core.Bool.{Bool, true, false, cond, not, _&&_, _||_, false≢true}
 use mathlib.Core.List.{List, [], _∷_, _++_, map, List·Memᴰ, List·Memᴰ·eq-of-singleton}
-use Prim.Native.Nat.{ℕ, _<_}
+use Prim.Native.Nat.{ℕ, _+_, _<_}
 use Prim.Native.String.{String}
 use native.Mathlib.Omega.{arith}
 use borrow.Author.Tests.{ltb-true, eqb-true}
@@ -14,12 +15,13 @@ use Rattle.texts.specs.Texts.{every, blank}
 use Rattle.texts.specs.Numbers.{Bytes}
 use Rattle.texts.specs.Answers.{success, refusal}
 use Rattle.texts.proofs.Bools.{both}
-use Rattle.sheets.specs.Sheet.{slotOf, cell, textOf}
+use Rattle.sheets.specs.Sheet.{slotCount, slotOf, cell, textOf}
 use Rattle.sheets.specs.Dates.{datesFit}
 use Rattle.sheets.specs.DatesTable.{given}
 use Rattle.sheets.specs.declared.dates.Dates.{Dates}
 use Rattle.sheets.specs.Working.Entries.{filledAt}
 use Rattle.rules.specs.Working.Computing.{rulesComputing}
+use Rattle.drafts.specs.Revision.{_below_}
 use Rattle.drafts.specs.Message.{messageField, revisionOf, messageText, readable}
 use Rattle.drafts.specs.Draft.{slotIn, slotRevision, draftFormed, draftSheet}
 use Rattle.drafts.specs.History.{postedFrom}
@@ -29,23 +31,25 @@ use Rattle.fillings.specs.Fillings as of
 use Rattle.fillings.specs.Filled as set
 use Rattle.fillings.specs.Working.Places.{places}
 use Rattle.fillings.specs.Working.Parts.{mapLook}
-use Rattle.fillings.proofs.EveryFilling.{every-at}
+use Rattle.fillings.proofs.EveryFilling.{every-at, every-mem}
 use Rattle.orders.specs.Fillings.{listOf, toFill, firstFilling}
 use Rattle.orders.specs.Complete.{budgetPayment, completing, completed}
 use Rattle.orders.specs.Again.{Choice, chosenBy, CompletesAgain}
 use Rattle.orders.specs.Whole.{Completes}
 use Rattle.orders.specs.Working.Search.{passesAt, picks, firstPick}
 use Rattle.orders.specs.Working.Entering.{baseOf, pickedOf}
-use Rattle.orders.specs.TakeUp.{inSet, fit, spared, takeTests, taking, takenInto, TakesUp}
+use Rattle.orders.specs.TakeUp.{inSet, greatest, fit, spared, takeTests, taking, takenInto, TakesUp}
 use Rattle.orders.specs.declared.complete.Completed.{Completed}
+use Rattle.orders.specs.declared.take_up.TakenUp.{TakenUp}
 use Rattle.orders.specs.declared.take_up.TakenUp.the-variants.{Made}
 use Rattle.orders.proofs.Keeping.{first-is}
 use Rattle.orders.proofs.Whole.{answer-is, sheet-is, lookAnswer, lookSheet}
+use Rattle.orders.proofs.Skipping.{at-place}
 use Rattle.orders.proofs.Counts.{sheet}
 
--- a draft by its texts in slot order, parted by spaces, each with revision 1, the blanks with 0
+-- a draft by its texts in slot order, parted by spaces, each with revision 1 of the client, the blanks with 0
 unfoldable draft : String → List ℕ
-draft q = joined (map (λ (t : List ℕ). 0 ∷ 0 ∷ 0 ∷ cond (blank t) 0 1 ∷ cell t) (words q))
+draft q = joined (map (λ (t : List ℕ). 0 ∷ 0 ∷ 0 ∷ cond (blank t) 0 1 ∷ cond (blank t) 0 1 ∷ cell t) (words q))
 
 -- S with 22, 101, 105 to 109 blank, and 60 and 102 "0"; what completion proposes, at count 97
 abbrev order : String
@@ -88,18 +92,19 @@ again : map (λ (e : Row). firstFilling (given 20240101) (sheet (e .1))) rows �
 unfolding rows sheet every look filledAt passesAt places picks firstPick baseOf pickedOf rulesComputing
 again = first-all rows refl
 
--- no slot given but 60 "0" of revision 1; without a text 101 of revision 255, 102 of 7, 108 of 4294967295, the greatest, and 109 of the one before
+-- no slot given but 60 "0" of revision 1; without a text 101 of revision 255, 102 of 7, 108 of 4294967295, the greatest, and 109 of the one before; of the
+-- client 60, 101 and 108
 used : List ℕ
 used =
-    replicate 120 0 ++ (0 ∷ 0 ∷ 0 ∷ 1 ∷ 1 ∷ 48 ∷ replicate 24 0) ++ replicate 30 0 ++ (0 ∷ 0 ∷ 0 ∷ 255 ∷ replicate 26 0) ++ (0 ∷ 0 ∷ 0 ∷ 7 ∷ replicate 26 0)
-    ++ replicate 150 0 ++ (255 ∷ 255 ∷ 255 ∷ 255 ∷ replicate 26 0) ++ (255 ∷ 255 ∷ 255 ∷ 254 ∷ replicate 26 0)
+    replicate 124 0 ++ (0 ∷ 0 ∷ 0 ∷ 1 ∷ 1 ∷ 1 ∷ 48 ∷ replicate 24 0) ++ replicate 31 0 ++ (0 ∷ 0 ∷ 0 ∷ 255 ∷ 1 ∷ replicate 26 0) ++ (0 ∷ 0 ∷ 0 ∷ 7 ∷ 2 ∷ replicate 26 0)
+    ++ replicate 155 0 ++ (255 ∷ 255 ∷ 255 ∷ 255 ∷ 1 ∷ replicate 26 0) ++ (255 ∷ 255 ∷ 255 ∷ 254 ∷ 2 ∷ replicate 26 0)
 
--- what slots 4, 6, 7 and 14 hold after 101 and 109 were taken up
+-- what slots 4, 6, 7 and 14 hold after 101 and 109 were taken up: the adviser's
 stored : map (slotIn (takenInto (given 20240101) used (sheet proposed) 16448)) (4 ∷ 6 ∷ 7 ∷ 14 ∷ [])
-    ≡ (0 ∷ 0 ∷ 0 ∷ 1 ∷ 1 ∷ 48 ∷ replicate 24 0)
-    ∷ (0 ∷ 0 ∷ 1 ∷ 0 ∷ 2 ∷ 48 ∷ 52 ∷ replicate 23 0)
-    ∷ (0 ∷ 0 ∷ 0 ∷ 7 ∷ replicate 26 0)
-    ∷ (255 ∷ 255 ∷ 255 ∷ 255 ∷ 1 ∷ 48 ∷ replicate 24 0)
+    ≡ (0 ∷ 0 ∷ 0 ∷ 1 ∷ 1 ∷ 1 ∷ 48 ∷ replicate 24 0)
+    ∷ (0 ∷ 0 ∷ 1 ∷ 0 ∷ 2 ∷ 2 ∷ 48 ∷ 52 ∷ replicate 23 0)
+    ∷ (0 ∷ 0 ∷ 0 ∷ 7 ∷ 2 ∷ replicate 26 0)
+    ∷ (255 ∷ 255 ∷ 255 ∷ 255 ∷ 2 ∷ 1 ∷ 48 ∷ replicate 24 0)
     ∷ []
 unfolding used sheet takenInto takeTests spared fit listOf every draftsComputing
 stored = refl
@@ -114,7 +119,7 @@ answers = refl
 
 -- nothing proposed; a malformed draft, also with a sheet of another size; a sheet of another size; a malformed one
 others : taking (given 20240101) used (sheet order) 64
-    ∷ taking (given 20240101) (replicate 449 0) (sheet proposed) 0
+    ∷ taking (given 20240101) (replicate 464 0) (sheet proposed) 0
     ∷ taking (given 20240101) [] [] 1
     ∷ taking (given 20240101) used (replicate 389 0) 65535
     ∷ taking (given 20240101) used (26 ∷ replicate 389 0) 65535
@@ -179,7 +184,33 @@ chosen = record {
   reads = the-status (λ (m : List ℕ). readable m ≡ true) refl;
   proposed = the-status (λ (m : List ℕ). toFill D (draftSheet (draft order)) (slotOf (messageField m)) ≡ true) refl;
   value = the-status (λ (m : List ℕ). messageText m ≡ textOf (sheet proposed) (slotOf (messageField m))) refl;
-  above = the-status (λ (m : List ℕ). slotRevision (slotIn (draft order) (slotOf (messageField m))) < revisionOf m) (omega arith);
+  above = the-status (λ (m : List ℕ). slotRevision (slotIn (draft order) (slotOf (messageField m))) below revisionOf m) (inl (omega arith));
+}
+
+-- 101 and 106 are parts of the proposal, below the greatest revision
+below-greatest : (i : ℕ) → i < slotCount + 1 → inSet 2112 i ≡ true → (inSet 31816 i ≡ true) × (slotRevision (slotIn (draft order) i) .number < greatest)
+unfolding every draft places draftsComputing
+below-greatest i l h = go (inSet 2112 i) h (every-mem part {l = places (slotCount + 1) 0} refl (at-place (slotCount + 1) i l))
+  where
+    part : ℕ → Bool
+    part k = not (inSet 2112 k) || (inSet 31816 k && ltb (slotRevision (slotIn (draft order) k) .number) greatest)
+
+    go : (x : Bool) → x ≡ true → (not x || (inSet 31816 i && ltb (slotRevision (slotIn (draft order) i) .number) greatest)) ≡ true → (inSet 31816 i ≡ true) × (slotRevision (slotIn (draft order) i) .number < greatest)
+    go true e q = let p = both (inSet 31816 i) (ltb (slotRevision (slotIn (draft order) i) .number) greatest) q in (p .0, ltb-true _ _ (p .1))
+    go false e q = absurd (false≢true e)
+
+-- the same texts, each with revision 5 of the client, the blanks too: there the adviser's value of that revision is a choice
+unfoldable clients : String → List ℕ
+clients q = joined (map (λ (t : List ℕ). 0 ∷ 0 ∷ 0 ∷ 5 ∷ 1 ∷ cell t) (words q))
+
+chosen-over : Choice D (clients order) (sheet proposed) (status ∷ [])
+unfolding clients sheet of.toFill listOf rulesComputing draftsComputing
+chosen-over = record {
+  strings = the-status Bytes status-bytes;
+  reads = the-status (λ (m : List ℕ). readable m ≡ true) refl;
+  proposed = the-status (λ (m : List ℕ). toFill D (draftSheet (clients order)) (slotOf (messageField m)) ≡ true) refl;
+  value = the-status (λ (m : List ℕ). messageText m ≡ textOf (sheet proposed) (slotOf (messageField m))) refl;
+  above = the-status (λ (m : List ℕ). slotRevision (slotIn (clients order) (slotOf (messageField m))) below revisionOf m) (inr (refl, omega arith));
 }
 
 module _ (b : List ℕ) (z : length b ≡ 390) where
@@ -197,3 +228,7 @@ module _ (b : List ℕ) (z : length b ≡ 390) where
   -- and `complete`'s, with 101 "04" of the revision 5
   chosen-again : (r : Completed) (t : List ℕ) → Completes D (draft order) b r t → (c : List ℕ) → length c ≡ 390 → CompletesAgain D (chosenBy (status ∷ [])) (draft order) b 97 (postedFrom (draft order) (status ∷ [])) c
   chosen-again r t C c size = C .again 97 31816 7 (C .answer ∙ answered) (status ∷ []) (subst (λ (x : List ℕ). Choice D (draft order) x (status ∷ [])) (sym (C .sheet ∙ filled)) chosen) c size
+
+  -- and `take_up` does take up 101 and 106
+  taken-up : (r : TakenUp) (e : List ℕ) → TakesUp D (draft order) (sheet proposed) 2112 r e → r ≡ Made
+  taken-up r e T = T .made b 97 31816 7 answered filled below-greatest

@@ -14,12 +14,14 @@ use Rattle.sheets.specs.Sheet.{slotOf, cell, cellText, cellOf, textOf, sheetSiz
 use Rattle.sheets.specs.declared.dates.Dates.{Dates}
 use Rattle.sheets.proofs.Frames.{text-cell}
 use Rattle.rules.specs.Rules.{keepsAll}
+use Rattle.drafts.specs.Revision.{_below_}
 use Rattle.drafts.specs.Message.{messageField, revisionOf, messageText, readable}
 use Rattle.drafts.specs.Draft.{slotIn, slotCell, slotRevision, slotWith, rankOf, draftFormed, draftSheet}
 use Rattle.drafts.specs.History.{postedFrom, names, rankIn, highest, firstOf}
 use Rattle.drafts.specs.Working.Steps.{slotRank}
-use Rattle.drafts.proofs.Messages.{text-short}
-use Rattle.drafts.proofs.Slots.{slot-cell, Formed, formed-means, formed-by}
+use Rattle.drafts.proofs.Messages.{small, text-short, party-known}
+use Rattle.drafts.proofs.Ranks.{by-below}
+use Rattle.drafts.proofs.Slots.{slot-cell, party-small, Formed, formed-means, formed-by}
 use Rattle.drafts.proofs.DraftSheets.{length-sheet, sheet-cell}
 use Rattle.drafts.proofs.EndSlots.{named, ranked, posted-list, top-at, bound}
 use Rattle.fillings.specs.Fillings as of
@@ -80,7 +82,8 @@ module _ (D : Dates) (d b : List ℕ) (n set k : ℕ) (ms : List (List ℕ)) (do
       go true e =
           let (m, p, q) = some-of (names i) ms e in
           let w = named i m q in
-          let a : slotRank (slotIn d i) < highest i ms = omega (arith, subst (λ (j : ℕ). slotRevision (slotIn d j) < revisionOf m) (w .1) (C .above m p), bound i p, w .2) in
+          let h = by-below (slotRevision (slotIn d i)) (revisionOf m) (party-small (slotIn d i) (formed .slot i l)) (small _ (party-known m (w .0))) (subst (λ (j : ℕ). slotRevision (slotIn d j) below revisionOf m) (w .1) (C .above m p)) in
+          let a : slotRank (slotIn d i) < highest i ms = omega (arith, h, bound i p, w .2) in
           let T = top-at i ms (omega arith) in
           let t = firstOf i (highest i ms) ms in
           let tm : List·Memᴰ t ms = subst (List·Memᴰ t) (sym (T .split)) (Memᴰ·append-right (T .before) (List·Memᴰ·head refl)) in

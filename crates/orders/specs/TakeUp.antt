@@ -9,9 +9,11 @@ use Rattle.texts.specs.Texts.{every, blank}
 use Rattle.texts.specs.Answers.{Answer, success, refusal, Test, _refuses_, _refuses_with_, answerBy, bufferBy}
 use Rattle.sheets.specs.Sheet.{slots, slotCount, sheetSize, fieldIn, textOf, given, wellFormed}
 use Rattle.sheets.specs.declared.dates.Dates.{Dates}
+use Rattle.drafts.specs.Revision.{adviser, _by_}
 use Rattle.drafts.specs.Message.{messageOf}
 use Rattle.drafts.specs.Draft.{slotIn, slotRevision, slotText, slotBytes, draftFormed}
 use Rattle.drafts.specs.History.{postedFrom}
+use Rattle.drafts.specs.declared.revision.Revision.{Revision}
 use Rattle.orders.specs.Fillings.{listOf}
 use Rattle.orders.specs.Complete.{completing, completed}
 use Rattle.orders.specs.Again.{CompletesAgain}
@@ -29,7 +31,7 @@ greatest = 4294967295
 -- slot i of the draft d can take up what the sheet t has: its field has a list, it is blank, a value is proposed, and there is a revision
 -- after its own
 unfoldable pub fit : Dates → List ℕ → List ℕ → ℕ → Bool
-fit D d t i = (ltb 0 (length (listOf D i)) && blank (slotText (slotIn d i))) && (given t i && ltb (slotRevision (slotIn d i)) greatest)
+fit D d t i = (ltb 0 (length (listOf D i)) && blank (slotText (slotIn d i))) && (given t i && ltb (slotRevision (slotIn d i) .number) greatest)
 
 -- slot i is not in the set, or can take up its value
 unfoldable pub spared : Dates → List ℕ → List ℕ → ℕ → ℕ → Bool
@@ -52,9 +54,13 @@ takeTests D d t set =
     ∷ (not (every (spared D d t set) setPlaces) refuses 20 with (firstUnfit (spared D d t set) setPlaces ∷ []))
     ∷ []
 
--- the proposed text of slot i, "with the revision after its slot's"
+-- the adviser's revision after that of slot i, whoever gave it
+abbrev pub next : List ℕ → ℕ → Revision
+next d i = (slotRevision (slotIn d i) .number + 1) by adviser
+
+-- the proposed text of slot i, with the revision after its slot's, as a message of version 1: it "counts as the adviser"
 abbrev pub proposal : List ℕ → List ℕ → ℕ → List ℕ
-proposal d t i = messageOf (fieldIn i) (slotRevision (slotIn d i) + 1) (textOf t i)
+proposal d t i = messageOf 1 (fieldIn i) (next d i) (textOf t i)
 
 -- one for each slot of the set below n
 abbrev pub proposals : List ℕ → List ℕ → ℕ → ℕ → List (List ℕ)
@@ -77,16 +83,16 @@ takeAnswer (Refused n) = refusal (n .0) []
 pub record TakesUp (D : Dates) (d t : List ℕ) (set : ℕ) (r : TakenUp) (e : List ℕ) : Type 0 where
   pub answer : takeAnswer r ≡ taking D d t set
   pub draft : e ≡ takenInto D d t set
-  -- "a refusal changes nothing, not even some of the slots"
+  -- a refusal changes nothing, not even some of the slots
   pub refused : (r ≡ Made → ⊥) → e ≡ d
-  -- each slot of the set holds the sheet's text, with the revision after its own; every other slot is as it was
-  pub slot : r ≡ Made → (i : ℕ) → i < slotCount → slotIn e i ≡ cond (inSet set i) (slotBytes (slotRevision (slotIn d i) + 1) (textOf t i)) (slotIn d i)
+  -- each slot of the set holds the sheet's text, with the revision after its own, as the adviser's; every other slot is as it was
+  pub slot : r ≡ Made → (i : ℕ) → i < slotCount → slotIn e i ≡ cond (inSet set i) (slotBytes (next d i) (textOf t i)) (slotIn d i)
   -- every part of a proposal is taken up, where its "slots are below the greatest revision"
   pub made :
       (b : List ℕ) (n all k : ℕ)
       → completing D d b ≡ success (n ∷ all ∷ k ∷ [])
       → completed D d b ≡ t
-      → ((i : ℕ) → i < slotCount + 1 → inSet set i ≡ true → (inSet all i ≡ true) × (slotRevision (slotIn d i) < greatest))
+      → ((i : ℕ) → i < slotCount + 1 → inSet set i ≡ true → (inSet all i ≡ true) × (slotRevision (slotIn d i) .number < greatest))
       → r ≡ Made
   -- "At the same date and record the draft must then complete to the very same sheet, and its count must be no larger than before"
   pub again :

@@ -27,7 +27,7 @@ pub fn ends_stream(message: &[u8]) -> bool
     ensures { λ r. ⌜ r ≡ endsStream (now (message .entry)) ⌝ }
 {
     match read(message) {
-        Reading::Message(_, _) => false,
+        Reading::Message(_, _, _) => false,
         Reading::Refused(refusal) => refusal.0 == 2,
     }
 }

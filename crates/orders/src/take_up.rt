@@ -1,41 +1,35 @@
 // Taking up part of a proposal (R-9): the values of some slots of a proposed sheet are posted to the draft.
 ghost use mathlib.Core.Path.{_≡_};
-ghost use Prim.Native.Nat.{_<_, _≤_};
+ghost use Prim.Native.Nat.{_<_};
 ghost use lib.Dec.{ltb};
 ghost use lib.ListN.{length};
-ghost use Rattle.sheets.specs.Sheet.{slotCount, textMax, textOf};
+ghost use Rattle.sheets.specs.Sheet.{slotCount, textOf};
 ghost use Rattle.sheets.specs.declared.dates.Dates.{Dates};
-ghost use Rattle.drafts.specs.Draft.{slotIn, slotRevision, postedTo};
+ghost use Rattle.drafts.specs.Draft.{slotIn, slotRevision};
 ghost use Rattle.drafts.specs.History.{postedFrom};
+ghost use Rattle.drafts.specs.Working.Steps.{textPut};
 ghost use Rattle.orders.specs.Fillings.{listOf};
-ghost use Rattle.orders.specs.TakeUp.{inSet, greatest, fit, proposal, proposals, TakesUp};
+ghost use Rattle.orders.specs.TakeUp.{inSet, greatest, fit, next, proposals, TakesUp};
 ghost use Rattle.orders.specs.Working.Upto.{FirstUnfit, Postable};
-use drafts::draft::DRAFT_SIZE;
-use drafts::draft::post;
+use drafts::draft::put_text;
 use drafts::draft::revision_in;
 use drafts::draft::text_in;
-use drafts::message::HEAD_SIZE;
-use drafts::message::Written;
-use drafts::message::write;
+use drafts::revision::ADVISER;
+use drafts::revision::Party;
 use drafts::revision::Revision;
 use sheets::sheet::Field;
 use sheets::sheet::SHEET_SIZE;
 use sheets::sheet::SLOT_COUNT;
-use sheets::sheet::TEXT_MAX;
 use sheets::sheet::field_in;
 use sheets::sheet::text;
 use texts::answers::Refusal;
-use texts::buffers::put;
 use texts::parts::at;
-use texts::parts::part;
 use texts::parts::wide;
 
 const GREATEST: u32 = 4294967295;
 
 // The slots, and a place of the set that is no slot's.
 const PLACES: u8 = SLOT_COUNT + 1;
-
-const MESSAGE_MAX: usize = HEAD_SIZE + TEXT_MAX;
 
 // 1 for a slot whose field has a list.
 const LISTED: [u8; 15] = [0, 0, 0, 1, 1, 0, 1, 1, 0, 1, 1, 1, 1, 1, 1];
@@ -81,35 +75,28 @@ fn first_unfit(draft: &[u8], sheet: &[u8], set: u16) -> u8
     PLACES
 }
 
-// Posts a slot's proposed text, with the revision after the one that it has in the given draft.
-fn take(draft: &mut [u8], given: &[u8], sheet: &[u8], slot: u8)
-    requires { ⌜ (slot < slotCount) × (slotRevision (slotIn (now given) slot) < greatest) × (length (textOf (now sheet) slot) ≤ textMax) ⌝ }
-    ensures { λ _. ⌜ now (draft .exit) ≡ postedTo (now (draft .entry)) (proposal (now (given .entry)) (now (sheet .entry)) slot) ⌝ }
+// Puts a slot's proposed text into it, as the adviser's, with the revision after the one that it has: that is what posting it comes to.
+fn take(draft: &mut [u8], sheet: &[u8], slot: u8)
+    requires { ⌜ (slotRevision (slotIn (now draft) slot) .number < greatest) ⌝ }
+    ensures { λ _. ⌜ now (draft .exit) ≡ textPut (now (draft .entry)) slot (next (now (draft .entry)) slot) (textOf (now (sheet .entry)) slot) ⌝ }
 {
-    let had = revision_in(given, slot);
+    let had = revision_in(draft, slot);
     let revision = Revision {
         number: had.number + 1,
+        party: Party(ADVISER),
     };
-    let mut message = [0u8; MESSAGE_MAX];
-    match write(field_in(slot), revision, text(sheet, slot), &mut message) {
-        Written::Refused(_) => {}
-        Written::Bytes(n) => {
-            post(draft, part(&message, 0, n));
-        }
-    }
+    put_text(draft, slot, revision, text(sheet, slot));
 }
 
-// Posts the values of a set's slots. Their revisions are those after the given draft's, of which a copy is kept.
+// Posts the values of a set's slots.
 fn take_all(draft: &mut [u8], sheet: &[u8], set: u16)
     requires { ⌜ Postable (now draft) (now sheet) set ⌝ }
     ensures { λ _. ⌜ now (draft .exit) ≡ postedFrom (now (draft .entry)) (proposals (now (draft .entry)) (now (sheet .entry)) set slotCount) ⌝ }
 {
-    let mut given = [0u8; DRAFT_SIZE];
-    put(&mut given, 0, draft);
     let mut slot: u8 = 0;
     while slot < SLOT_COUNT {
         if is_in_set(set, slot) {
-            take(draft, &given, sheet, slot);
+            take(draft, sheet, slot);
         }
         slot += 1;
     }

@@ -94,8 +94,8 @@ told-before D n d (m ∷ ms) = ap (λ (r : List ℕ). messageLine n (postingOf d
 
 -- ---- the whole
 
--- a draft of 450 bytes made fresh
-pub fresh-is : (d : List ℕ) (r : Begun) (e : List ℕ) → Freshens d r e → length d ≡ 450 → e ≡ freshDraft
+-- a draft of 465 bytes made fresh
+pub fresh-is : (d : List ℕ) (r : Begun) (e : List ℕ) → Freshens d r e → length d ≡ 465 → e ≡ freshDraft
 unfolding postedAll
 fresh-is d r e F l = F .start l .draft
 

@@ -5,6 +5,7 @@ use Prim.Native.Nat.{ℕ, _≤_}
 use borrow.Author.Tests.{le-leb}
 use lib.ListN.{length}
 use Rattle.texts.specs.Quoted.{Text, bytes}
+use Rattle.drafts.specs.Revision.{adviser, _by_}
 use Rattle.drafts.specs.Message.{messageOf}
 use Rattle.fillings.specs.Fillings.{toFill, choices, look, fillings, firstFilling}
 use Rattle.fillings.specs.Filled.{setOf}
@@ -35,23 +36,23 @@ example-reported b h = simp (le-leb 46080 (length b) h) example
 -- a whole order: S from fifteen messages, the first of them once more, an older one, and one that is cut off
 wholeInput : List ℕ
 wholeInput =
-    messageOf 14 2 (bytes "004525987")
-    ++ messageOf 15 2 (bytes "40102810845370000004")
-    ++ messageOf 17 2 (bytes "03100643000000014800")
-    ++ messageOf 22 2 (bytes "0")
-    ++ messageOf 60 2 (bytes "7701569743")
-    ++ messageOf 61 2 (bytes "6730054024")
-    ++ messageOf 101 2 (bytes "01")
-    ++ messageOf 102 2 (bytes "770301001")
-    ++ messageOf 103 2 (bytes "772801001")
-    ++ messageOf 104 2 (bytes "18201061201010000510")
-    ++ messageOf 105 2 (bytes "0")
-    ++ messageOf 106 2 (bytes "0")
-    ++ messageOf 107 2 (bytes "0")
-    ++ messageOf 108 2 (bytes "0")
-    ++ messageOf 109 2 (bytes "0")
-    ++ messageOf 14 2 (bytes "004525987")
-    ++ messageOf 14 1 (bytes "1")
+    messageOf 1 14 (2 by adviser) (bytes "004525987")
+    ++ messageOf 1 15 (2 by adviser) (bytes "40102810845370000004")
+    ++ messageOf 1 17 (2 by adviser) (bytes "03100643000000014800")
+    ++ messageOf 1 22 (2 by adviser) (bytes "0")
+    ++ messageOf 1 60 (2 by adviser) (bytes "7701569743")
+    ++ messageOf 1 61 (2 by adviser) (bytes "6730054024")
+    ++ messageOf 1 101 (2 by adviser) (bytes "01")
+    ++ messageOf 1 102 (2 by adviser) (bytes "770301001")
+    ++ messageOf 1 103 (2 by adviser) (bytes "772801001")
+    ++ messageOf 1 104 (2 by adviser) (bytes "18201061201010000510")
+    ++ messageOf 1 105 (2 by adviser) (bytes "0")
+    ++ messageOf 1 106 (2 by adviser) (bytes "0")
+    ++ messageOf 1 107 (2 by adviser) (bytes "0")
+    ++ messageOf 1 108 (2 by adviser) (bytes "0")
+    ++ messageOf 1 109 (2 by adviser) (bytes "0")
+    ++ messageOf 1 14 (2 by adviser) (bytes "004525987")
+    ++ messageOf 1 14 (1 by adviser) (bytes "1")
     ++ (0 ∷ 9 ∷ 1 ∷ [])
 
 -- some lines, each ended by a line feed

@@ -1,13 +1,12 @@
 -- The loops that write: what is written so far, and what is left of the report. Assumes nothing.
 use mathlib.Core.Path.{_≡_, refl, sym, ap, _∙_}
-use mathlib.Core.Bool.{Bool, true, false, not, cond, false≢true}
+use mathlib.Core.Bool.{Bool, true, false, cond, false≢true}
 use mathlib.Core.List.{List, [], _∷_, _++_, append-assoc, append-nil}
 use Prim.Native.Nat.{ℕ, zero, suc, _+_, _-_, _*_, _<_, _≤_}
 use native.Mathlib.Nat.{add-zero, zero-add}
 use native.Mathlib.Numerals.{add-one}
 use native.Mathlib.Omega.{arith}
-use borrow.Author.Tests.{eqb-true, ltb-false, not-false}
-use lib.Dec.{eqb, ltb}
+use lib.Dec.{eqb}
 use lib.ListN.{length, getD, take, drop, take-append-drop, drop-of-length-le, length-drop}
 use lib.Seq.{drop-cons, drop-drop}
 use Rattle.texts.specs.Quoted.{Text}
@@ -16,7 +15,8 @@ use Rattle.texts.specs.Buffers.{put, Wrote}
 use Rattle.texts.specs.Answers.{Answer, success, refusal, numberOf}
 use Rattle.texts.proofs.Puts.{put-none, wrote-as, wrote-then}
 use Rattle.sheets.specs.Sheet.{slots}
-use Rattle.drafts.specs.Message.{lengthOf, readTests, readingOf}
+use Rattle.drafts.specs.Message.{misframed, readTests, readingOf}
+use Rattle.drafts.proofs.Messages.{frame-means}
 use Rattle.drafts.specs.Draft.{freshDraft, postingOf, postedTo, postAnswer}
 use Rattle.drafts.specs.Promises.{Posts}
 use Rattle.drafts.specs.declared.draft.Posted.{Posted}
@@ -77,17 +77,13 @@ listed-done b s e at slot next L h =
 -- ---- the lines of the messages
 
 -- a message that does not end the stream has eight bytes at least
-sized : (a b c d : Bool) (r : Answer) → eqb (numberOf (cond a (refusal 2 []) (cond b (refusal 2 []) (cond c (refusal 2 []) (cond d (refusal 2 []) r))))) 2 ≡ false → (b ≡ false) × (c ≡ false)
-sized true b c d r e = absurd (false≢true (sym e))
-sized false true c d r e = absurd (false≢true (sym e))
-sized false false true d r e = absurd (false≢true (sym e))
-sized false false false d r e = (refl, refl)
+sized : (a : Bool) (r : Answer) → eqb (numberOf (cond a (refusal 2 []) r)) 2 ≡ false → a ≡ false
+sized true r e = absurd (false≢true (sym e))
+sized false r e = refl
 
 long : (m : List ℕ) → endsStream m ≡ false → 8 ≤ length m
 unfolding endsStream readingOf readTests
-long m e =
-    let q = sized (ltb (length m) 2) (not (eqb (lengthOf m + 2) (length m))) (ltb (lengthOf m) 6) (ltb 31 (lengthOf m)) _ e in
-    omega (arith, eqb-true (lengthOf m + 2) (length m) (not-false _ (q .0)), ltb-false (lengthOf m) 6 (q .1))
+long m e = omega (arith, frame-means m (sized (misframed m) _ e))
 
 -- the messages before place k are told, and the next is number n
 pub record Telling (i b : List ℕ) (k n at : ℕ) (d e : List ℕ) : Type 0 where

@@ -6,7 +6,7 @@ use Prim.Native.Nat.{ℕ, _+_, _<_, _≤_}
 use lib.ListN.{length}
 use Rattle.sheets.specs.Sheet.{slotCount, textMax, textOf}
 use Rattle.sheets.specs.declared.dates.Dates.{Dates}
-use Rattle.drafts.specs.Draft.{draftSize, slotIn, slotRevision}
+use Rattle.drafts.specs.Draft.{slotIn, slotRevision, draftFormed}
 use Rattle.orders.specs.TakeUp.{inSet, greatest, spared}
 
 -- every place of the set before r is spared, and r is not, if it is one
@@ -17,5 +17,5 @@ pub record FirstUnfit (D : Dates) (d t : List ℕ) (set r : ℕ) : Type 0 where
 
 -- each slot of the set has a revision after its own, and a text that a message takes
 pub record Postable (d t : List ℕ) (set : ℕ) : Type 0 where
-  pub sized : length d ≡ draftSize
-  pub slot : (i : ℕ) → i < slotCount → inSet set i ≡ true → (slotRevision (slotIn d i) < greatest) × (length (textOf t i) ≤ textMax)
+  pub formed : draftFormed d ≡ true
+  pub slot : (i : ℕ) → i < slotCount → inSet set i ≡ true → (slotRevision (slotIn d i) .number < greatest) × (length (textOf t i) ≤ textMax)
