@@ -4,65 +4,93 @@ use std::cmp::Ordering;
 
 use crate::field::{Field, FIELDS};
 use crate::message;
+use crate::party::Party;
 use crate::refusal::Refusal;
 use crate::sheet::{self, Sheet, SheetSlot};
 
-/// "Revision (4, big-endian, 0 = never given), text length (1), text padded
-/// with zero bytes to 25".
-const SLOT_SIZE: usize = 30;
+/// "Revision (4, big-endian, 0 = never given)"; "A slot gains a party byte after
+/// its revision".
+const STAMP_SIZE: usize = size_of::<u32>() + 1;
 
-/// "A draft has 450 bytes, slot i at 30 × i".
-pub(crate) const DRAFT_SIZE: usize = SLOT_SIZE * FIELDS;
+/// "So it has 31 bytes and a draft 465": revision, party, "text length (1), text
+/// padded with zero bytes to 25".
+pub const SLOT_SIZE: usize = STAMP_SIZE + size_of::<SheetSlot>();
+
+/// "So it has 31 bytes and a draft 465": slot i at 31 × i.
+pub const DRAFT_SIZE: usize = SLOT_SIZE * FIELDS;
 
 /// What posting a message did.
 #[derive(Clone, Copy, Debug, PartialEq, Eq, Hash)]
 pub enum Posted {
-    /// "Higher, stored".
+    /// A higher revision, or the slot's revision by the adviser over the client's:
+    /// stored.
     Newer,
-    /// "Equal with the same text": nothing changed.
+    /// The slot's revision, party and text: nothing changed.
     Same,
-    /// "Lower": nothing changed.
+    /// A lower revision, or the slot's revision by the client under the adviser's:
+    /// nothing changed.
     Older,
 }
 
-/// A slot's or a message's revision.
+/// A revision that was given, and the party that gave it. The order is R-8's
+/// "greatest by revision, then party".
 #[derive(Clone, Copy, Debug, PartialEq, Eq, PartialOrd, Ord)]
-struct Revision(u32);
+struct Revision {
+    number: u32,
+    party: Party,
+}
 
 impl Revision {
-    /// "Posting a message, by its revision against the slot's: higher, stored,
-    /// 'newer'; equal with the same text, 'same'; lower, 'older'"; and refusal
-    /// 6, "equal revision, other text".
-    fn against(self, stored: Self, same_text: bool) -> Result<Posted, Refusal> {
-        match self.cmp(&stored) {
+    /// A message's against the slot's, which may be none.
+    ///
+    /// "The higher revision stands; at equal revisions the adviser's stands over
+    /// the client's, whichever came first, and the answer is 'newer' or 'older'
+    /// accordingly. Clash 6 needs equal party too".
+    fn against(self, stored: Option<Self>, same_text: bool) -> Result<Posted, Refusal> {
+        match Some(self).cmp(&stored) {
             Ordering::Greater => Ok(Posted::Newer),
             Ordering::Equal if same_text => Ok(Posted::Same),
             Ordering::Equal => Err(Refusal::Clash),
             Ordering::Less => Ok(Posted::Older),
         }
     }
-
-    /// The revision after this one; the greatest has none.
-    fn after(self) -> Option<u32> {
-        self.0.checked_add(1)
-    }
 }
 
 /// A slot of a draft, as read.
 #[derive(Clone, Copy)]
 struct Slot<'a> {
-    revision: Revision,
+    /// `None` if "never given".
+    revision: Option<Revision>,
     text: &'a [u8],
 }
 
 impl<'a> Slot<'a> {
+    const NEVER_GIVEN: Self = Self {
+        revision: None,
+        text: &[],
+    };
+
     /// `None` if the slot is malformed: "a length above 25, a nonzero pad byte;
-    /// in a draft also revision 0 with a text".
+    /// in a draft also revision 0 with a text"; the party is "0 exactly if the
+    /// revision is 0 and otherwise 1 or 2".
     fn parse(bytes: &'a [u8; SLOT_SIZE]) -> Option<Self> {
-        let (revision, padded) = bytes.split_first_chunk()?;
-        let revision = Revision(u32::from_be_bytes(*revision));
+        let (&[r0, r1, r2, r3, party], padded) = bytes.split_first_chunk::<STAMP_SIZE>()?;
         let text = sheet::unpad(padded.try_into().ok()?)?;
-        (revision != Revision(0) || text.is_empty()).then_some(Self { revision, text })
+        let number = u32::from_be_bytes([r0, r1, r2, r3]);
+        if number == 0 {
+            return (party == 0 && text.is_empty()).then_some(Self::NEVER_GIVEN);
+        }
+        let party = Party::from_number(party)?;
+        let revision = Some(Revision { number, party });
+        Some(Self { revision, text })
+    }
+
+    /// The revision after the slot's; the greatest has none.
+    fn revision_after(&self) -> Option<u32> {
+        match self.revision {
+            None => Some(1),
+            Some(revision) => revision.number.checked_add(1),
+        }
     }
 }
 
@@ -76,15 +104,11 @@ impl<'a> Draft<'a> {
     }
 
     fn slots(bytes: &'a [u8]) -> Option<[Slot<'a>; FIELDS]> {
-        const NEVER_GIVEN: Slot = Slot {
-            revision: Revision(0),
-            text: &[],
-        };
         let (chunks, []) = bytes.as_chunks() else {
             return None;
         };
         let chunks: &[[u8; SLOT_SIZE]; FIELDS] = chunks.try_into().ok()?;
-        let mut slots = [NEVER_GIVEN; FIELDS];
+        let mut slots = [Slot::NEVER_GIVEN; FIELDS];
         for (slot, bytes) in slots.iter_mut().zip(chunks) {
             *slot = Slot::parse(bytes)?;
         }
@@ -93,7 +117,8 @@ impl<'a> Draft<'a> {
 }
 
 /// The draft's sheet: "Copying a draft to a sheet drops the revisions; what it
-/// gives is the draft's sheet." Refusal 1 if the draft is malformed.
+/// gives is the draft's sheet." It drops the parties too. Refusal 1 if the draft is
+/// malformed.
 pub(crate) fn sheet_of(draft: &[u8]) -> Result<Sheet<'_>, Refusal> {
     let Draft(slots) = Draft::parse(draft)?;
     let mut sheet = Sheet::BLANK;
@@ -107,14 +132,14 @@ pub(crate) fn sheet_of(draft: &[u8]) -> Result<Sheet<'_>, Refusal> {
 /// malformed.
 pub(crate) fn revisions_after(draft: &[u8]) -> Result<[Option<u32>; FIELDS], Refusal> {
     let Draft(slots) = Draft::parse(draft)?;
-    Ok(slots.map(|slot| slot.revision.after()))
+    Ok(slots.map(|slot| slot.revision_after()))
 }
 
 /// Makes a draft fresh: "all zero", whatever it held.
 ///
 /// # Errors
 ///
-/// [`Refusal::Malformed`]: "for fresh, size not 450".
+/// [`Refusal::Malformed`]: "for fresh, size not" that of a draft, 465 now.
 pub fn fresh(draft: &mut [u8]) -> Result<(), Refusal> {
     if draft.len() != DRAFT_SIZE {
         return Err(Refusal::Malformed);
@@ -125,9 +150,10 @@ pub fn fresh(draft: &mut [u8]) -> Result<(), Refusal> {
 
 /// Posts a message to a draft.
 ///
-/// "Posting a message, by its revision against the slot's: higher, stored,
-/// 'newer'; equal with the same text, 'same'; lower, 'older'; the last two
-/// change nothing. An empty text with a higher revision blanks the field."
+/// "The higher revision stands; at equal revisions the adviser's stands over the
+/// client's, whichever came first, and the answer is 'newer' or 'older'
+/// accordingly." What is newer is stored, its party too; "same" and "older" "change
+/// nothing. An empty text with a higher revision blanks the field."
 ///
 /// # Errors
 ///
@@ -135,27 +161,33 @@ pub fn fresh(draft: &mut [u8]) -> Result<(), Refusal> {
 /// [`read`](crate::read), [`Refusal::Clash`].
 pub fn post(draft: &mut [u8], message: &[u8]) -> Result<Posted, Refusal> {
     let Draft(slots) = Draft::parse(draft)?;
-    let (field, message) = message::parse(message)?;
-    let stored = slots[field.slot()];
-    let posted =
-        Revision(message.revision).against(stored.revision, message.text == stored.text)?;
+    let message = message::parse(message)?;
+    let stored = slots[message.field.slot()];
+    let revision = Revision {
+        number: message.revision,
+        party: message.party,
+    };
+    let posted = revision.against(stored.revision, message.text == stored.text)?;
     if posted == Posted::Newer {
-        store(draft, field, message.revision, message.text);
+        store(draft, message.field, revision, message.text);
     }
     Ok(posted)
 }
 
-/// Stores a revision and a text in the field's slot of a well-formed draft.
-fn store(draft: &mut [u8], field: Field, revision: u32, text: &[u8]) {
-    let mut padded: SheetSlot = [0; SLOT_SIZE - 4];
+/// Stores a revision, its party and a text in the field's slot of a well-formed
+/// draft.
+fn store(draft: &mut [u8], field: Field, revision: Revision, text: &[u8]) {
+    let mut padded: SheetSlot = [0; size_of::<SheetSlot>()];
     sheet::pad(text, &mut padded);
     let slot = &mut draft[field.slot() * SLOT_SIZE..][..SLOT_SIZE];
-    let (revision_bytes, text_bytes) = slot.split_at_mut(4);
-    revision_bytes.copy_from_slice(&revision.to_be_bytes());
+    let (stamp, text_bytes) = slot.split_at_mut(STAMP_SIZE);
+    let [r0, r1, r2, r3] = revision.number.to_be_bytes();
+    stamp.copy_from_slice(&[r0, r1, r2, r3, revision.party.number()]);
     text_bytes.copy_from_slice(&padded);
 }
 
-/// Copies a draft to a sheet: "Copying a draft to a sheet drops the revisions".
+/// Copies a draft to a sheet: "Copying a draft to a sheet drops the revisions", and
+/// the parties.
 ///
 /// # Errors
 ///

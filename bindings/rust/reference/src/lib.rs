@@ -10,9 +10,10 @@
 //! follow. Of the requests it has R-1 (pension numbers), R-2 (letters in a KPP),
 //! R-3 (a test ahead of the search), R-4 (check digits of the INN), R-5 (rule
 //! 22 ahead of rule 21), R-6 (SWIFT lines), R-7 (the order's date chooses the rules),
-//! R-9 (taking up part of a proposal, a claim about completion and posting as they
-//! are), R-10 (the bank's charge), R-11 (part of a year), R-12 (status 15 with its
-//! register), R-13 (which payments leave first) and R-14 (passing over a status whole).
+//! R-8 (the client writes into the same draft), R-9 (taking up part of a proposal, a
+//! claim about completion and posting as they are), R-10 (the bank's charge), R-11
+//! (part of a year), R-12 (status 15 with its register), R-13 (which payments leave
+//! first) and R-14 (passing over a status whole).
 //! R-9 names no function; [`take_up`] and refusal 20 are added to it and stated
 //! where they stand.
 //!
@@ -29,6 +30,7 @@ mod field;
 mod leave;
 mod message;
 mod part;
+mod party;
 mod pretest;
 mod program;
 mod quick;
@@ -42,9 +44,9 @@ mod take_up;
 pub use charge::charge;
 pub use completion::{complete, Completed};
 pub use dates::{Date, Record};
-pub use draft::{copy, fresh, post, Posted};
+pub use draft::{copy, fresh, post, Posted, DRAFT_SIZE, SLOT_SIZE};
 pub use leave::{leave, Leaving, Payment};
-pub use message::{read, write, Message};
+pub use message::{read, write, Message, MESSAGE_MAX};
 pub use part::{part, shares, Part};
 pub use pretest::pretest;
 pub use program::report;

@@ -19,7 +19,8 @@ const ORDER_DATE: Date = Date(20_240_101);
 /// 2 + L bytes or what is left if that is less, and posts them to a fresh
 /// draft. Per message a line: its number from 1, then newer, same, older or the
 /// refusal number. After a 2 it stops reading. Then it completes the draft and
-/// prints the end".
+/// prints the end". A 2 is also "an L its version doesn't allow"; an L of 32 in an
+/// unknown version is a 3.
 #[must_use]
 pub fn report(input: &[u8]) -> Vec<u8> {
     let mut output = Vec::new();

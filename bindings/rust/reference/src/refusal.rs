@@ -20,21 +20,23 @@ impl From<Broken> for Refusal {
 }
 
 /// An answer other than success. "Number order is test order", but 12 "comes just
-/// before 8", and 7 comes last in [`write_lines`](crate::write_lines).
+/// before 8", 13 "just before 4", a part of 2 is "tested after 3", and 7 comes last
+/// in [`write_lines`](crate::write_lines).
 #[derive(Clone, Copy, Debug, PartialEq, Eq, Hash)]
 pub enum Refusal {
-    /// 1: "draft or sheet malformed; for fresh, size not 450".
+    /// 1: "draft or sheet malformed; for fresh, size not" 465. "A slot … has 31 bytes
+    /// and a draft 465; error 1 tests for both", size and party.
     Malformed,
-    /// 2: "message under 2 bytes, L not the rest, L outside 6 to 31; writer:
-    /// text over 25".
+    /// 2: "message under 2 bytes, L not the rest, L outside 6 to" 32; "tested after
+    /// 3, an L its version doesn't allow"; "writer: text over 25".
     Length,
-    /// 3: "version not 1".
+    /// 3: "a version other than 1 or 2".
     Version,
     /// 4: "field not listed".
     UnknownField,
     /// 5: "revision 0".
     RevisionZero,
-    /// 6: "equal revision, other text".
+    /// 6: "equal revision, other text"; "Clash 6 needs equal party too".
     Clash,
     /// 7: "output: a sheet not of 390, a message buffer too short"; for SWIFT lines
     /// "buffer too short"; "an output of fewer than 500 places"; a proposed sheet not
@@ -59,6 +61,8 @@ pub enum Refusal {
     /// 12: "an order date or record entry that is no Gregorian date of the years
     /// 1900 to 2099, or an order date before 20230925"; "it comes just before 8".
     Undated,
+    /// 13: "an unknown party, or the client when writing version 1, just before 4".
+    Party,
     /// 14: "an argument out of range or a least above the greatest".
     Tariff,
     /// 15: "a year length other than 365 or 366, days outside 1 to that length, 0
@@ -103,6 +107,7 @@ impl Refusal {
             Self::NoFilling { .. } => 10,
             Self::NoLines => 11,
             Self::Undated => 12,
+            Self::Party => 13,
             Self::Tariff => 14,
             Self::YearPart => 15,
             Self::Register => 16,

@@ -3,15 +3,17 @@
 use crate::completion::is_open;
 use crate::draft::{post, revisions_after, sheet_of};
 use crate::field::{Field, FIELDS};
-use crate::message::{write, MESSAGE_MAX};
+use crate::message::{write, Version, MESSAGE_MAX};
+use crate::party::Party;
 use crate::refusal::Refusal;
 use crate::sheet::{Sheet, SHEET_SIZE};
 
 /// Takes up part of a proposal: posts the proposed sheet's text for each slot of the
 /// set (bit i for slot i, as in the set that completion returns), each with the
-/// revision after its slot's.
+/// revision after its slot's, whichever party gave that.
 ///
-/// "Advisers accept proposed values one by one." The sheet need not be one that
+/// "Advisers accept proposed values one by one", so they are posted as the adviser's,
+/// in version 1: "Version 1 counts as the adviser". The sheet need not be one that
 /// completion made; its texts outside the set are not taken. An empty set changes
 /// nothing.
 ///
@@ -34,7 +36,14 @@ pub fn take_up(draft: &mut [u8], sheet: &[u8], set: u16) -> Result<(), Refusal> 
         }
         let revision = revisions[slot].ok_or(refusal)?;
         let mut message = [0; MESSAGE_MAX];
-        let size = write(field.number(), revision, proposed[field], &mut message)?;
+        let size = write(
+            Version::One.number(),
+            Party::Adviser.number(),
+            field.number(),
+            revision,
+            proposed[field],
+            &mut message,
+        )?;
         post(&mut after, &message[..size])?;
     }
     draft.copy_from_slice(&after);

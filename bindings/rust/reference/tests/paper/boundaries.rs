@@ -1,9 +1,11 @@
 //! Sizes, lengths, pads, versions, revisions and the order of refusals.
 
-use cases::{message, Text, FIELDS};
+use cases::{Text, FIELDS};
 use reference::{copy, fresh, post, read, report, write};
-use reference::{Class, Message, Posted, Refusal};
+use reference::{Class, Message, Posted, Refusal, DRAFT_SIZE, SLOT_SIZE};
 
+use crate::layout::{message_1, message_2, slot, ADVISER, CLIENT};
+use crate::layout::{HEAD_1, HEAD_2, LENGTH_PLACE, PARTY_PLACE};
 use crate::support::{broken, check, complete, draft, sheet, Change};
 
 /// The sheet's bytes, cut or extended with zeros to a size.
@@ -36,7 +38,7 @@ fn refusals_have_their_numbers() {
 
 #[test]
 fn sheets_of_another_size_are_malformed() {
-    for size in [0, 1, 26, 364, 389, 391, 416, 450, 780] {
+    for size in [0, 1, 26, 364, 389, 391, 416, DRAFT_SIZE, 780] {
         let bytes = resized(sheet(&[]), size);
         assert_eq!(check(&bytes), Err(Refusal::Malformed), "size {size}");
     }
@@ -90,9 +92,9 @@ fn a_zero_byte_in_a_text_is_no_pad() {
 
 #[test]
 fn reading_short_messages() {
-    for size in 0..8 {
+    for size in 0..HEAD_1 {
         assert_eq!(read(&vec![0; size]), Err(Refusal::Length), "size {size}");
-        let cut = &message(14, 1, b"")[..size];
+        let cut = &message_1(14, 1, b"")[..size];
         assert_eq!(read(cut), Err(Refusal::Length), "size {size}");
     }
 }
@@ -106,6 +108,8 @@ fn reading_lengths_5_6_31_32() {
     };
     assert_eq!(read(&with_length(5)), Err(Refusal::Length));
     let shortest = Message {
+        version: 1,
+        party: ADVISER,
         field: 14,
         revision: 1,
         text: b"",
@@ -123,7 +127,7 @@ fn reading_lengths_5_6_31_32() {
 #[test]
 fn reading_a_length_one_off() {
     for text in [&b""[..], b"1", &[b'7'; 24], &[b'7'; 25]] {
-        let good = message(14, 1, text);
+        let good = message_1(14, 1, text);
         assert!(read(&good).is_ok());
         for length in [good[1] - 1, good[1] + 1] {
             let mut bad = good.clone();
@@ -150,11 +154,14 @@ fn reading_a_long_length_that_fits() {
 #[test]
 fn reading_versions() {
     for version in 0..=255 {
-        let mut bytes = message(14, 1, b"1");
+        let mut bytes = message_1(14, 1, b"1");
         bytes[2] = version;
         assert_eq!(read(&bytes).is_ok(), version == 1);
-        if version != 1 {
-            assert_eq!(read(&bytes), Err(Refusal::Version));
+        // In version 2 the field's number is in the party's place.
+        match version {
+            1 => {}
+            2 => assert_eq!(read(&bytes), Err(Refusal::Party)),
+            _ => assert_eq!(read(&bytes), Err(Refusal::Version)),
         }
     }
 }
@@ -163,11 +170,13 @@ fn reading_versions() {
 fn reading_and_writing_all_field_numbers() {
     for field in 0..=255 {
         let mut buffer = [0; 40];
-        let written = write(field, 7, b"text", &mut buffer);
-        let bytes = message(field, 7, b"text");
+        let written = write(1, ADVISER, field, 7, b"text", &mut buffer);
+        let bytes = message_1(field, 7, b"text");
         let read = read(&bytes);
         if FIELDS.contains(&field) {
             let expected = Message {
+                version: 1,
+                party: ADVISER,
                 field,
                 revision: 7,
                 text: b"text",
@@ -186,10 +195,10 @@ fn reading_and_writing_all_field_numbers() {
 #[test]
 fn reading_revisions() {
     for revision in [1, 0x100, 0x0102_0304, u32::MAX] {
-        let bytes = message(109, revision, b"");
+        let bytes = message_1(109, revision, b"");
         assert_eq!(read(&bytes).map(|m| m.revision), Ok(revision));
     }
-    assert_eq!(read(&message(14, 0, b"")), Err(Refusal::RevisionZero));
+    assert_eq!(read(&message_1(14, 0, b"")), Err(Refusal::RevisionZero));
 }
 
 #[test]
@@ -209,61 +218,77 @@ fn reading_refuses_in_number_order() {
 
 #[test]
 fn the_text_is_a_part_of_the_callers_message() {
-    let bytes = message(14, 1, b"004525987");
+    let bytes = message_1(14, 1, b"004525987");
     let text = read(&bytes).map(|m| m.text.as_ptr_range());
-    assert_eq!(text, Ok(bytes[8..].as_ptr_range()));
+    assert_eq!(text, Ok(bytes[HEAD_1..].as_ptr_range()));
 }
 
 #[test]
 fn writing_refuses_in_number_order() {
     let long = [b'7'; 26];
     let mut nothing = [];
-    assert_eq!(write(0, 0, &long, &mut nothing), Err(Refusal::Length));
+    let longest = &long[1..];
+    let mut write = |version, party, field, revision, text: &[u8]| {
+        write(version, party, field, revision, text, &mut nothing)
+    };
+    assert_eq!(write(0, 0, 0, 0, &long), Err(Refusal::Length));
+    assert_eq!(write(0, 0, 0, 0, longest), Err(Refusal::Version));
+    assert_eq!(write(1, 0, 0, 0, longest), Err(Refusal::Party));
+    assert_eq!(write(1, ADVISER, 0, 0, longest), Err(Refusal::UnknownField));
     assert_eq!(
-        write(0, 0, &long[1..], &mut nothing),
-        Err(Refusal::UnknownField)
-    );
-    assert_eq!(
-        write(14, 0, &long[1..], &mut nothing),
+        write(1, ADVISER, 14, 0, longest),
         Err(Refusal::RevisionZero)
     );
-    assert_eq!(write(14, 1, &long[1..], &mut nothing), Err(Refusal::Output));
+    assert_eq!(write(1, ADVISER, 14, 1, longest), Err(Refusal::Output));
 }
 
 #[test]
 fn writing_needs_room_and_leaves_the_rest() {
     for length in 0..=25 {
         let text = vec![b'7'; length];
-        let size = 8 + length;
-        let mut short = vec![0xEE; size - 1];
-        assert_eq!(write(61, 2, &text, &mut short), Err(Refusal::Output));
-        assert_eq!(short, vec![0xEE; size - 1]);
-        for spare in [0, 1, 50] {
-            let mut buffer = vec![0xEE; size + spare];
-            assert_eq!(write(61, 2, &text, &mut buffer), Ok(size));
-            assert_eq!(buffer[..size], message(61, 2, &text));
-            assert_eq!(buffer[size..], vec![0xEE; spare]);
+        let one = message_1(61, 2, &text);
+        let two = message_2(CLIENT, 61, 2, &text);
+        for (version, party, head, message) in [(1, ADVISER, HEAD_1, one), (2, CLIENT, HEAD_2, two)]
+        {
+            let size = head + length;
+            let mut short = vec![0xEE; size - 1];
+            let written = write(version, party, 61, 2, &text, &mut short);
+            assert_eq!(written, Err(Refusal::Output));
+            assert_eq!(short, vec![0xEE; size - 1]);
+            for spare in [0, 1, 50] {
+                let mut buffer = vec![0xEE; size + spare];
+                let written = write(version, party, 61, 2, &text, &mut buffer);
+                assert_eq!(written, Ok(size));
+                assert_eq!(buffer[..size], message);
+                assert_eq!(buffer[size..], vec![0xEE; spare]);
+            }
         }
     }
     let mut buffer = [0xEE; 100];
-    assert_eq!(write(61, 2, &[b'7'; 26], &mut buffer), Err(Refusal::Length));
-    assert_eq!(write(61, 0, b"", &mut buffer), Err(Refusal::RevisionZero));
+    let written = write(1, ADVISER, 61, 2, &[b'7'; 26], &mut buffer);
+    assert_eq!(written, Err(Refusal::Length));
+    let written = write(1, ADVISER, 61, 0, b"", &mut buffer);
+    assert_eq!(written, Err(Refusal::RevisionZero));
     assert_eq!(buffer, [0xEE; 100]);
 }
 
 #[test]
 fn writing_the_highest_revision() {
-    let mut buffer = [0; 8];
-    assert_eq!(write(109, u32::MAX, b"", &mut buffer), Ok(8));
+    let mut buffer = [0; HEAD_1];
+    let written = write(1, ADVISER, 109, u32::MAX, b"", &mut buffer);
+    assert_eq!(written, Ok(HEAD_1));
     assert_eq!(buffer, [0, 6, 1, 109, 255, 255, 255, 255]);
 }
 
 #[test]
 fn fresh_is_all_zero_whatever_it_held() {
-    let mut bytes = [0xEE; 450];
+    let mut bytes = [0xEE; DRAFT_SIZE];
     assert_eq!(fresh(&mut bytes), Ok(()));
-    assert_eq!(bytes, [0; 450]);
-    for size in [0, 1, 390, 449, 451, 900] {
+    assert_eq!(bytes, [0; DRAFT_SIZE]);
+    // The size without party bytes is one of the others.
+    let partyless = DRAFT_SIZE - FIELDS.len();
+    let near = [DRAFT_SIZE - 1, DRAFT_SIZE + 1, 2 * DRAFT_SIZE];
+    for size in [0, 1, 390, partyless].into_iter().chain(near) {
         let mut bytes = vec![0xEE; size];
         assert_eq!(fresh(&mut bytes), Err(Refusal::Malformed), "size {size}");
         assert_eq!(bytes, vec![0xEE; size]);
@@ -273,22 +298,39 @@ fn fresh_is_all_zero_whatever_it_held() {
 /// Drafts malformed in each way of the paper.
 fn malformed_drafts() -> Vec<Vec<u8>> {
     let good = draft(&[(22, b"")]);
-    let mut drafts: Vec<Vec<u8>> = [0, 1, 30, 420, 449, 451, 480, 900]
-        .map(|size| resized(good.clone(), size))
-        .into();
+    let sizes = [
+        0,
+        1,
+        SLOT_SIZE,
+        DRAFT_SIZE - SLOT_SIZE,
+        DRAFT_SIZE - FIELDS.len(),
+        DRAFT_SIZE - 1,
+        DRAFT_SIZE + 1,
+        DRAFT_SIZE + SLOT_SIZE,
+        2 * DRAFT_SIZE,
+    ];
+    let mut drafts: Vec<Vec<u8>> = sizes.map(|size| resized(good.clone(), size)).into();
     let mut changed = |place: usize, byte: u8| {
         let mut bytes = good.clone();
         bytes[place] = byte;
         drafts.push(bytes);
     };
     for slot in 0..15 {
-        changed(30 * slot + 4, 26);
-        changed(30 * slot + 4, 255);
-        changed(30 * slot + 29, 1);
+        changed(SLOT_SIZE * slot + LENGTH_PLACE, 26);
+        changed(SLOT_SIZE * slot + LENGTH_PLACE, 255);
+        changed(SLOT_SIZE * (slot + 1) - 1, 1);
+        // A party 0 with a revision, and unknown ones.
+        for party in [0, 3, 255] {
+            changed(SLOT_SIZE * slot + PARTY_PLACE, party);
+        }
+        // Revision 0 with a party, blank or not.
+        changed(SLOT_SIZE * slot + PARTY_PLACE - 1, 0);
     }
-    // Revision 0 with a text; slot 3 is blank and may have revision 0.
+    // Revision 0 and no party, but a text; slot 3 is blank.
     for slot in (0..15).filter(|&slot| slot != 3) {
-        changed(30 * slot + 3, 0);
+        let mut bytes = good.clone();
+        bytes[SLOT_SIZE * slot..][..LENGTH_PLACE].fill(0);
+        drafts.push(bytes);
     }
     drafts
 }
@@ -299,7 +341,7 @@ fn malformed_drafts_come_first() {
         let mut posted = bytes.clone();
         assert_eq!(post(&mut posted, b""), Err(Refusal::Malformed));
         assert_eq!(
-            post(&mut posted, &message(14, 9, b"")),
+            post(&mut posted, &message_1(14, 9, b"")),
             Err(Refusal::Malformed)
         );
         assert_eq!(posted, bytes);
@@ -314,7 +356,9 @@ fn malformed_drafts_come_first() {
 fn a_blank_with_any_revision_is_well_formed() {
     for revision in [0, 1, u32::MAX] {
         let mut bytes = draft(&[(22, b"")]);
-        bytes[90..94].copy_from_slice(&revision.to_be_bytes());
+        let party = if revision == 0 { 0 } else { ADVISER };
+        let blank = slot(revision, party, Text::new(b""));
+        bytes[3 * SLOT_SIZE..][..SLOT_SIZE].copy_from_slice(&blank);
         let mut output = [0; 390];
         assert_eq!(copy(&bytes, &mut output), Ok(()));
         assert_eq!(output[..], sheet(&[(22, b"")]));
@@ -323,10 +367,10 @@ fn a_blank_with_any_revision_is_well_formed() {
 
 #[test]
 fn output_sheets_of_another_size() {
-    for size in [0, 1, 26, 364, 389, 391, 416, 450] {
+    for size in [0, 1, 26, 364, 389, 391, 416, DRAFT_SIZE] {
         let mut output = vec![0xEE; size];
         // 7 comes before 8, 9 and 10.
-        for bytes in [draft(&[]), vec![0; 450], draft(&[(15, b"")])] {
+        for bytes in [draft(&[]), vec![0; DRAFT_SIZE], draft(&[(15, b"")])] {
             assert_eq!(copy(&bytes, &mut output), Err(Refusal::Output));
             assert_eq!(complete(&bytes, &mut output), Err(Refusal::Output));
         }
@@ -336,17 +380,15 @@ fn output_sheets_of_another_size() {
 
 #[test]
 fn posting_by_revision() {
-    let mut bytes = vec![0; 450];
+    let mut bytes = vec![0; DRAFT_SIZE];
     let mut send = |revision, text: &[u8]| {
         let before = bytes.clone();
-        let answer = post(&mut bytes, &message(17, revision, text));
+        let answer = post(&mut bytes, &message_1(17, revision, text));
         let changed = bytes != before;
         assert_eq!(changed, answer == Ok(Posted::Newer));
-        (answer, bytes[60..90].to_vec())
+        (answer, bytes[2 * SLOT_SIZE..][..SLOT_SIZE].to_vec())
     };
-    let stored = |revision: u32, text: &[u8]| {
-        [&revision.to_be_bytes()[..], &Text::new(text).slot()].concat()
-    };
+    let stored = |revision, text: &[u8]| slot(revision, ADVISER, Text::new(text)).to_vec();
     assert_eq!(send(5, b"first"), (Ok(Posted::Newer), stored(5, b"first")));
     assert_eq!(send(5, b"first"), (Ok(Posted::Same), stored(5, b"first")));
     assert_eq!(send(5, b"firs"), (Err(Refusal::Clash), stored(5, b"first")));
@@ -379,22 +421,22 @@ fn posting_touches_only_its_slot() {
         let before = draft(&[]);
         let mut after = before.clone();
         assert_eq!(
-            post(&mut after, &message(field, 2, b"new")),
+            post(&mut after, &message_1(field, 2, b"new")),
             Ok(Posted::Newer)
         );
-        for place in 0..450 {
-            if place / 30 != slot {
+        for place in 0..DRAFT_SIZE {
+            if place / SLOT_SIZE != slot {
                 assert_eq!(after[place], before[place]);
             }
         }
-        let expected = [&[0, 0, 0, 2, 3][..], b"new", &[0; 22]].concat();
-        assert_eq!(after[30 * slot..][..30], expected);
+        let expected = [&[0, 0, 0, 2, ADVISER, 3][..], b"new", &[0; 22]].concat();
+        assert_eq!(after[SLOT_SIZE * slot..][..SLOT_SIZE], expected);
     }
 }
 
 #[test]
 fn posting_refuses_unreadable_messages() {
-    let good = message(14, 2, b"1");
+    let good = message_1(14, 2, b"1");
     let changed = |place: usize, byte: u8| {
         let mut bytes = good.clone();
         bytes[place] = byte;
@@ -403,8 +445,10 @@ fn posting_refuses_unreadable_messages() {
     let unreadable = [
         (Vec::new(), Refusal::Length),
         (vec![0], Refusal::Length),
-        (changed(1, 8), Refusal::Length),
-        (changed(2, 2), Refusal::Version),
+        (changed(1, good[1] + 1), Refusal::Length),
+        (changed(2, 0), Refusal::Version),
+        (changed(2, 3), Refusal::Version),
+        (changed(2, 2), Refusal::Party),
         (changed(3, 16), Refusal::UnknownField),
         (changed(7, 0), Refusal::RevisionZero),
     ];
@@ -510,7 +554,7 @@ fn the_program_on_no_input() {
 
 #[test]
 fn the_program_stops_after_a_2() {
-    let good = message(14, 1, b"004525987");
+    let good = message_1(14, 1, b"004525987");
     assert_eq!(report(&[0]), b"1 2\nend 8 14 1\n");
     assert_eq!(report(&[0, 0]), b"1 2\nend 8 14 1\n");
     let short = [&[0, 5, 1, 14, 0, 0, 1][..], &good].concat();
@@ -524,16 +568,16 @@ fn the_program_stops_after_a_2() {
 
 #[test]
 fn the_program_goes_on_after_other_refusals() {
-    let mut version = message(14, 1, b"1");
+    let mut version = message_1(14, 1, b"1");
     version[2] = 0;
     let input = [
         version,
-        message(16, 1, b"1"),
-        message(14, 0, b"1"),
-        message(14, 2, b"044525000"),
-        message(14, 2, b"044525000"),
-        message(14, 2, b""),
-        message(14, 1, b""),
+        message_1(16, 1, b"1"),
+        message_1(14, 0, b"1"),
+        message_1(14, 2, b"044525000"),
+        message_1(14, 2, b"044525000"),
+        message_1(14, 2, b""),
+        message_1(14, 1, b""),
     ]
     .concat();
     let expected = "1 3\n2 4\n3 5\n4 newer\n5 same\n6 6\n7 older\nend 8 17 3\n";
@@ -543,7 +587,7 @@ fn the_program_goes_on_after_other_refusals() {
 #[test]
 fn the_program_reads_32768_bytes() {
     // 4,096 messages of 8 bytes are exactly the limit.
-    let input = message(22, 1, b"").repeat(4097);
+    let input = message_1(22, 1, b"").repeat(4097);
     let expected = |count: usize| {
         let lines = (2..=count).map(|n| format!("{n} same\n"));
         "1 newer\n".to_owned() + &lines.collect::<String>() + "end 8 14 1\n"
@@ -552,8 +596,8 @@ fn the_program_reads_32768_bytes() {
     assert_eq!(report(&input[..32_768]), expected(4096).as_bytes());
     assert_eq!(report(&input), expected(4096).as_bytes());
     // A message across the limit is cut there.
-    let mut across = message(22, 1, b"").repeat(4095);
-    across.extend(message(22, 1, b"123"));
+    let mut across = message_1(22, 1, b"").repeat(4095);
+    across.extend(message_1(22, 1, b"123"));
     let cut = expected(4095).replace("end", "4096 2\nend");
     assert_eq!(report(&across), cut.as_bytes());
 }

@@ -1,8 +1,9 @@
 //! Every example of the paper, starred or not.
 
-use cases::{message, Draft, Texts, BLANKS};
+use cases::{Texts, BLANKS};
 use reference::{copy, post, report, Class, Completed, Posted, Refusal};
 
+use crate::layout::{draft_of, message_1, Draft};
 use crate::support::{broken, check, complete, draft, sheet, texts, Change};
 
 #[test]
@@ -81,7 +82,7 @@ fn leap_days() {
 const BLANK_SET: u16 = 0b0111_1100_0100_1000;
 
 fn with_blanks(changes: &[Change<'_>]) -> Draft {
-    texts(changes).without(&BLANKS).draft(|_| 1)
+    draft_of(&texts(changes).without(&BLANKS), |_| 1)
 }
 
 #[test]
@@ -127,9 +128,15 @@ fn completion_without_filling() {
 fn the_last_arrival_does_not_win() {
     let mut draft = draft(&[]);
     let before = draft.clone();
-    assert_eq!(post(&mut draft, &message(101, 3, b"08")), Ok(Posted::Newer));
+    assert_eq!(
+        post(&mut draft, &message_1(101, 3, b"08")),
+        Ok(Posted::Newer)
+    );
     let after = draft.clone();
-    assert_eq!(post(&mut draft, &message(101, 2, b"05")), Ok(Posted::Older));
+    assert_eq!(
+        post(&mut draft, &message_1(101, 2, b"05")),
+        Ok(Posted::Older)
+    );
     assert_eq!(draft, after);
     assert_ne!(draft, before);
     let mut output = [0; 390];

@@ -2,6 +2,8 @@
 
 mod boundaries;
 mod examples;
+#[path = "../common/layout.rs"]
+mod layout;
 mod properties;
 mod support;
 mod table;

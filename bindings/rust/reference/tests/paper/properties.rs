@@ -1,9 +1,10 @@
 //! Claims of the paper over many pseudorandom inputs, against plain
 //! restatements of its definitions.
 
-use cases::{draft_after, filled_set, fillings, messages, Random, Texts};
-use reference::{copy, post, read, report, Completed, Refusal};
+use cases::{filled_set, fillings, messages, Random, Texts};
+use reference::{copy, post, read, report, Completed, Refusal, DRAFT_SIZE, MESSAGE_MAX};
 
+use crate::layout::{draft_after, draft_of, HEAD_1};
 use crate::support::{check, complete, texts, Change};
 
 /// Sheets near S: each change is made or not.
@@ -70,7 +71,7 @@ fn completion_is_the_first_filling_that_keeps_all_rules() {
     for _ in 0..6000 {
         let given = texts(&random_changes(&mut random));
         let mut output = [0xEE; 390];
-        let answer = complete(&given.draft(|_| 1), &mut output);
+        let answer = complete(&draft_of(&given, |_| 1), &mut output);
         if matches!(answer, Err(Refusal::Broken { .. } | Refusal::Ordinary)) {
             assert_eq!(output, [0xEE; 390]);
             continue;
@@ -107,7 +108,7 @@ fn class_o_and_rules_1_to_3_are_as_in_checking() {
     for _ in 0..6000 {
         let given = texts(&random_changes(&mut random));
         let mut output = [0xEE; 390];
-        let answer = complete(&given.draft(|_| 1), &mut output);
+        let answer = complete(&draft_of(&given, |_| 1), &mut output);
         let verdict = check(&given.without(&[101]).sheet());
         match verdict {
             Err(refusal @ Refusal::Broken { rule: 1..=3, .. }) => {
@@ -119,15 +120,15 @@ fn class_o_and_rules_1_to_3_are_as_in_checking() {
     }
 }
 
-/// "Afterwards a slot holds the highest revision among the readable messages
-/// that name its field, with the text of the first in the list that has this
-/// revision; it is all zero if none names the field."
+/// "Each slot ends with the revision, party and text of the readable message for
+/// its field that is greatest by revision, then party, the first in the list among
+/// equals"; "it is all zero if none names the field."
 #[test]
 fn a_list_of_postings_ends_in_the_draft_of_the_paper() {
     let mut random = Random::new(3);
     for _ in 0..3000 {
         let list = messages(&mut random);
-        let mut draft = [0; 450];
+        let mut draft = [0; DRAFT_SIZE];
         for bytes in &list {
             let before = draft;
             if post(&mut draft, bytes).is_err() {
@@ -137,7 +138,7 @@ fn a_list_of_postings_ends_in_the_draft_of_the_paper() {
         let readable: Vec<_> = list
             .iter()
             .filter_map(|bytes| read(bytes).ok())
-            .map(|message| (message.field, message.revision, message.text))
+            .map(|m| (m.version, m.party, m.field, m.revision, m.text))
             .collect();
         assert_eq!(draft, draft_after(&readable));
     }
@@ -145,9 +146,24 @@ fn a_list_of_postings_ends_in_the_draft_of_the_paper() {
 
 #[test]
 fn nothing_panics_on_noise() {
+    const SIZES: [usize; 13] = [
+        0,
+        1,
+        HEAD_1 - 1,
+        HEAD_1,
+        MESSAGE_MAX - 1,
+        MESSAGE_MAX,
+        389,
+        390,
+        391,
+        DRAFT_SIZE - 1,
+        DRAFT_SIZE,
+        DRAFT_SIZE + 1,
+        600,
+    ];
     let mut random = Random::new(0xDEAD);
     for _ in 0..3000 {
-        let size = random.pick(&[0, 1, 7, 8, 33, 389, 390, 391, 449, 450, 451, 600]);
+        let size = random.pick(&SIZES);
         let mut bytes: Vec<u8> = (0..size).map(|_| random.byte()).collect();
         let mut output = vec![0; random.pick(&[0, 389, 390, 391])];
         let _ = check(&bytes);

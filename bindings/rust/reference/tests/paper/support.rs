@@ -3,6 +3,8 @@
 use cases::Texts;
 use reference::{Class, Completed, Date, Record, Refusal};
 
+use crate::layout::draft_of;
+
 /// The program's order date.
 const ORDER_DATE: Date = Date(20_240_101);
 
@@ -19,9 +21,9 @@ pub fn sheet(changes: &[Change<'_>]) -> Vec<u8> {
     texts(changes).sheet().to_vec()
 }
 
-/// A draft with every slot at revision 1.
+/// A draft with every slot at revision 1, the adviser's.
 pub fn draft(changes: &[Change<'_>]) -> Vec<u8> {
-    texts(changes).draft(|_| 1).to_vec()
+    draft_of(&texts(changes), |_| 1).to_vec()
 }
 
 pub fn broken(field: u8, rule: u8) -> Refusal {

@@ -1,8 +1,10 @@
 //! Orders by their differences from the paper's sheet S, and what is asserted of them.
 
-use cases::{filled_set, Draft, Texts, BASES, BLANKS, FIELDS};
+use cases::{filled_set, Texts, BASES, BLANKS, FIELDS};
 use reference::{check, complete, fresh, post, pretest, write};
-use reference::{Broken, Class, Completed, Date, Record, Refusal};
+use reference::{Broken, Class, Completed, Date, Record, Refusal, DRAFT_SIZE};
+
+use crate::layout::{draft_of, Draft, ADVISER, HEAD_1};
 
 /// The program's order date, at which orders are checked and completed here.
 pub const ORDER_DATE: Date = Date(20_240_101);
@@ -110,12 +112,12 @@ pub trait Order {
 
     /// The draft of these messages, and the one with its blank fields given too.
     fn drafts(&self) -> [Draft; 2] {
-        let mut posted = [0; 450];
+        let mut posted = [0; DRAFT_SIZE];
         fresh(&mut posted).unwrap();
         for message in self.written() {
             post(&mut posted, &message).unwrap();
         }
-        [posted, self.texts().draft(|_| 1)]
+        [posted, draft_of(self.texts(), |_| 1)]
     }
 
     /// The test ahead of completion names this field and rule, or says none.
@@ -160,9 +162,10 @@ impl Order for Texts {
     }
 }
 
-/// A message of revision 1.
+/// A message of version 1 and revision 1.
 fn message(field: u8, text: &[u8]) -> Vec<u8> {
-    let mut message = vec![0; 8 + text.len()];
-    assert_eq!(write(field, 1, text, &mut message), Ok(message.len()));
+    let mut message = vec![0; HEAD_1 + text.len()];
+    let written = write(1, ADVISER, field, 1, text, &mut message);
+    assert_eq!(written, Ok(message.len()));
     message
 }

@@ -3,15 +3,16 @@
 
 use cases::{accepted, blanked, budget, disturb, Random, Texts};
 use reference::{check, complete, quick, report, statuses};
-use reference::{Date, Quick, Record, Refusal};
+use reference::{Date, Quick, Record, Refusal, DRAFT_SIZE};
 
 use crate::fixture::{broken, class_b, class_o, open, s};
 use crate::fixture::{Change, Order, ENFORCEMENT, ORDER_DATE, UIN};
+use crate::layout::draft_of;
 
 /// The quick search, with the answer and the sheet of the search already there.
 #[track_caller]
 fn quick_at(order: &Texts, date: Date, record: Record) -> Quick {
-    let draft = order.draft(|text| u32::from(!text.is_empty()));
+    let draft = draft_of(order, |text| u32::from(!text.is_empty()));
     let (mut slow, mut fast) = ([0xEE; 390], [0xEE; 390]);
     let answer = complete(&draft, &mut slow, date, record);
     let quick = quick(&draft, &mut fast, date, record);
@@ -185,10 +186,10 @@ fn the_list_in_force() {
 /// The refusals of the search, with none skipped and no buffer changed.
 #[test]
 fn refusals() {
-    let draft = |order: Texts| order.draft(|_| 1).to_vec();
+    let draft = |order: Texts| draft_of(&order, |_| 1).to_vec();
     let early = Date(20_230_924);
     for (draft, size, date, refusal) in [
-        (vec![0; 449], 389, early, Refusal::Malformed),
+        (vec![0; DRAFT_SIZE - 1], 389, early, Refusal::Malformed),
         (draft(s(&[(14, "0")])), 389, early, Refusal::Output),
         (draft(s(&[(14, "0")])), 390, early, Refusal::Undated),
         (draft(s(&[(14, "0")])), 390, ORDER_DATE, broken(14, 1)),

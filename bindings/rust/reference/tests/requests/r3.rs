@@ -2,9 +2,10 @@
 //! 5 to 9, 11 to 14, 16, 22 and 28 that all fillings break, or says none."
 
 use cases::{fillings, Texts, FIELDS};
-use reference::{complete, fresh, pretest, Broken, Record, Refusal};
+use reference::{complete, fresh, pretest, Broken, Record, Refusal, DRAFT_SIZE, SLOT_SIZE};
 
 use crate::fixture::{broken, open, s, Change, Order, ENFORCEMENT, ORDER_DATE, UIN};
+use crate::layout::{draft_of, LENGTH_PLACE, PARTY_PLACE};
 
 /// The twelve rules in the order of testing.
 const TWELVE: [u8; 12] = [5, 6, 7, 8, 9, 11, 12, 13, 14, 16, 22, 28];
@@ -85,21 +86,26 @@ fn other_rules_are_never_named_and_hide_nothing() {
 
 #[test]
 fn it_refuses_as_completion_does() {
-    let mut never_given = [7; 450];
+    let mut never_given = [7; DRAFT_SIZE];
     fresh(&mut never_given).unwrap();
-    let draft = |changes: &[Change<'_>]| s(changes).draft(|_| 1);
+    let draft = |changes: &[Change<'_>]| draft_of(&s(changes), |_| 1);
     let with = |place: usize, byte| {
         let mut draft = draft(&[]);
         draft[place] = byte;
         draft
     };
-    let (padded, long, text_without_revision) = (with(29, 1), with(4, 26), with(3, 0));
-    let refused: [(&[u8], Refusal); 11] = [
+    let (padded, long) = (with(SLOT_SIZE - 1, 1), with(LENGTH_PLACE, 26));
+    let (partyless, revisionless) = (with(PARTY_PLACE, 0), with(PARTY_PLACE - 1, 0));
+    let mut text_without_revision = partyless;
+    text_without_revision[PARTY_PLACE - 1] = 0;
+    let refused: [(&[u8], Refusal); 13] = [
         (&[], Refusal::Malformed),
-        (&[0; 449], Refusal::Malformed),
-        (&[0; 451], Refusal::Malformed),
+        (&[0; DRAFT_SIZE - 1], Refusal::Malformed),
+        (&[0; DRAFT_SIZE + 1], Refusal::Malformed),
         (&padded, Refusal::Malformed),
         (&long, Refusal::Malformed),
+        (&partyless, Refusal::Malformed),
+        (&revisionless, Refusal::Malformed),
         (&text_without_revision, Refusal::Malformed),
         (&never_given, broken(14, 1)),
         (&draft(&[(14, "0"), (15, "0"), (17, "0")]), broken(14, 1)),
@@ -119,7 +125,7 @@ fn it_refuses_as_completion_does() {
 
 #[test]
 fn revisions_do_not_matter() {
-    let draft = open(&[(104, "0")]).draft(|_| u32::MAX);
+    let draft = draft_of(&open(&[(104, "0")]), |_| u32::MAX);
     let named = Broken {
         field: 104,
         rule: 28,

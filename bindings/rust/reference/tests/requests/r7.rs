@@ -6,6 +6,7 @@ use reference::{Class, Completed, Date, Record, Refusal};
 
 use crate::fixture::{broken, class_b, class_o, of_status, open, s};
 use crate::fixture::{Change, Order, ENFORCEMENT, UIN};
+use crate::layout::draft_of;
 
 /// The 23 statuses that some date allows.
 fn all_statuses() -> Vec<&'static str> {
@@ -49,7 +50,7 @@ fn complete_at(
     date: u32,
     record: Record,
 ) -> Result<Completed, Refusal> {
-    complete(&order.draft(|_| 1), sheet, Date(date), record)
+    complete(&draft_of(order, |_| 1), sheet, Date(date), record)
 }
 
 /// Some statuses at some dates with the given record.
@@ -498,7 +499,7 @@ fn completion_at_some_dates() {
         assert_eq!(answer, Ok(completed), "{} {date} {record:?}", order.shown());
         assert_eq!(sheet, fillings[index].sheet());
         // What the test ahead names can't be completed at any date.
-        assert_eq!(pretest(&order.draft(|_| 1)), Ok(None));
+        assert_eq!(pretest(&draft_of(&order, |_| 1)), Ok(None));
         counts.1 += 1;
     }
     assert!(counts.0 > 100 && counts.1 > 100, "{counts:?}");

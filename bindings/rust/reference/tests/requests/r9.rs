@@ -3,12 +3,18 @@
 //! the same date and record the draft must then complete to the very same sheet, and
 //! its count must be no larger than before." And `take_up`, which posts such a choice.
 
-use cases::{accepted, blanked, budget_at, damaged_draft, damaged_sheet, disturb_at, filled_set};
-use cases::{fillings_at, fit_dates, message, size_near, slot_of, Dates, Draft, Random, Sheet};
+use cases::{accepted, blanked, budget_at, damaged_sheet, disturb_at, filled_set};
+use cases::{fillings_at, fit_dates, size_near, slot_of, Dates, Random, Sheet};
 use cases::{Text, Texts, FIELDS, FILLABLE, LISTS};
 use reference::{complete, copy, post, take_up, Completed, Date, Posted, Record, Refusal};
+use reference::{DRAFT_SIZE, SLOT_SIZE};
 
 use crate::fixture::{class_b, class_o, open, s, Order};
+use crate::layout::{draft_of, message_1, message_2, slot};
+use crate::layout::{Draft, ADVISER, CLIENT, LENGTH_PLACE, PARTY_PLACE};
+
+/// A draft in which no field was ever given.
+const FRESH: Draft = [0; DRAFT_SIZE];
 
 /// The date and the record of these dates.
 fn at(dates: Dates) -> (Date, Record) {
@@ -49,7 +55,7 @@ fn fields_of(set: u16) -> impl Iterator<Item = u8> {
 
 /// A slot's revision, from the bytes of the draft.
 fn revision_of(draft: &Draft, field: u8) -> u32 {
-    let bytes = &draft[30 * slot_of(field)..][..4];
+    let bytes = &draft[SLOT_SIZE * slot_of(field)..][..PARTY_PLACE];
     u32::from_be_bytes(bytes.try_into().unwrap())
 }
 
@@ -85,13 +91,40 @@ fn some_revision(random: &mut Random, text: Text) -> u32 {
     revision.max(u32::from(!text.is_empty()))
 }
 
-/// The draft with these slots' bytes laid out anew: the text, and this revision.
-fn laid_out(draft: &Draft, messages: &[(u8, u32, &[u8])]) -> Draft {
+/// A draft of these texts with revisions and parties at random.
+fn some_draft(random: &mut Random, order: &Texts) -> Draft {
+    let mut draft = draft_of(order, |text| some_revision(random, text));
+    for slot in draft.chunks_mut(SLOT_SIZE) {
+        if slot[PARTY_PLACE] != 0 && random.percent(50) {
+            slot[PARTY_PLACE] = CLIENT;
+        }
+    }
+    draft
+}
+
+/// The draft with one slot damaged, which may leave it well-formed.
+fn damaged_draft(random: &mut Random, mut draft: Draft) -> Draft {
+    let start = SLOT_SIZE * random.below(FIELDS.len());
+    let slot = &mut draft[start..][..SLOT_SIZE];
+    match random.below(5) {
+        0 => slot[LENGTH_PLACE] = random.byte(),
+        1 => slot[SLOT_SIZE - 1] = random.byte(),
+        2 => slot[PARTY_PLACE] = random.pick(&[0, CLIENT, ADVISER, 3, 255]),
+        3 => slot[..PARTY_PLACE].fill(0),
+        _ => slot[random.below(SLOT_SIZE)] = random.byte(),
+    }
+    draft
+}
+
+/// A party, a field, a revision and a text.
+type Given<'a> = (u8, u8, u32, &'a [u8]);
+
+/// The draft with these slots' bytes laid out anew: the text, this revision and party.
+fn laid_out(draft: &Draft, messages: &[Given<'_>]) -> Draft {
     let mut after = *draft;
-    for (field, revision, text) in messages {
-        let slot = &mut after[30 * slot_of(*field)..][..30];
-        slot[..4].copy_from_slice(&revision.to_be_bytes());
-        slot[4..].copy_from_slice(&Text::new(text).slot());
+    for (party, field, revision, text) in messages {
+        let bytes = slot(*revision, *party, Text::new(text));
+        after[SLOT_SIZE * slot_of(*field)..][..SLOT_SIZE].copy_from_slice(&bytes);
     }
     after
 }
@@ -114,39 +147,44 @@ fn keeps_the_proposal(draft: &Draft, before: (Completed, Sheet), taken: u16, dat
     assert_eq!(after.ones, completed.ones - taken.count_ones());
 }
 
-/// Posts the proposed values of these slots by hand, with revisions at random above
-/// the slots', in any order.
+/// Posts the proposed values of these slots by hand, as either party's, with revisions
+/// at random above the slots', in any order.
 fn post_by_hand(random: &mut Random, draft: &Draft, sheet: &Sheet, taken: u16) -> Draft {
     let above = |random: &mut Random, revision: u32| {
         let room = u32::MAX - revision;
         let more = 1 + random.below(room as usize) as u32;
         revision + random.pick(&[1, room, more])
     };
-    let mut messages: Vec<(u8, u32, &[u8])> = fields_of(taken)
+    let mut messages: Vec<Given<'_>> = fields_of(taken)
         .map(|field| {
             let revision = above(random, revision_of(draft, field));
-            (field, revision, text_of(sheet, field))
+            let party = random.pick(&[CLIENT, ADVISER]);
+            (party, field, revision, text_of(sheet, field))
         })
         .collect();
     random.shuffle(&mut messages);
     let mut posted = *draft;
-    for (field, revision, text) in &messages {
-        let answer = post(&mut posted, &message(*field, *revision, text));
-        assert_eq!(answer, Ok(Posted::Newer));
+    for &(party, field, revision, text) in &messages {
+        let message = match party == ADVISER && random.percent(50) {
+            true => message_1(field, revision, text),
+            false => message_2(party, field, revision, text),
+        };
+        assert_eq!(post(&mut posted, &message), Ok(Posted::Newer));
     }
     assert_eq!(posted, laid_out(draft, &messages));
     posted
 }
 
-/// Takes up these slots, which can be: each gets the revision after its own.
+/// Takes up these slots, which can be: each gets the revision after its own, and is
+/// the adviser's.
 #[track_caller]
 fn taken_up(draft: &Draft, sheet: &Sheet, taken: u16) -> Draft {
     let mut after = *draft;
     assert_eq!(take_up(&mut after, sheet, taken), Ok(()));
-    let messages: Vec<(u8, u32, &[u8])> = fields_of(taken)
+    let messages: Vec<Given<'_>> = fields_of(taken)
         .map(|field| {
             let revision = revision_of(draft, field) + 1;
-            (field, revision, text_of(sheet, field))
+            (ADVISER, field, revision, text_of(sheet, field))
         })
         .collect();
     assert_eq!(after, laid_out(draft, &messages));
@@ -195,7 +233,7 @@ fn the_proposal_stands() {
     for _ in 0..20_000 {
         let dates = some_dates(random);
         let order = some_order(random, dates);
-        let draft = order.draft(|text| some_revision(random, text));
+        let draft = some_draft(random, &order);
         let Ok(before) = completed(&draft, dates) else {
             continue;
         };
@@ -231,7 +269,7 @@ fn the_count_is_the_place_among_those_left() {
     for _ in 0..2000 {
         let dates = some_dates(random);
         let order = some_order(random, dates);
-        let draft = order.draft(|text| u32::from(!text.is_empty()));
+        let draft = draft_of(&order, |text| u32::from(!text.is_empty()));
         let Ok((before, sheet)) = completed(&draft, dates) else {
             continue;
         };
@@ -254,7 +292,8 @@ fn the_count_is_the_place_among_those_left() {
 
 /// The paper's example of count 97: S with 22, 101, 105 to 109 blank, 60 and 102 "0".
 fn unnamed() -> (Draft, Completed, Sheet) {
-    let draft = open(&[(60, "0"), (102, "0")]).draft(|text| u32::from(!text.is_empty()));
+    let order = open(&[(60, "0"), (102, "0")]);
+    let draft = draft_of(&order, |text| u32::from(!text.is_empty()));
     let (before, sheet) = completed(&draft, Dates::PROGRAM).unwrap();
     let filling = s(&[(60, "0"), (102, "0"), (101, "04")]);
     assert_eq!(sheet, filling.sheet());
@@ -280,7 +319,7 @@ fn counts_of_the_example() {
         keeps_the_proposal(&after, (before, sheet), taken, Dates::PROGRAM);
         let mut posted = draft;
         for &field in fields {
-            let message = message(field, 7, text_of(&sheet, field));
+            let message = message_1(field, 7, text_of(&sheet, field));
             assert_eq!(post(&mut posted, &message), Ok(Posted::Newer));
         }
         for draft in [after, posted] {
@@ -341,7 +380,7 @@ fn the_number_and_what_it_returns() {
 #[test]
 fn refusal_1() {
     let (draft, before, sheet) = unnamed();
-    for size in [0, 390, 449, 451] {
+    for size in [0, 390, DRAFT_SIZE - 1, DRAFT_SIZE + 1] {
         for set in [0, before.set, 1 << 15] {
             refuses(&vec![0; size], &sheet, set, Refusal::Malformed);
         }
@@ -352,7 +391,7 @@ fn refusal_1() {
         let lengths = slots(size, size - 26).map(|place| (place, 26));
         lengths.chain(slots(size, size - 1).map(|place| (place, 1)))
     };
-    for (place, byte) in damages(30) {
+    for (place, byte) in damages(SLOT_SIZE) {
         let mut damaged = draft;
         damaged[place] = byte;
         refuses(&damaged, &sheet, 0, Refusal::Malformed);
@@ -365,15 +404,23 @@ fn refusal_1() {
         refuses(&draft, &damaged, before.set, Refusal::Malformed);
     }
     // Revision 0 with a text.
-    let unrevised = s(&[]).draft(|_| 0);
+    let unrevised = draft_of(&s(&[]), |_| 0);
     refuses(&unrevised, &sheet, 0, Refusal::Malformed);
+    // A party that does not fit its revision.
+    for (revision, party) in [(0, CLIENT), (0, ADVISER), (1, 0), (1, 3)] {
+        for field in FIELDS {
+            let damaged = laid_out(&draft, &[(party, field, revision, b"")]);
+            refuses(&damaged, &sheet, 0, Refusal::Malformed);
+            refuses(&damaged, &sheet, before.set, Refusal::Malformed);
+        }
+    }
 }
 
 /// 7: a sheet of another size, though the set be empty.
 #[test]
 fn refusal_7() {
     let (draft, before, sheet) = unnamed();
-    for size in [0, 26, 364, 389, 391, 416, 450] {
+    for size in [0, 26, 364, 389, 391, 416, DRAFT_SIZE] {
         let mut other = sheet.to_vec();
         other.resize(size, 0);
         for set in [0, before.set, 1 << 15] {
@@ -395,26 +442,28 @@ fn refusal_20() {
     for field in [14, 15, 17, 61, 103] {
         let set = set_of(&[field]);
         refuses(&draft, &sheet, set, not_taken(field));
-        refuses(&[0; 450], &sheet, set, not_taken(field));
-        refuses(&[0; 450], &sheet, before.set | set, not_taken(field));
+        refuses(&FRESH, &sheet, set, not_taken(field));
+        refuses(&FRESH, &sheet, before.set | set, not_taken(field));
     }
     for field in FILLABLE {
         let set = set_of(&[field]);
         // It is not blank in the draft, even with the text that is proposed.
         for given in [s(&[]), open(&[(60, "0"), (102, "0"), (field, "7")])] {
-            let draft = given.draft(|_| 1);
+            let draft = draft_of(&given, |_| 1);
             refuses(&draft, &sheet, set, not_taken(field));
             refuses(&draft, &given.sheet(), set, not_taken(field));
         }
         // Nothing is proposed.
         let blank = s(&[]).without(&[field]);
-        refuses(&[0; 450], &blank.sheet(), set, not_taken(field));
-        // The revision is the greatest.
-        let last = laid_out(&[0; 450], &[(field, u32::MAX, b"")]);
-        refuses(&last, &sheet, set, not_taken(field));
-        let last_but_one = laid_out(&[0; 450], &[(field, u32::MAX - 1, b"")]);
-        let after = taken_up(&last_but_one, &sheet, set);
-        assert_eq!(revision_of(&after, field), u32::MAX);
+        refuses(&FRESH, &blank.sheet(), set, not_taken(field));
+        // The revision is the greatest, whichever party gave it.
+        for party in [CLIENT, ADVISER] {
+            let last = laid_out(&FRESH, &[(party, field, u32::MAX, b"")]);
+            refuses(&last, &sheet, set, not_taken(field));
+            let last_but_one = laid_out(&FRESH, &[(party, field, u32::MAX - 1, b"")]);
+            let after = taken_up(&last_but_one, &sheet, set);
+            assert_eq!(revision_of(&after, field), u32::MAX);
+        }
     }
 }
 
@@ -423,8 +472,12 @@ fn refusal_20() {
 #[test]
 fn the_lowest_slot_is_named() {
     let sheet = s(&[]).without(&[106]).sheet();
-    let given: [(u8, u32, &[u8]); 3] = [(60, 1, b"0"), (105, u32::MAX, b""), (108, 1, b"5")];
-    let draft = laid_out(&[0; 450], &given);
+    let given: [Given<'_>; 3] = [
+        (ADVISER, 60, 1, b"0"),
+        (ADVISER, 105, u32::MAX, b""),
+        (CLIENT, 108, 1, b"5"),
+    ];
+    let draft = laid_out(&FRESH, &given);
     let all = [22, 60, 61, 101, 105, 106, 108];
     let bad = [60, 61, 105, 106, 108];
     for (number, field) in bad.into_iter().enumerate() {
@@ -447,8 +500,13 @@ fn the_order_of_refusals() {
     let (draft, _, sheet) = unnamed();
     let malformed_sheet = [0xFF; 390];
     for set in [1 << 15, u16::MAX] {
-        refuses(&[0; 449], &sheet[..389], set, Refusal::Malformed);
-        refuses(&[0; 449], &malformed_sheet, set, Refusal::Malformed);
+        refuses(&[0; DRAFT_SIZE - 1], &sheet[..389], set, Refusal::Malformed);
+        refuses(
+            &[0; DRAFT_SIZE - 1],
+            &malformed_sheet,
+            set,
+            Refusal::Malformed,
+        );
         refuses(&draft, &malformed_sheet, set, Refusal::Malformed);
         refuses(&draft, &[0xFF; 389], set, Refusal::Output);
     }
@@ -469,13 +527,13 @@ fn taking_up_twice() {
 fn the_empty_set() {
     let sheets = [s(&[]), class_o(), Texts::BLANK, open(&[])];
     for order in [s(&[]), open(&[]), class_b(), class_o(), Texts::BLANK] {
-        for draft in [order.draft(|_| 1), order.draft(|_| u32::MAX)] {
+        for draft in [draft_of(&order, |_| 1), draft_of(&order, |_| u32::MAX)] {
             for sheet in sheets {
                 assert_eq!(taken_up(&draft, &sheet.sheet(), 0), draft);
             }
         }
     }
-    assert_eq!(taken_up(&[0; 450], &[0; 390], 0), [0; 450]);
+    assert_eq!(taken_up(&FRESH, &[0; 390], 0), FRESH);
 }
 
 /// The sheet need not be one that completion made, nor the draft one that completes;
@@ -493,9 +551,9 @@ fn any_sheet() {
         let alone = Texts::BLANK.with(field, &sheet.get(field));
         let longest = alone.with(field, &[0xFF; 25]);
         for draft in [
-            [0; 450],
-            class_o().without(&[field]).draft(|_| 3),
-            open(&[(14, "0"), (field, "")]).draft(|_| 3),
+            FRESH,
+            draft_of(&class_o().without(&[field]), |_| 3),
+            draft_of(&open(&[(14, "0"), (field, "")]), |_| 3),
         ] {
             let after = taken_up(&draft, &sheet.sheet(), set);
             assert_eq!(taken_up(&draft, &alone.sheet(), set), after);
@@ -528,7 +586,7 @@ fn some_drafts_sheets_and_sets() {
             proposed = blanked(proposed, random.below(1024));
         }
         disturb_at(random, &mut proposed, dates);
-        let draft = order.draft(|text| some_revision(random, text));
+        let draft = some_draft(random, &order);
         let open = below_the_greatest(&draft, filled_set(&order));
         let more = random.number() as u16 & random.number() as u16;
         let set = random.pick(&[open, open, open & more, open | more, more]);
@@ -559,7 +617,7 @@ fn some_damaged_drafts_and_sheets() {
     let mut times = [0; 21];
     for _ in 0..20_000 {
         let order = blanked(accepted(random), random.below(1024));
-        let mut draft = order.draft(|text| some_revision(random, text));
+        let mut draft = some_draft(random, &order);
         if random.percent(30) {
             draft = damaged_draft(random, draft);
         }
@@ -576,7 +634,7 @@ fn some_damaged_drafts_and_sheets() {
         // A draft of the sheet's slots, each with a revision.
         let revised: Vec<u8> = sheet
             .chunks(26)
-            .flat_map(|slot| [&[0, 0, 0, 1], slot].concat())
+            .flat_map(|slot| [&[0, 0, 0, 1, ADVISER], slot].concat())
             .collect();
         let refusal = match sheet.len() {
             _ if !well_formed(&draft) => Some(Refusal::Malformed),
