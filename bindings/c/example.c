@@ -1,8 +1,9 @@
 /* A small order: its messages are written, posted in the order of their arrival,
- * tested and completed, and the sheet is printed; then a correction dated back, also
- * completed quickly; a proposal of which parts are taken up; the sheet's MT103 lines, read
- * back; the bank's charge for a few amounts, parts of a year, a year's amount shared among
- * its months, the pooled lines of a register, and which payments leave first.
+ * tested and completed, and the sheet is printed; then a client writes into it, too; a
+ * correction dated back, also completed quickly; a proposal of which parts are taken up; the
+ * sheet's MT103 lines, read back; the bank's charge for a few amounts, parts of a year, a
+ * year's amount shared among its months, the pooled lines of a register, and which payments
+ * leave first.
  * The program checks its own results and returns 1 if one is not as expected. */
 
 #include <inttypes.h>
@@ -29,7 +30,7 @@ _Static_assert(sizeof(kieselbrot_leave_answer) == 32, "the answers' layout");
 _Static_assert(KIESELBROT_SHEET_SIZE == KIESELBROT_FIELDS * KIESELBROT_SHEET_SLOT_SIZE, "a sheet");
 _Static_assert(KIESELBROT_DRAFT_SIZE == KIESELBROT_FIELDS * KIESELBROT_DRAFT_SLOT_SIZE, "a draft");
 _Static_assert(KIESELBROT_POOL_SIZE == KIESELBROT_LINES_MAX * KIESELBROT_LINE_SIZE, "the output");
-_Static_assert(KIESELBROT_MESSAGE_MAX == KIESELBROT_MESSAGE_HEAD_SIZE + KIESELBROT_TEXT_MAX,
+_Static_assert(KIESELBROT_MESSAGE_MAX == KIESELBROT_MESSAGE_HEAD_SIZE_2 + KIESELBROT_TEXT_MAX,
                "a message");
 
 static const uint8_t fields[KIESELBROT_FIELDS] = {14,  15,  17,  22,  60,  61,  101, 102,
@@ -123,26 +124,35 @@ static void expect(int kept, const char *what)
     }
 }
 
-/* Writes a message, reads it back and posts it. */
-static kieselbrot_post_answer send_message(uint8_t *draft, const struct arrival *arrival)
+/* Writes a message of this version and party, reads it back and posts it. */
+static kieselbrot_post_answer send_as(uint8_t version, uint8_t party, uint8_t *draft,
+                                      const struct arrival *arrival)
 {
     uint8_t message[KIESELBROT_MESSAGE_MAX];
     const size_t length = strlen(arrival->text);
+    const size_t head_size =
+        version == 1 ? KIESELBROT_MESSAGE_HEAD_SIZE_1 : KIESELBROT_MESSAGE_HEAD_SIZE_2;
     const kieselbrot_write_answer written =
-        kieselbrot_write(arrival->field, arrival->revision, (const uint8_t *)arrival->text, length,
-                         message, sizeof message);
-    expect(written.number == KIESELBROT_OK &&
-               written.length == KIESELBROT_MESSAGE_HEAD_SIZE + length,
-           "writing");
+        kieselbrot_write(version, party, arrival->field, arrival->revision,
+                         (const uint8_t *)arrival->text, length, message, sizeof message);
+    expect(written.number == KIESELBROT_OK && written.length == head_size + length, "writing");
 
     const kieselbrot_read_answer read = kieselbrot_read(message, written.length);
     expect(read.number == KIESELBROT_OK, "reading");
+    expect(read.version == version && read.party == party, "whose message was read");
+    expect(read.text == head_size, "the head that was read");
     expect(read.field == arrival->field && read.revision == arrival->revision, "what was read");
     expect(read.length == length && read.text + read.length == written.length,
            "where the text is");
     expect(memcmp(message + read.text, arrival->text, read.length) == 0, "the text that was read");
 
     return kieselbrot_post(draft, KIESELBROT_DRAFT_SIZE, message, written.length);
+}
+
+/* The adviser's message, in version 1. */
+static kieselbrot_post_answer send_message(uint8_t *draft, const struct arrival *arrival)
+{
+    return send_as(1, KIESELBROT_ADVISER, draft, arrival);
 }
 
 static void print_sheet(const uint8_t *sheet)
@@ -221,6 +231,89 @@ static void refuse(uint8_t *draft)
     const kieselbrot_pretest_answer untested = kieselbrot_pretest(draft, KIESELBROT_DRAFT_SIZE - 1);
     expect(untested.number == KIESELBROT_MALFORMED && untested.field == 0 && untested.rule == 0,
            "a short draft");
+}
+
+/* A document number of the client's, and what the adviser's is to it. */
+static const struct {
+    uint8_t version, party;
+    struct arrival arrival;
+} document[] = {
+    {2, KIESELBROT_CLIENT, {108, 1, "17", 'n'}},
+    {2, KIESELBROT_CLIENT, {108, 1, "17", 's'}},
+    {1, KIESELBROT_ADVISER, {108, 1, "18", 'n'}},
+    {2, KIESELBROT_ADVISER, {108, 1, "18", 's'}},
+    {2, KIESELBROT_CLIENT, {108, 1, "17", 'o'}},
+    {2, KIESELBROT_CLIENT, {108, 2, "19", 'n'}},
+    {1, KIESELBROT_ADVISER, {108, 1, "18", 'o'}},
+};
+
+/* Messages that are refused: what is written, and the same where it is read. */
+static void refuse_parties(uint8_t *draft)
+{
+    const uint8_t text[] = "17";
+    uint8_t message[KIESELBROT_MESSAGE_MAX], before[KIESELBROT_DRAFT_SIZE];
+    memcpy(before, draft, sizeof before);
+
+    expect(kieselbrot_write(1, KIESELBROT_CLIENT, 108, 1, text, 2, message, sizeof message)
+                   .number == KIESELBROT_UNKNOWN_PARTY,
+           "the client in version 1");
+    expect(kieselbrot_write(2, 3, 108, 1, text, 2, message, sizeof message).number ==
+               KIESELBROT_UNKNOWN_PARTY,
+           "an unknown party");
+    expect(kieselbrot_write(3, KIESELBROT_CLIENT, 108, 1, text, 2, message, sizeof message)
+                   .number == KIESELBROT_VERSION,
+           "an unknown version");
+
+    const kieselbrot_write_answer written =
+        kieselbrot_write(2, KIESELBROT_CLIENT, 108, 9, text, 2, message, sizeof message);
+    message[3] = 3;
+    const kieselbrot_read_answer unread = kieselbrot_read(message, written.length);
+    expect(unread.number == KIESELBROT_UNKNOWN_PARTY && unread.version == 0 && unread.party == 0,
+           "an unknown party to read");
+    expect(kieselbrot_post(draft, KIESELBROT_DRAFT_SIZE, message, written.length).number ==
+               KIESELBROT_UNKNOWN_PARTY,
+           "an unknown party to post");
+    /* version 2 does not allow an L of 6 */
+    const uint8_t too_short[] = {0, 6, 2, KIESELBROT_CLIENT, 108, 0, 0, 1};
+    expect(kieselbrot_read(too_short, sizeof too_short).number == KIESELBROT_LENGTH,
+           "a length that the version does not allow");
+    const struct arrival clash = {108, 2, "20", 0};
+    expect(send_as(2, KIESELBROT_CLIENT, draft, &clash).number == KIESELBROT_CLASH,
+           "a clash of the client's own");
+    expect(memcmp(before, draft, sizeof before) == 0, "the draft after refused messages");
+
+    /* a revision without a party */
+    before[13 * KIESELBROT_DRAFT_SLOT_SIZE + 4] = 0;
+    expect(kieselbrot_pretest(before, sizeof before).number == KIESELBROT_MALFORMED,
+           "a slot without a party");
+}
+
+/* The client writes into the same order, on a draft of its own. */
+static void write_as_client(const uint8_t *draft)
+{
+    uint8_t both[KIESELBROT_DRAFT_SIZE], sheet[KIESELBROT_SHEET_SIZE];
+    memcpy(both, draft, sizeof both);
+    for (size_t i = 0; i < sizeof document / sizeof document[0]; i++) {
+        const struct arrival *arrival = &document[i].arrival;
+        const kieselbrot_post_answer posted =
+            send_as(document[i].version, document[i].party, both, arrival);
+        printf("party %d, field %d, revision %lu: %c\n", document[i].party, arrival->field,
+               (unsigned long)arrival->revision, posted.standing);
+        expect(posted.number == KIESELBROT_OK && posted.standing == arrival->standing,
+               "posting for a party");
+    }
+    /* field 108 has slot 13: revision 2 of the client's, of two bytes */
+    static const uint8_t held[] = {0, 0, 0, 2, KIESELBROT_CLIENT, 2, '1', '9', 0};
+    expect(memcmp(both + 13 * KIESELBROT_DRAFT_SLOT_SIZE, held, sizeof held) == 0,
+           "what the client wrote");
+    refuse_parties(both);
+
+    const kieselbrot_complete_answer completed =
+        kieselbrot_complete(both, sizeof both, sheet, sizeof sheet, date, given);
+    expect(completed.number == KIESELBROT_OK && completed.set == 0x5C48,
+           "completing with the client's document");
+    expect(memcmp(sheet + 13 * KIESELBROT_SHEET_SLOT_SIZE, "\002" "19", 3) == 0,
+           "the client's document in the sheet");
 }
 
 /* What is hopeless before any filling is tried, on a draft of its own. */
@@ -648,6 +741,7 @@ int main(void)
     const kieselbrot_check_answer checked = kieselbrot_check(sheet, sizeof sheet, date, given);
     printf("class %c\n", checked.class_);
     expect(checked.number == KIESELBROT_OK && checked.class_ == 'A', "the completed sheet");
+    write_as_client(draft);
     date_back(draft);
     take_up(draft);
     write_lines(sheet);

@@ -17,19 +17,30 @@
  *
  * Layouts, numbers big-endian (the highest byte first):
  *
- *   message       0  2 bytes   L, how many bytes follow these two, 6 to 31
+ *   message of version 1, which counts as the adviser's:
+ *                 0  2 bytes   L, how many bytes follow these two, 6 to 31
  *                 2  1 byte    the version, 1
  *                 3  1 byte    the field
  *                 4  4 bytes   the revision, not 0
  *                 8  L - 6     the text
  *
+ *   message of version 2:
+ *                 0  2 bytes   L, how many bytes follow these two, 7 to 32
+ *                 2  1 byte    the version, 2
+ *                 3  1 byte    the party, 1 client or 2 adviser
+ *                 4  1 byte    the field
+ *                 5  4 bytes   the revision, not 0
+ *                 9  L - 7     the text
+ *
  *   sheet         slot i at 26 * i:
  *                 0  1 byte    the text's length
  *                 1  25 bytes  the text, and zero bytes behind it
  *
- *   draft         slot i at 30 * i:
+ *   draft         slot i at 31 * i:
  *                 0  4 bytes   the revision, 0 = never given
- *                 4  26 bytes  as in a sheet
+ *                 4  1 byte    the party that gave it, 1 client or 2 adviser; 0
+ *                              exactly if the revision is 0
+ *                 5  26 bytes  as in a sheet
  *
  *   register      line i at 20 * i:
  *                 0  12 bytes  the INN, 12 digits
@@ -44,7 +55,7 @@
  *
  * A sheet or draft is malformed if it has another size, a length above 25 or a
  * byte behind a text that is not zero; a draft also if a slot has revision 0 and
- * a text.
+ * a text or a party, or a revision and no known party.
  */
 #ifndef KIESELBROT_H
 #define KIESELBROT_H
@@ -68,12 +79,18 @@ extern "C" {
 #define KIESELBROT_SHEET_SLOT_SIZE 26
 
 /* The size of a draft, and of a slot in it. */
-#define KIESELBROT_DRAFT_SIZE 450
-#define KIESELBROT_DRAFT_SLOT_SIZE 30
+#define KIESELBROT_DRAFT_SIZE 465
+#define KIESELBROT_DRAFT_SLOT_SIZE 31
 
-/* The size of what stands before a message's text, and of the longest message. */
-#define KIESELBROT_MESSAGE_HEAD_SIZE 8
-#define KIESELBROT_MESSAGE_MAX 33
+/* The size of what stands before the text of a message of version 1 and of one of
+ * version 2, and the size of the longest message. */
+#define KIESELBROT_MESSAGE_HEAD_SIZE_1 8
+#define KIESELBROT_MESSAGE_HEAD_SIZE_2 9
+#define KIESELBROT_MESSAGE_MAX 34
+
+/* The parties that write messages. */
+#define KIESELBROT_CLIENT 1
+#define KIESELBROT_ADVISER 2
 
 /* The size of the longest block of MT103 lines, that with a code of 25 digits. */
 #define KIESELBROT_LINES_BLOCK_MAX 137
@@ -113,16 +130,17 @@ extern "C" {
 #define KIESELBROT_BALANCE_MAX UINT64_C(1000000000000000)
 
 /* The numbers of the answers, in the order in which they are tested; 12 comes just
- * before 8, and for write_lines 7 comes last. */
+ * before 8, 13 just before 4, a part of 2 after 3, and for write_lines 7 comes last. */
 enum {
     KIESELBROT_OK = 0,
-    KIESELBROT_MALFORMED = 1,     /* draft or sheet malformed; for fresh, size not 450 */
+    KIESELBROT_MALFORMED = 1,     /* draft or sheet malformed; for fresh, size not 465 */
     KIESELBROT_LENGTH = 2,        /* a message under 2 bytes, its length not the rest or outside
-                                     6 to 31; for write, text over 25 */
-    KIESELBROT_VERSION = 3,       /* version not 1 */
+                                     6 to 32; after 3, a length that its version does not allow;
+                                     for write, text over 25 */
+    KIESELBROT_VERSION = 3,       /* version not 1 or 2 */
     KIESELBROT_UNKNOWN_FIELD = 4, /* field not listed */
     KIESELBROT_REVISION_ZERO = 5, /* revision 0 */
-    KIESELBROT_CLASH = 6,         /* equal revision, other text */
+    KIESELBROT_CLASH = 6,         /* equal revision of the same party, other text */
     KIESELBROT_OUTPUT = 7,        /* a sheet not of 390, a message buffer too short; for pool, an
                                      output under 10,000; for write_lines, a buffer shorter than
                                      the lines */
@@ -135,6 +153,7 @@ enum {
     KIESELBROT_UNDATED = 12,      /* for check, completion and write_lines, an order date or an
                                      entry of the record that is no Gregorian date of the years
                                      1900 to 2099, or an order date before 20230925 */
+    KIESELBROT_UNKNOWN_PARTY = 13, /* party not 1 or 2; for write, also the client in version 1 */
     KIESELBROT_TARIFF = 14,       /* for charge, an argument out of range or a least above the
                                      greatest */
     KIESELBROT_YEAR_PART = 15,    /* for part and shares, an amount out of range or a year not of
@@ -171,7 +190,9 @@ typedef struct {
 /* The answer of reading a message. The text is `length` bytes of the message,
  * from place `text` on up to its end. */
 typedef struct {
-    uint8_t number;    /* 0, or 2 to 5 */
+    uint8_t number;    /* 0, 2, 3, 13, 4 or 5 */
+    uint8_t version;   /* the version, 1 or 2 */
+    uint8_t party;     /* the party, 1 or 2; 2 in version 1 */
     uint8_t field;     /* the field's number */
     uint32_t revision; /* the revision, not 0 */
     size_t text;       /* the place in the message, from 0, where the text begins */
@@ -180,13 +201,13 @@ typedef struct {
 
 /* The answer of writing a message. */
 typedef struct {
-    uint8_t number;  /* 0, 2, 4, 5 or 7 */
+    uint8_t number;  /* 0, 2, 3, 13, 4, 5 or 7 */
     size_t length;   /* how many bytes were written at the buffer's start */
 } kieselbrot_write_answer;
 
 /* The answer of posting a message. */
 typedef struct {
-    uint8_t number;   /* 0, or 1 to 6 */
+    uint8_t number;   /* 0, 1, 2, 3, 13, 4, 5 or 6 */
     uint8_t standing; /* 'n' newer, and stored; 's' same; 'o' older */
 } kieselbrot_post_answer;
 
@@ -269,24 +290,29 @@ typedef struct {
 kieselbrot_check_answer kieselbrot_check(const uint8_t *sheet, size_t sheet_len, uint32_t date,
                                          kieselbrot_record record);
 
-/* Reads a message. */
+/* Reads a message of either version. Refused in this order: 2, 3, 2 for a length that its
+ * version does not allow, 13, 4, 5. */
 kieselbrot_read_answer kieselbrot_read(const uint8_t *message, size_t message_len);
 
-/* Writes a message at the start of a buffer and leaves the rest. */
-kieselbrot_write_answer kieselbrot_write(uint8_t field, uint32_t revision, const uint8_t *text,
-                                         size_t text_len, uint8_t *buffer, size_t buffer_len);
+/* Writes a message of this version and party at the start of a buffer and leaves the rest.
+ * Version 1 is the adviser's alone. Refused in this order: 2, 3, 13, 4, 5, 7. */
+kieselbrot_write_answer kieselbrot_write(uint8_t version, uint8_t party, uint8_t field,
+                                         uint32_t revision, const uint8_t *text, size_t text_len,
+                                         uint8_t *buffer, size_t buffer_len);
 
 /* Makes a draft fresh, whatever it held: all zero. Returns the number. */
 uint8_t kieselbrot_fresh(uint8_t *draft, size_t draft_len);
 
-/* Posts a message to a draft: a higher revision of its field is stored; the same
- * message again and a lower revision change nothing. An empty text with a higher
- * revision blanks the field. */
+/* Posts a message to a draft: a higher revision of its field is stored, with its party;
+ * the same revision, party and text again, and a lower revision, change nothing. At equal
+ * revisions the adviser's stands over the client's, whichever came first: it is newer, and
+ * the client's older. An empty text with a higher revision blanks the field. Refused in
+ * this order: 1 for the draft, the refusals of reading, 6. */
 kieselbrot_post_answer kieselbrot_post(uint8_t *draft, size_t draft_len, const uint8_t *message,
                                        size_t message_len);
 
-/* Copies a draft's texts to a sheet, whatever that held, without the revisions.
- * Returns the number. */
+/* Copies a draft's texts to a sheet, whatever that held, without the revisions and
+ * parties. Returns the number. */
 uint8_t kieselbrot_copy(const uint8_t *draft, size_t draft_len, uint8_t *sheet, size_t sheet_len);
 
 /* Tests a draft ahead of completion. Where it names a rule, completing the draft
@@ -318,8 +344,9 @@ static inline kieselbrot_quick_answer kieselbrot_quick(const uint8_t *draft, siz
 }
 
 /* Takes up part of a proposal: for each slot of the set, bit i for slot i, posts the text
- * that the sheet has there to the draft, with the revision after its slot's. The sheet need
- * not be one that completion wrote; its texts outside the set are not taken.
+ * that the sheet has there to the draft as the adviser's, with the revision after its slot's,
+ * whichever party gave that. The sheet need not be one that completion wrote; its texts
+ * outside the set are not taken.
  *
  * Refused in this order: 1 for a malformed draft, or a malformed sheet of 390 bytes; 7 for a
  * sheet of another size; 20 with the field of the lowest slot of the set that can't take up its value: the

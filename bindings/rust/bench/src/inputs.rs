@@ -2,6 +2,7 @@
 
 use cases::{blanked, budget, damaged_draft, disturb, lines_of, message, with_forms};
 use cases::{charge_in_range, parting_in_range, queue_of, register_of, sharing_of};
+use cases::{message_2, PARTIES};
 use cases::{Account, Basis, Code, Date, Document, Draft, Forms, Payer, Random, Sheet, Texts};
 use cases::{Charge, Parting, Pooling, Sharing};
 use cases::{BLANKS, FIELDS};
@@ -80,6 +81,20 @@ pub fn messages(random: &mut Random) -> Vec<Vec<Vec<u8>>> {
         let mut list = FIELDS.map(|field| message(field, 1, &texts.get(field)));
         random.shuffle(&mut list);
         list.to_vec()
+    })
+}
+
+/// Messages of version 2, one of each party for every field, with equal revisions and other
+/// texts, shuffled.
+pub fn messages_of_both(random: &mut Random) -> Vec<Vec<Vec<u8>>> {
+    many(random, |random| {
+        let mut list = Vec::new();
+        for party in PARTIES {
+            let texts = budget(random);
+            list.extend(FIELDS.map(|field| message_2(party, field, 1, &texts.get(field))));
+        }
+        random.shuffle(&mut list);
+        list
     })
 }
 
@@ -442,6 +457,27 @@ mod tests {
                 }
             }
         }
+    }
+
+    #[test]
+    fn messages_of_both_parties_are_posted() {
+        let (mut newer, mut older) = (0, 0);
+        for list in messages_of_both(&mut random()) {
+            assert_eq!(list.len(), 30);
+            let mut draft = [0; cases::DRAFT_SIZE];
+            for message in list {
+                match reference::post(&mut draft, &message) {
+                    Ok(reference::Posted::Newer) => newer += 1,
+                    Ok(reference::Posted::Older) => older += 1,
+                    other => panic!("{other:?}"),
+                }
+            }
+            // The adviser's stand.
+            let slots = draft.chunks_exact(cases::DRAFT_SLOT_SIZE);
+            let mut parties = slots.map(|slot| slot[cases::PARTY_PLACE]);
+            assert!(parties.all(|party| party == cases::ADVISER));
+        }
+        assert!(newer > older && older > 0);
     }
 
     #[test]

@@ -22,7 +22,7 @@ use std::io::{self, ErrorKind};
 use std::path::Path;
 use std::process::{Command, ExitCode};
 
-use cases::{Charge, Draft, Parting, Pooling, Sharing, Sheet, POOL_SIZE};
+use cases::{Charge, Draft, Parting, Pooling, Sharing, Sheet, DRAFT_SIZE, POOL_SIZE};
 use dates::{Dated, ANOTHER, GIVEN};
 use inputs::{Drafts, Proposal, Waiting};
 use measure::{Goal, Row, NO_SLOWER};
@@ -52,7 +52,10 @@ fn measure_all() -> Report {
         ("check, mixed sheets", inputs::mixed(&mut random)),
     ];
     let mut rows = checks(&sheets, GIVEN);
-    rows.push(post(inputs::messages(&mut random)));
+    rows.push(post(
+        "post, 15 messages to a fresh draft",
+        inputs::messages(&mut random),
+    ));
     let drafts = inputs::drafts(&mut random);
     rows.push(pretest(&drafts.full_or_hopeless));
     rows.extend(completions(&drafts, GIVEN));
@@ -62,6 +65,10 @@ fn measure_all() -> Report {
     let book = inputs::book(&mut random);
     let half_hopeless = inputs::half_hopeless_book(&mut other);
     rows.extend(book::rows(&book, &half_hopeless));
+    rows.push(post(
+        "post, 30 messages of version 2 of both parties to a fresh draft",
+        inputs::messages_of_both(&mut inputs::random()),
+    ));
     rows.push(take_up(inputs::proposals(&mut inputs::random())));
     rows.push(write_lines(inputs::with_lines(&mut inputs::random())));
     rows.push(read_lines(inputs::lines(&mut inputs::random())));
@@ -167,20 +174,20 @@ fn check(name: &str, goal: f64, sheets: &[Sheet], dated: Dated) -> Row {
     )
 }
 
-fn post(lists: Vec<Vec<Vec<u8>>>) -> Row {
+fn post(name: &str, lists: Vec<Vec<Vec<u8>>>) -> Row {
     Row::measure(
-        "post, 15 messages to a fresh draft",
+        name,
         Goal::OfSecond(0.7),
         &lists,
         |list| {
-            let mut draft = [0xEE; 450];
+            let mut draft = [0xEE; DRAFT_SIZE];
             let fresh = kieselbrot::fresh(&mut draft);
             let post = |message: &&Vec<u8>| kieselbrot::post(&mut draft, message).is_ok();
             let stored = list.iter().filter(post).count();
             (fresh, stored, draft)
         },
         |list| {
-            let mut draft = [0xEE; 450];
+            let mut draft = [0xEE; DRAFT_SIZE];
             let fresh = reference::fresh(&mut draft);
             let post = |message: &&Vec<u8>| reference::post(&mut draft, message).is_ok();
             let stored = list.iter().filter(post).count();

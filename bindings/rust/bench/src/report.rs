@@ -112,6 +112,8 @@ A completion skips statuses whole: at count 97 one, at count 433 nine. The rows 
 with \"quick\" have the same function of the library's, beside the second implementation's
 quick search. Taking up has a copy of the draft for each call, on both sides. MT103 lines
 have codes of each length; they are written into one buffer and read into one sheet.
+The messages of both parties are two for each field, the client's and the adviser's, with
+equal revisions and other texts, in any order.
 
 Checks and completions are at the date 20240101 with the given record, and in the rows
 with another record at 20240115 with 20231002, 20240102 and 20231230, on the same

@@ -1,7 +1,10 @@
 //! Sheets, drafts and messages with something wrong in their bytes.
 
+use crate::parties::{
+    DRAFT_SIZE, DRAFT_SLOT_SIZE, HEAD_SIZE_1, HEAD_SIZE_2, LENGTH_PLACE, PARTY_PLACE,
+};
 use crate::random::Random;
-use crate::texts::{Draft, Sheet};
+use crate::texts::{Draft, Sheet, FIELDS};
 
 /// A size that is right, or near it, or another one that matters.
 pub fn size_near(random: &mut Random, right: usize) -> usize {
@@ -11,7 +14,7 @@ pub fn size_near(random: &mut Random, right: usize) -> usize {
         2 => random.below(2 * right),
         3 => right - right / 15,
         4 => right + right / 15,
-        5 => random.pick(&[390, 450]),
+        5 => random.pick(&[390, DRAFT_SIZE]),
         6 | 7 => right + 1,
         8 | 9 => right - 1,
         _ => right + random.below(5) - 2,
@@ -24,15 +27,25 @@ pub fn damaged_sheet(random: &mut Random, mut sheet: Sheet) -> Sheet {
     sheet
 }
 
-/// A draft with a wrong revision, length, pad byte or other byte somewhere.
+/// A draft with a wrong revision, party, length, pad byte or other byte somewhere.
 pub fn damaged_draft(random: &mut Random, mut draft: Draft) -> Draft {
-    if random.percent(30) {
-        let slot = random.below(15);
-        draft[30 * slot..][..4].fill(0);
-    } else {
-        damage_slot(random, &mut draft, 30);
+    let slot = DRAFT_SLOT_SIZE * random.below(FIELDS.len());
+    match random.below(10) {
+        0 => draft[slot..][..PARTY_PLACE].fill(0),
+        1 => draft[slot..][..LENGTH_PLACE].fill(0),
+        2..6 => damage_party(random, &mut draft[slot..][..DRAFT_SLOT_SIZE]),
+        _ => damage_slot(random, &mut draft, DRAFT_SLOT_SIZE),
     }
     draft
+}
+
+/// Puts any party into a slot, with what it held or without.
+fn damage_party(random: &mut Random, slot: &mut [u8]) {
+    if random.percent(40) {
+        slot.fill(0);
+    }
+    let any = random.byte();
+    slot[PARTY_PLACE] = random.pick(&[0, 1, 2, any, any, any, any]);
 }
 
 fn damage_slot(random: &mut Random, bytes: &mut [u8], slot_size: usize) {
@@ -56,18 +69,24 @@ fn damage_pad(random: &mut Random, slot: &mut [u8]) {
     }
 }
 
-/// A message with a wrong length, version, field, revision or size.
+/// A message with a wrong length, version, party, field, revision or size.
 pub fn damaged_message(random: &mut Random, mut message: Vec<u8>) -> Vec<u8> {
-    match random.below(8) {
+    let head_size = match message.get(2) {
+        Some(2) => HEAD_SIZE_2,
+        _ => HEAD_SIZE_1,
+    };
+    match random.below(9) {
         0 => message.truncate(random.below(message.len() + 1)),
         1 => message.push(random.byte()),
-        2 => replace(&mut message, 1, random.pick(&[0, 5, 6, 7, 31, 32, 255])),
+        2 => replace(&mut message, 1, random.pick(&[0, 5, 6, 7, 31, 32, 33, 255])),
         3 => replace(&mut message, 0, random.pick(&[1, 255])),
-        4 => replace(&mut message, 2, random.pick(&[0, 2, 255])),
+        4 => replace(&mut message, 2, random.pick(&[0, 1, 2, 3, 255])),
+        // The party or the field, then the field or a byte of the revision.
         5 => replace(&mut message, 3, random.byte()),
-        6 => message
+        6 => replace(&mut message, 4, random.byte()),
+        7 => message
             .iter_mut()
-            .skip(4)
+            .skip(head_size - 4)
             .take(4)
             .for_each(|byte| *byte = 0),
         _ => {

@@ -3,11 +3,12 @@
 use crate::damage::damaged_message;
 use crate::dates::Dates;
 use crate::orders::{accepted_at, blanked, budget_at};
+use crate::parties::message_of_any;
 use crate::random::Random;
-use crate::texts::{message, Draft, Text, FIELDS};
+use crate::texts::FIELDS;
 
-/// An order's messages with others among them, in any order: corrections, repeated
-/// and clashing ones, unreadable ones.
+/// An order's messages of both parties with others among them, in any order: corrections,
+/// repeated and clashing ones, unreadable ones.
 pub fn messages(random: &mut Random) -> Vec<Vec<u8>> {
     messages_at(random, Dates::PROGRAM)
 }
@@ -19,11 +20,12 @@ pub fn messages_at(random: &mut Random, dates: Dates) -> Vec<Vec<u8>> {
     } else {
         accepted_at(random, dates)
     };
-    let mut list: Vec<Vec<u8>> = FIELDS
-        .into_iter()
-        .filter(|_| random.percent(95))
-        .map(|field| message(field, 2, &texts.get(field)))
-        .collect();
+    let mut list: Vec<Vec<u8>> = Vec::new();
+    for field in FIELDS {
+        if random.percent(95) {
+            list.push(message_of_any(random, field, 2, &texts.get(field)));
+        }
+    }
     for _ in 0..random.below(12) {
         list.push(another(random, &list));
     }
@@ -40,24 +42,6 @@ fn another(random: &mut Random, list: &[Vec<u8>]) -> Vec<u8> {
     match (random.below(5), known) {
         (0, Some(known)) => known,
         (1, Some(known)) => damaged_message(random, known),
-        _ => message(field, revision, text),
+        _ => message_of_any(random, field, revision, text),
     }
-}
-
-/// The draft after a list of postings, as document 01 says it, from the readable
-/// messages of the list (field, revision, text): a slot holds the highest revision
-/// among those that name its field, with the text of the first that has it.
-#[must_use]
-pub fn draft_after(readable: &[(u8, u32, &[u8])]) -> Draft {
-    let mut draft = [0; 450];
-    for (slot, field) in draft.chunks_exact_mut(30).zip(FIELDS) {
-        let named = readable.iter().filter(|message| message.0 == field);
-        let highest = named.clone().map(|message| message.1).max();
-        let held = named.clone().find(|message| Some(message.1) == highest);
-        if let Some((_, revision, text)) = held {
-            slot[..4].copy_from_slice(&revision.to_be_bytes());
-            slot[4..].copy_from_slice(&Text::new(text).slot());
-        }
-    }
-    draft
 }

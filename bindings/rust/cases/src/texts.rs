@@ -2,6 +2,8 @@
 
 use std::ops::Deref;
 
+use crate::parties::{advised, draft_slot, DRAFT_SIZE, DRAFT_SLOT_SIZE};
+
 /// The numbers of the fields in the order of their slots.
 pub const FIELDS: [u8; 15] = [
     14, 15, 17, 22, 60, 61, 101, 102, 103, 104, 105, 106, 107, 108, 109,
@@ -17,7 +19,7 @@ pub const BLANKS: [u8; 7] = [22, 101, 105, 106, 107, 108, 109];
 pub type Sheet = [u8; 390];
 
 /// The bytes of a draft.
-pub type Draft = [u8; 450];
+pub type Draft = [u8; DRAFT_SIZE];
 
 /// The slot of a listed field.
 ///
@@ -174,13 +176,13 @@ impl Texts {
         sheet
     }
 
-    /// A draft of these texts with a revision for each.
+    /// A draft of these texts with a revision for each, given by the adviser.
     #[must_use]
     pub fn draft(&self, mut revision: impl FnMut(Text) -> u32) -> Draft {
-        let mut draft = [0; 450];
-        for (slot, text) in draft.chunks_exact_mut(30).zip(&self.0) {
-            slot[..4].copy_from_slice(&revision(*text).to_be_bytes());
-            slot[4..].copy_from_slice(&text.slot());
+        let mut draft = [0; DRAFT_SIZE];
+        for (slot, text) in draft.chunks_exact_mut(DRAFT_SLOT_SIZE).zip(&self.0) {
+            let revision = revision(*text);
+            slot.copy_from_slice(&draft_slot(revision, advised(revision), text));
         }
         draft
     }
@@ -195,7 +197,7 @@ impl Texts {
     }
 }
 
-/// A message's bytes; any field, revision and length of text.
+/// The bytes of a message of version 1; any field, revision and length of text.
 #[must_use]
 pub fn message(field: u8, revision: u32, text: &[u8]) -> Vec<u8> {
     let mut bytes = Vec::with_capacity(8 + text.len());

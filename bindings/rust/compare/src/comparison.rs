@@ -4,7 +4,7 @@ use std::fmt::{self, Debug, Write as _};
 use std::hint::black_box;
 
 use cases::{Charge, Dates, Parting, Pooling, Queue, Sharing, FIELDS};
-use cases::{PAYMENT_PLACES, SHARE_PLACES};
+use cases::{DRAFT_SLOT_SIZE, PAYMENT_PLACES, SHARE_PLACES};
 use kieselbrot::{Class, Completed, Message, Posted, Quickened, Refusal};
 
 use crate::library::{Library, Reference};
@@ -63,7 +63,7 @@ fn shown_sheet(sheet: &[u8]) -> String {
 }
 
 fn shown_draft(draft: &[u8]) -> String {
-    shown(draft, 30)
+    shown(draft, DRAFT_SLOT_SIZE)
 }
 
 /// A buffer to lend, amid bytes that nobody may touch.
@@ -174,29 +174,21 @@ impl<'a, L: Library> Comparison<'a, L> {
             answer.map(|message| message.text.as_ptr_range())
         };
         same("read", part(answer), part(expected), input)?;
-        self.reached.answer("read", answer);
+        self.reached.read(message, answer);
         Ok(answer)
     }
 
     /// Writes a message into a buffer, which is given back.
     pub fn write(
         &mut self,
-        field: u8,
-        revision: u32,
-        text: &[u8],
+        message: &Message<'_>,
         before: Lent,
     ) -> Outcome<(Result<usize, Refusal>, Lent)> {
-        let input = || {
-            let size = before.size;
-            format!(
-                "field {field}, revision {revision}, text {}, buffer of {size}",
-                hex(text)
-            )
-        };
+        let input = || format!("{message:?}, buffer of {}", before.size);
         let (answer, buffer) = self.lend("write", &before, input, |library, buffer| {
-            library.write(field, revision, text, buffer)
+            library.write(message, buffer)
         })?;
-        self.reached.answer("write", answer);
+        self.reached.write(message, before.size, answer);
         Ok((answer, buffer))
     }
 
@@ -222,8 +214,8 @@ impl<'a, L: Library> Comparison<'a, L> {
         let (answer, after) = self.lend("post", draft, input, |library, draft| {
             library.post(draft, message)
         })?;
+        self.reached.post(draft.bytes(), message, answer);
         *draft = after;
-        self.reached.post(answer);
         Ok(answer)
     }
 
@@ -233,7 +225,7 @@ impl<'a, L: Library> Comparison<'a, L> {
         let (answer, sheet) = self.lend("copy", &before, input, |library, sheet| {
             library.copy(draft, sheet)
         })?;
-        self.reached.answer("copy", answer);
+        self.reached.copy(draft, answer);
         Ok(sheet)
     }
 

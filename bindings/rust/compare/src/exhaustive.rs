@@ -6,6 +6,7 @@ use cases::{inn_of, Inn, Line, Pooling, LINES_MAX, LINE_SIZE, ORDER_MAX, POOL_SI
 use cases::{slot_of, Dates, ALL_STATUSES, BLANKS, FIELDS, FILLABLE, LISTS, ORDER_DATE_MIN};
 use cases::{Charge, Parting, Payment, Queue, Sharing};
 use cases::{BALANCE_MAX, KOPECKS_MAX, PAYMENT_PLACES, RATE_MAX, SHARE_PLACES, YEARS};
+use cases::{DRAFT_SIZE, DRAFT_SLOT_SIZE, LENGTH_PLACE, PARTIES};
 use kieselbrot::{Class, Refusal};
 
 use crate::blocks;
@@ -196,7 +197,7 @@ pub fn sizes<L: Library>(comparison: &mut Comparison<'_, L>) -> Outcome {
     let draft = Texts::s().draft(first_revision);
     let message = message(101, 2, b"08");
     let lines = lines_of(&Texts::s());
-    for size in 0..=900 {
+    for size in 0..=2 * DRAFT_SIZE {
         let sized = |bytes: &[u8]| {
             let mut bytes = bytes.to_vec();
             bytes.resize(size, 0);
@@ -245,15 +246,15 @@ pub fn places<L: Library>(comparison: &mut Comparison<'_, L>) -> Outcome {
             let mut draft = Lent::new(&texts.draft(first_revision));
             let _ = comparison.take_up(&mut draft, &sheet, 1 << (place / 26))?;
         }
-        for place in 0..450 {
+        for place in 0..DRAFT_SIZE {
             let draft = changed(&texts.draft(first_revision), place, byte);
             for dates in TAKEN_AND_REFUSED {
                 let _ = comparison.complete(&draft, Lent::filled(390, 0xEE), dates)?;
             }
             comparison.copy(&draft, Lent::filled(390, 0xEE))?;
-            let set = 1 << (place / 30);
+            let set = 1 << (place / DRAFT_SLOT_SIZE);
             let _ = comparison.take_up(&mut Lent::new(&draft), &Texts::s().sheet(), set)?;
-            let message = message(FIELDS[place / 30], 1, b"08");
+            let message = message(FIELDS[place / DRAFT_SLOT_SIZE], 1, b"08");
             let _ = comparison.post(&mut Lent::new(&draft), &message)?;
         }
     }
@@ -413,43 +414,17 @@ fn every_reason<L: Library>(comparison: &mut Comparison<'_, L>) -> Outcome {
                 _ => texts,
             };
             let mut draft = blank(Texts::BLANK.with(field, b"0"), 1).draft(first_revision);
-            draft[30 * slot_of(field)..][..4].copy_from_slice(&revision.to_be_bytes());
+            // Either party, or none where the revision is 0.
+            let party = match revision {
+                0 => 0,
+                _ => PARTIES[place / 4 % 2],
+            };
+            let stamp = [&revision.to_be_bytes()[..], &[party]].concat();
+            draft[DRAFT_SLOT_SIZE * slot_of(field)..][..LENGTH_PLACE].copy_from_slice(&stamp);
             let sheet = blank(Texts::s(), 2).sheet();
             for other in 0..16 {
                 let set = 1 << slot_of(field) | 1 << other;
                 let _ = comparison.take_up(&mut Lent::new(&draft), &sheet, set)?;
-            }
-        }
-    }
-    Ok(())
-}
-
-/// Every byte of a message's head, and every length of text: read, posted, and
-/// written into every size of buffer.
-pub fn messages<L: Library>(comparison: &mut Comparison<'_, L>) -> Outcome {
-    let draft = Texts::s().draft(first_revision);
-    for byte in 0..=u8::MAX {
-        for place in 0..8 {
-            let mut message = message(101, 1, b"01");
-            message[place] = byte;
-            let _ = comparison.read(&message)?;
-            let _ = comparison.post(&mut Lent::new(&draft), &message)?;
-        }
-        let before = Lent::filled(40, 0xEE);
-        let _ = comparison.write(byte, 1, b"01", before)?;
-    }
-    for length in 0..=40 {
-        let text = &[b'7'; 40][..length];
-        for revision in [0, 1, 2, u32::MAX - 1, u32::MAX] {
-            let message = message(109, revision, text);
-            let _ = comparison.read(&message)?;
-            for stored in [1, 2, u32::MAX] {
-                let mut draft = Lent::new(&Texts::s().draft(|_| stored));
-                let _ = comparison.post(&mut draft, &message)?;
-            }
-            for size in 0..=50 {
-                let before = Lent::filled(size, 0xEE);
-                let _ = comparison.write(109, revision, text, before)?;
             }
         }
     }

@@ -1,11 +1,14 @@
 //! Generated cases, one after another.
 
-use cases::{accepted_at, blanked, budget_at, disturb_at, message, size_near};
+use cases::{accepted_at, blanked, budget_at, disturb_at, size_near};
 use cases::{charge, parting, pool_size, pooling, queue, sharing};
 use cases::{class_a, damaged_block, lines_of};
 use cases::{damaged_draft, damaged_message, damaged_sheet, Draft, Pooling};
 use cases::{day_after, day_before, fit_dates, refused_dates, Dates};
+use cases::{message_of_any, message_of_wrong_parts, of_both_parties};
 use cases::{Random, Text, Texts, ALL_STATUSES, FIELDS};
+use cases::{DRAFT_SIZE, DRAFT_SLOT_SIZE, HEAD_SIZE_2, LENGTH_PLACE};
+use kieselbrot::{Message, Party, Version};
 
 use crate::comparison::{same, Comparison, Difference, Lent};
 use crate::library::Library;
@@ -161,11 +164,12 @@ fn any_text(random: &mut Random) -> Text {
 fn any_message(random: &mut Random) -> Vec<u8> {
     let field = any_field(random);
     let revision = any_revision(random);
-    let whole = message(field, revision, &any_text(random));
-    if random.percent(30) {
-        damaged_message(random, whole)
-    } else {
-        whole
+    let text = any_text(random);
+    let whole = message_of_any(random, field, revision, &text);
+    match random.below(10) {
+        0..3 => damaged_message(random, whole),
+        3 | 4 => message_of_wrong_parts(random),
+        _ => whole,
     }
 }
 
@@ -176,45 +180,59 @@ fn read<L: Library>(comparison: &mut Comparison<'_, L>, random: &mut Random) -> 
     };
     // What reads is what the writer makes.
     let before = Lent::filled(bytes.len(), 0);
-    let (_, written) = comparison.write(read.field, read.revision, read.text, before)?;
+    let (_, written) = comparison.write(&read, before)?;
     let input = || "what was read".to_owned();
     same("write", written.bytes(), &bytes[..], input)
 }
 
+/// A version and a party, mostly such as go together.
+fn any_version(random: &mut Random) -> (Version, Party) {
+    let any = random.byte();
+    let version = random.pick(&[1, 1, 1, 2, 2, 2, 2, 2, 0, 3, any]);
+    let party = random.pick(&[1, 1, 1, 2, 2, 2, 2, 2, 0, 3, any]);
+    (Version(version), Party(party))
+}
+
 fn write<L: Library>(comparison: &mut Comparison<'_, L>, random: &mut Random) -> Outcome {
-    let field = any_field(random);
-    let revision = any_revision(random);
+    let (version, party) = any_version(random);
     let text = any_text(random);
-    let size = size_near(random, 8 + text.len());
+    let message = Message {
+        version,
+        party,
+        field: any_field(random),
+        revision: any_revision(random),
+        text: &text,
+    };
+    let size = size_near(random, HEAD_SIZE_2 + text.len());
     let before = Lent::filled(size, 0xEE);
-    let (answer, buffer) = comparison.write(field, revision, &text, before)?;
+    let (answer, buffer) = comparison.write(&message, before)?;
     let Ok(length) = answer else {
         return Ok(());
     };
     // What was written reads back.
     let read = comparison.read(&buffer.bytes()[..length])?;
-    let back = read.map(|message| (message.field, message.revision, message.text));
     let input = || "what was written".to_owned();
-    same("read", back, Ok((field, revision, &text[..])), input)
+    same("read", read, Ok(message), input)
 }
 
 fn fresh<L: Library>(comparison: &mut Comparison<'_, L>, random: &mut Random) -> Outcome {
-    let size = size_near(random, 450);
+    let size = size_near(random, DRAFT_SIZE);
     comparison
         .fresh(Lent::filled(size, random.byte()))
         .map(drop)
 }
 
-/// Revisions for a draft: a blank may have 0.
+/// Revisions and parties for a draft: a blank may have revision 0.
 fn draft(random: &mut Random, texts: &Texts) -> Draft {
-    texts.draft(|text| {
+    let draft = texts.draft(|text| {
         let revision = any_revision(random);
         if text.is_empty() {
             revision
         } else {
             revision.max(1)
         }
-    })
+    });
+    of_both_parties(random, draft)
 }
 
 /// A draft, mostly well-formed, and mostly of the right size.
@@ -227,22 +245,24 @@ fn any_draft(random: &mut Random, texts: &Texts) -> Lent {
     }
 }
 
-/// A message for this draft: about the slot's own revision and text.
+/// A message for this draft, of either party: about the slot's own revision and text.
 fn message_for(random: &mut Random, draft: &[u8]) -> Vec<u8> {
-    let slot = random.below(15);
-    let Some(bytes) = draft.get(30 * slot..30 * (slot + 1)) else {
+    let slot = random.below(FIELDS.len());
+    let place = DRAFT_SLOT_SIZE * slot;
+    let Some(bytes) = draft.get(place..place + DRAFT_SLOT_SIZE) else {
         return any_message(random);
     };
     let stored = u32::from_be_bytes([bytes[0], bytes[1], bytes[2], bytes[3]]);
     let step = random.pick(&[0, 0, 0, 1, u32::MAX]);
-    let mut text = Text::new(&bytes[5..][..usize::from(bytes[4].min(25))]);
+    let held = &bytes[LENGTH_PLACE..];
+    let mut text = Text::new(&held[1..][..usize::from(held[0].min(25))]);
     match random.below(6) {
         0 => text.push(0),
         1 => text.pop(),
         2 => text = any_text(random),
         _ => {}
     }
-    message(FIELDS[slot], stored.wrapping_add(step), &text)
+    message_of_any(random, FIELDS[slot], stored.wrapping_add(step), &text)
 }
 
 fn post<L: Library>(comparison: &mut Comparison<'_, L>, random: &mut Random) -> Outcome {
@@ -285,7 +305,8 @@ fn complete_by_list<L: Library>(
 ) -> Outcome {
     let (texts, dates) = open_order(random);
     let draft = draft(random, &texts);
-    if draft.chunks_exact(30).any(|slot| slot[4] > 25) {
+    let mut slots = draft.chunks_exact(DRAFT_SLOT_SIZE);
+    if slots.any(|slot| slot[LENGTH_PLACE] > 25) {
         let before = Lent::filled(390, 0);
         return comparison.complete(&draft, before, dates).map(drop);
     }

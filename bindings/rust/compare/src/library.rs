@@ -2,6 +2,7 @@
 
 use cases::{Dates, Queue};
 use kieselbrot::{Broken, Class, Completed, Message, Paid, Part, Posted, Quickened, Refusal};
+use kieselbrot::{Party, Version};
 use kieselbrot::{PAYMENT_PLACES, SHARE_PLACES};
 
 /// The seven functions of document 01, the test ahead of completion, completing quickly,
@@ -12,14 +13,8 @@ pub trait Library: Sync {
     fn check(&self, sheet: &[u8], dates: Dates) -> Result<Class, Refusal>;
     /// Reads a message.
     fn read<'a>(&self, message: &'a [u8]) -> Result<Message<'a>, Refusal>;
-    /// Writes a message.
-    fn write(
-        &self,
-        field: u8,
-        revision: u32,
-        text: &[u8],
-        buffer: &mut [u8],
-    ) -> Result<usize, Refusal>;
+    /// Writes a message; its version, party, field, revision and text may be any.
+    fn write(&self, message: &Message<'_>, buffer: &mut [u8]) -> Result<usize, Refusal>;
     /// Makes a draft fresh.
     fn fresh(&self, draft: &mut [u8]) -> Result<(), Refusal>;
     /// Posts a message.
@@ -69,14 +64,15 @@ impl Library for Linked {
         kieselbrot::read(message)
     }
 
-    fn write(
-        &self,
-        field: u8,
-        revision: u32,
-        text: &[u8],
-        buffer: &mut [u8],
-    ) -> Result<usize, Refusal> {
-        kieselbrot::write(field, revision, text, buffer)
+    fn write(&self, message: &Message<'_>, buffer: &mut [u8]) -> Result<usize, Refusal> {
+        let Message {
+            version,
+            party,
+            field,
+            revision,
+            text,
+        } = *message;
+        kieselbrot::write(version, party, field, revision, text, buffer)
     }
 
     fn fresh(&self, draft: &mut [u8]) -> Result<(), Refusal> {
@@ -163,25 +159,30 @@ impl Library for Reference {
 
     fn read<'a>(&self, message: &'a [u8]) -> Result<Message<'a>, Refusal> {
         let reference::Message {
+            version,
+            party,
             field,
             revision,
             text,
         } = reference::read(message).map_err(refusal)?;
         Ok(Message {
+            version: Version(version),
+            party: Party(party),
             field,
             revision,
             text,
         })
     }
 
-    fn write(
-        &self,
-        field: u8,
-        revision: u32,
-        text: &[u8],
-        buffer: &mut [u8],
-    ) -> Result<usize, Refusal> {
-        reference::write(field, revision, text, buffer).map_err(refusal)
+    fn write(&self, message: &Message<'_>, buffer: &mut [u8]) -> Result<usize, Refusal> {
+        let Message {
+            version: Version(version),
+            party: Party(party),
+            field,
+            revision,
+            text,
+        } = *message;
+        reference::write(version, party, field, revision, text, buffer).map_err(refusal)
     }
 
     fn fresh(&self, draft: &mut [u8]) -> Result<(), Refusal> {
@@ -360,6 +361,7 @@ const fn refusal(refusal: reference::Refusal) -> Refusal {
         },
         reference::Refusal::NoLines => Refusal::NoLines,
         reference::Refusal::Undated => Refusal::Undated,
+        reference::Refusal::Party => Refusal::UnknownParty,
         reference::Refusal::Tariff => Refusal::Tariff,
         reference::Refusal::YearPart => Refusal::YearPart,
         reference::Refusal::Register => Refusal::Register,

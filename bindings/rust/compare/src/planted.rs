@@ -2,6 +2,7 @@
 
 use cases::{day_after, day_before, is_day, Dates, ORDER_DATE_MIN};
 use cases::{inn_remainder, slot_of, snils_remainder, Text, Texts, FIELDS};
+use cases::{set_slot, slot_mut, ADVISER, DRAFT_SIZE, DRAFT_SLOT_SIZE, LENGTH_PLACE};
 use cases::{Line, Payment, Pooling, Queue};
 use cases::{KOPECKS_MAX, LINE_SIZE, POOL_SIZE, RATE_MAX, YEARS};
 use kieselbrot::{Broken, Class, Completed, Message, Paid, Part, Posted, Quickened, Refusal};
@@ -10,6 +11,7 @@ use kieselbrot::{PAYMENT_PLACES, SHARE_PLACES};
 mod lines;
 
 use crate::library::{Library, Reference};
+use crate::planted_parties::{as_the_clients, revision_zero};
 use crate::pretest::{is_blank, VARYING};
 use crate::quick::tried;
 use crate::taken::{revision_in, slots, text_in};
@@ -45,6 +47,42 @@ pub enum Planted {
     LastArrival,
     /// An equal revision with another text is stored.
     ClashStored,
+    /// At equal revisions the client's stands over the adviser's.
+    ClientWins,
+    /// At equal revisions of both parties the first to arrive stands.
+    FirstArrival,
+    /// At equal revisions of both parties the last to arrive stands.
+    LaterParty,
+    /// An equal revision of the other party with another text is a clash.
+    PartylessClash,
+    /// An equal revision of the other party with the same text is the same.
+    PartylessSame,
+    /// The adviser's stands over any revision of the client's.
+    PartyBeforeRevision,
+    /// What is stored gets the adviser's party.
+    StoredAsAdviser,
+    /// A revision without a party is let through in a draft.
+    NoParty,
+    /// A party without a revision is let through in a draft.
+    PartyOfNothing,
+    /// Party 3 is read as the adviser.
+    Party3,
+    /// Version 2 with L 6 is read, its revision without the last byte.
+    Version2L6,
+    /// Version 1 is read as the client's.
+    Version1AsClient,
+    /// 13 is tested after 4.
+    PartyAfterField,
+    /// With an L that not both versions allow, an unknown version is refused with 2.
+    EarlySecond2,
+    /// An L that the version does not allow is tested after 13, 4 and 5.
+    LateSecond2,
+    /// The client is written in version 1.
+    ClientInVersion1,
+    /// Writing tests 13 before 3.
+    PartyBeforeVersion,
+    /// Values are taken up as the client's.
+    TakenUpAsClient,
     /// 5 is tested before 4.
     RevisionFirst,
     /// An empty text stands at the message's start.
@@ -244,7 +282,7 @@ pub enum Planted {
 }
 
 /// All of them.
-pub const PLANTS: [Planted; 112] = [
+pub const PLANTS: [Planted; 130] = [
     Planted::Century,
     Planted::Status01,
     Planted::Without03252,
@@ -259,6 +297,24 @@ pub const PLANTS: [Planted; 112] = [
     Planted::Leaves100,
     Planted::LastArrival,
     Planted::ClashStored,
+    Planted::ClientWins,
+    Planted::FirstArrival,
+    Planted::LaterParty,
+    Planted::PartylessClash,
+    Planted::PartylessSame,
+    Planted::PartyBeforeRevision,
+    Planted::StoredAsAdviser,
+    Planted::NoParty,
+    Planted::PartyOfNothing,
+    Planted::Party3,
+    Planted::Version2L6,
+    Planted::Version1AsClient,
+    Planted::PartyAfterField,
+    Planted::EarlySecond2,
+    Planted::LateSecond2,
+    Planted::ClientInVersion1,
+    Planted::PartyBeforeVersion,
+    Planted::TakenUpAsClient,
     Planted::RevisionFirst,
     Planted::EmptyText,
     Planted::RestCleared,
@@ -445,16 +501,18 @@ fn last_named(draft: &[u8]) -> Result<Option<Broken>, Refusal> {
 /// Changes the field of a broken rule so that the rule is kept. A "0" keeps rule 6,
 /// and breaks what a blank breaks besides.
 fn mend(draft: &mut [u8], broken: Broken) {
-    let slot = &mut draft[30 * slot_of(broken.field)..][..30];
     let text: &[u8] = match broken.rule {
-        5 => return slot[10..13].copy_from_slice(b"643"),
+        5 => {
+            // Digits 6 to 8.
+            let slot = slot_mut(draft, broken.field);
+            return slot[LENGTH_PLACE + 6..][..3].copy_from_slice(b"643");
+        }
         7 | 13 | 22 | 28 => b"18201061201010000510",
         9 => b"6730054024",
         12 => b"772801001",
         _ => b"0",
     };
-    slot[..4].copy_from_slice(&[1; 4]);
-    slot[4..].copy_from_slice(&Text::new(text).slot());
+    set_slot(draft, broken.field, 1, ADVISER, text);
 }
 
 /// Whether all fillings break rule 27: 60 and 102 are alike in them, and a blank 101
@@ -525,9 +583,7 @@ impl Planted {
 fn last_skipped(draft: &[u8], dates: Dates) -> usize {
     let mut given = draft.to_vec();
     if let (true, Some(last)) = (is_blank(draft, 101), dates.statuses().last()) {
-        let slot = &mut given[30 * slot_of(101)..][..30];
-        slot[..4].copy_from_slice(&[1; 4]);
-        slot[4..].copy_from_slice(&Text::new(last.as_bytes()).slot());
+        set_slot(&mut given, 101, 1, ADVISER, last.as_bytes());
     }
     Reference.quick(&given, &mut [0; 390], dates).skipped
 }
@@ -535,7 +591,7 @@ fn last_skipped(draft: &[u8], dates: Dates) -> usize {
 impl Planted {
     /// The set that a changed taking up sees in place of this one.
     fn seen_set(self, draft: &[u8], set: u16) -> u16 {
-        let of_size = draft.len() == 450;
+        let of_size = draft.len() == DRAFT_SIZE;
         let without = |slots: &mut dyn Iterator<Item = usize>| {
             slots.fold(set, |set, slot| set & !(1 << slot))
         };
@@ -597,7 +653,7 @@ impl Planted {
             }
             Self::Overwritten | Self::ListlessTaken if slot < FIELDS.len() => {
                 let listless = cases::list(field).is_empty();
-                let given = draft[30 * slot + 4] > 0;
+                let given = draft[DRAFT_SLOT_SIZE * slot + LENGTH_PLACE] > 0;
                 let revision = revision_in(draft, slot);
                 let text = text_in(sheet, slot);
                 let taken = match self {
@@ -758,9 +814,9 @@ impl Library for Planted {
     }
 
     fn read<'a>(&self, message: &'a [u8]) -> Result<Message<'a>, Refusal> {
-        match Reference.read(message) {
+        match self.changed_reading(message, Reference.read(message)) {
             Err(Refusal::UnknownField)
-                if *self == Self::RevisionFirst && message.get(4..8) == Some(&[0; 4]) =>
+                if *self == Self::RevisionFirst && revision_zero(message) =>
             {
                 Err(Refusal::RevisionZero)
             }
@@ -772,14 +828,8 @@ impl Library for Planted {
         }
     }
 
-    fn write(
-        &self,
-        field: u8,
-        revision: u32,
-        text: &[u8],
-        buffer: &mut [u8],
-    ) -> Result<usize, Refusal> {
-        let length = Reference.write(field, revision, text, buffer)?;
+    fn write(&self, message: &Message<'_>, buffer: &mut [u8]) -> Result<usize, Refusal> {
+        let length = self.changed_writing(message, buffer)?;
         if *self == Self::RestCleared {
             buffer[length..].fill(0);
         }
@@ -791,15 +841,15 @@ impl Library for Planted {
     }
 
     fn post(&self, draft: &mut [u8], message: &[u8]) -> Result<Posted, Refusal> {
-        let answer = Reference.post(draft, message);
+        let answer = self.changed_posting(draft, message);
         let stored = match answer {
             Ok(Posted::Older) => *self == Self::LastArrival,
             Err(Refusal::Clash) => *self == Self::ClashStored,
             _ => false,
         };
         if stored {
-            let slot = 30 * slot_of(message[3]);
-            draft[slot..slot + 30].fill(0);
+            let field = Reference.read(message)?.field;
+            slot_mut(draft, field).fill(0);
             return Reference.post(draft, message);
         }
         answer
@@ -809,7 +859,7 @@ impl Library for Planted {
         if *self == Self::OutputFirst && sheet.len() != 390 {
             return Err(Refusal::Output);
         }
-        Reference.copy(draft, sheet)
+        Reference.copy(&self.seen_draft(draft), sheet)
     }
 
     fn pretest(&self, draft: &[u8]) -> Result<Option<Broken>, Refusal> {
@@ -899,9 +949,13 @@ impl Library for Planted {
             (Self::FirstRevision, Ok(())) => {
                 let had = |slot: &usize| revision_in(&before, *slot) > 0;
                 for slot in slots(set).filter(had) {
-                    let slot = 30 * slot..30 * (slot + 1);
+                    let slot = DRAFT_SLOT_SIZE * slot..DRAFT_SLOT_SIZE * (slot + 1);
                     draft[slot.clone()].copy_from_slice(&before[slot]);
                 }
+                answer
+            }
+            (Self::TakenUpAsClient, Ok(())) => {
+                as_the_clients(draft, set);
                 answer
             }
             (_, Err(Refusal::NotTakenUp { field })) => {
@@ -912,11 +966,11 @@ impl Library for Planted {
     }
 
     fn write_lines(&self, sheet: &[u8], dates: Dates, buffer: &mut [u8]) -> Result<usize, Refusal> {
-        self.changed_writing(sheet, dates, buffer)
+        self.changed_line_writing(sheet, dates, buffer)
     }
 
     fn read_lines(&self, block: &[u8], sheet: &mut [u8]) -> Result<(), Refusal> {
-        self.changed_reading(block, sheet)
+        self.changed_line_reading(block, sheet)
     }
 
     fn charge(&self, amount: u64, rate: u64, least: u64, greatest: u64) -> Result<u64, Refusal> {

@@ -1,6 +1,6 @@
 //! What must hold between the test ahead of completion and other answers.
 
-use cases::{list_at, slot_of, Dates, Texts};
+use cases::{list_at, slot_of, Dates, Texts, DRAFT_SLOT_SIZE, LENGTH_PLACE};
 use kieselbrot::{Broken, Completed, Refusal};
 
 use crate::comparison::{hex, same, Difference};
@@ -37,7 +37,7 @@ pub const VARYING: [u8; 4] = [101, 106, 108, 109];
 
 /// Whether a field of a well-formed draft is blank.
 pub fn is_blank(draft: &[u8], field: u8) -> bool {
-    draft[30 * slot_of(field) + 4] == 0
+    draft[DRAFT_SLOT_SIZE * slot_of(field) + LENGTH_PLACE] == 0
 }
 
 /// The count of all fillings of a well-formed draft.

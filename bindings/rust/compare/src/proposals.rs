@@ -1,6 +1,6 @@
 //! Proposals, and what becomes of them when a part is taken up.
 
-use cases::{message, Dates, Random, FIELDS};
+use cases::{message, message_of_any, Dates, Random, FIELDS};
 use kieselbrot::{Completed, Refusal};
 
 use crate::comparison::{hex, same, Comparison, Difference, Lent};
@@ -63,28 +63,29 @@ impl Proposal {
         if answer.is_err() {
             return Ok(());
         }
-        let one_after = |slot| (slot, revision_in(self.draft.bytes(), slot) + 1);
-        let values: Vec<(usize, u32)> = slots(set).map(one_after).collect();
+        let one_after = |slot| {
+            let revision = revision_in(self.draft.bytes(), slot) + 1;
+            message(FIELDS[slot], revision, text_in(self.sheet(), slot))
+        };
+        let values: Vec<Vec<u8>> = slots(set).map(one_after).collect();
         let posted = self.post(comparison, &values)?;
         let input = || self.shown(set);
         same("take_up", taken.bytes(), posted.bytes(), input)?;
         self.complete_again(comparison, &taken, set, Way::TakenUp)
     }
 
-    /// Posts the values of a part by hand, each with any revision above its slot's, in any
-    /// order, and completes it again.
+    /// Posts the values of a part by hand, each with any revision above its slot's, by any
+    /// party, in any order, and completes it again.
     pub fn post_by_hand<L: Library>(
         &self,
         comparison: &mut Comparison<'_, L>,
         random: &mut Random,
         set: u16,
     ) -> Outcome<()> {
-        let mut values: Vec<(usize, u32)> = slots(set)
+        let mut values: Vec<Vec<u8>> = slots(set)
             .map(|slot| {
-                (
-                    slot,
-                    revision_above(random, revision_in(self.draft.bytes(), slot)),
-                )
+                let revision = revision_above(random, revision_in(self.draft.bytes(), slot));
+                message_of_any(random, FIELDS[slot], revision, text_in(self.sheet(), slot))
             })
             .collect();
         random.shuffle(&mut values);
@@ -92,16 +93,15 @@ impl Proposal {
         self.complete_again(comparison, &posted, set, Way::ByHand)
     }
 
-    /// The draft after posting the proposed values of these slots, with these revisions.
+    /// The draft after posting these messages.
     fn post<L: Library>(
         &self,
         comparison: &mut Comparison<'_, L>,
-        values: &[(usize, u32)],
+        values: &[Vec<u8>],
     ) -> Outcome<Lent> {
         let mut posted = self.draft.clone();
-        for &(slot, revision) in values {
-            let message = message(FIELDS[slot], revision, text_in(self.sheet(), slot));
-            let _ = comparison.post(&mut posted, &message)?;
+        for message in values {
+            let _ = comparison.post(&mut posted, message)?;
         }
         Ok(posted)
     }

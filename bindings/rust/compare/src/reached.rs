@@ -4,12 +4,14 @@ use std::collections::BTreeMap;
 use std::fmt;
 
 use cases::{Charge, Dates, Parting, Pooling, Queue, Sharing};
+use cases::{Given, DRAFT_SLOT_SIZE, PARTY_PLACE};
 use cases::{ALL_STATUSES, BASES, CLASS_A, CLASS_B, PAYMENT_PLACES, SHARE_PLACES};
-use kieselbrot::{Class, Completed, Paid, Part, Posted, Quickened, Refusal};
+use kieselbrot::{Class, Completed, Message, Paid, Part, Posted, Quickened, Refusal};
 
 use crate::charges::{self, Charged};
 use crate::dates::{self, Dated};
 use crate::lines::{self, Lined};
+use crate::parties::{self, Holder, Partied};
 use crate::parts::{self, Parted};
 use crate::pools::{self, Pooled};
 use crate::pretest::{Tested, NAMED};
@@ -46,6 +48,8 @@ pub struct Reached {
     shares: BTreeMap<Shared, u64>,
     pools: BTreeMap<Pooled, u64>,
     queues: BTreeMap<Queued, u64>,
+    parties: BTreeMap<Partied, u64>,
+    party_bytes: BTreeMap<(Holder, u8), u64>,
 }
 
 /// What the first nine of a pension number's eleven digits are to rule 35.
@@ -142,10 +146,10 @@ enum Accepted {
 /// The numbers that each function returns.
 const ANSWERS: [(&str, &[u8]); 17] = [
     ("check", &[0, 1, 12, 8]),
-    ("read", &[0, 2, 3, 4, 5]),
-    ("write", &[0, 2, 4, 5, 7]),
+    ("read", &[0, 2, 3, 13, 4, 5]),
+    ("write", &[0, 2, 3, 13, 4, 5, 7]),
     ("fresh", &[0, 1]),
-    ("post", &[0, 1, 2, 3, 4, 5, 6]),
+    ("post", &[0, 1, 2, 3, 13, 4, 5, 6]),
     ("copy", &[0, 1, 7]),
     ("pretest", &[0, 1, 8, 9]),
     ("complete", &[0, 1, 7, 12, 8, 9, 10]),
@@ -341,12 +345,67 @@ impl Reached {
             .for_each(|what| self.accept(class, what));
     }
 
-    /// A posting.
-    pub fn post(&mut self, answer: Result<Posted, Refusal>) {
+    /// Reading a message.
+    pub fn read(&mut self, message: &[u8], answer: Result<Message<'_>, Refusal>) {
+        self.answer("read", answer);
+        self.parties(parties::read(message, answer));
+        if answer == Err(Refusal::UnknownParty) {
+            self.party_byte(Holder::Message, message[3]);
+        }
+    }
+
+    /// Writing a message into a buffer of this size.
+    pub fn write(&mut self, message: &Message<'_>, size: usize, answer: Result<usize, Refusal>) {
+        self.answer("write", answer);
+        self.parties(parties::write(message, size, answer));
+    }
+
+    /// A posting, by the draft before.
+    pub fn post(&mut self, draft: &[u8], message: &[u8], answer: Result<Posted, Refusal>) {
         self.answer("post", answer);
+        self.malformed("post", draft, answer.err());
+        self.parties(parties::post(draft, message));
         if let Ok(posted) = answer {
             self.standings[posted as usize] += 1;
         }
+    }
+
+    /// Copying a draft.
+    pub fn copy(&mut self, draft: &[u8], answer: Result<(), Refusal>) {
+        self.answer("copy", answer);
+        self.malformed("copy", draft, answer.err());
+    }
+
+    /// What a list of readable messages ended in.
+    pub fn ended(&mut self, readable: &[Given<'_>], draft: &[u8]) {
+        self.parties(parties::list(readable, draft));
+    }
+
+    /// A field that this party alone gave, with messages of the other in the list.
+    pub fn alone(&mut self, party: u8) {
+        self.parties([Partied::Alone(party)]);
+    }
+
+    /// A draft that is malformed by a party and nothing else.
+    fn malformed(&mut self, function: &'static str, draft: &[u8], refusal: Option<Refusal>) {
+        if refusal != Some(Refusal::Malformed) {
+            return;
+        }
+        for (slot, fault) in parties::malformed(draft) {
+            self.parties([Partied::Malformed(function, fault)]);
+            let party = draft[DRAFT_SLOT_SIZE * slot + PARTY_PLACE];
+            self.party_byte(parties::holder(fault), party);
+        }
+    }
+
+    fn parties(&mut self, reached: impl IntoIterator<Item = Partied>) {
+        for what in reached {
+            *self.parties.entry(what).or_default() += 1;
+        }
+    }
+
+    fn party_byte(&mut self, holder: Holder, byte: u8) {
+        *self.party_bytes.entry((holder, byte)).or_default() += 1;
     }
 
     /// A completion, by what the test ahead of it answered and the sheet afterwards.
@@ -359,6 +418,7 @@ impl Reached {
         sheet: &[u8],
     ) {
         self.answer("complete", answer);
+        self.malformed("complete", draft, answer.err());
         self.pretest(tested, answer);
         self.dates(dates::completed(draft, dates, tested, answer, sheet));
         match answer {
@@ -382,6 +442,8 @@ impl Reached {
     /// Taking up values, by the draft before.
     pub fn take_up(&mut self, draft: &[u8], sheet: &[u8], set: u16, answer: Result<(), Refusal>) {
         self.answer("take_up", answer);
+        self.malformed("take_up", draft, answer.err());
+        self.parties(parties::taken_up(draft, set, answer));
         for what in taken::reached(draft, sheet, set, answer) {
             *self.taken.entry(what).or_default() += 1;
         }
@@ -528,6 +590,8 @@ impl Reached {
         add(&mut self.shares, &other.shares);
         add(&mut self.pools, &other.pools);
         add(&mut self.queues, &other.queues);
+        add(&mut self.parties, &other.parties);
+        add(&mut self.party_bytes, &other.party_bytes);
         for (sum, more) in self.standings.iter_mut().zip(other.standings) {
             *sum += more;
         }
@@ -608,6 +672,15 @@ impl Reached {
         }
         for what in queues::all() {
             list.push((format!("payments: {what}"), get(&self.queues, what)));
+        }
+        for what in parties::all() {
+            list.push((format!("parties: {what}"), get(&self.parties, what)));
+        }
+        for (holder, all) in Holder::ALL {
+            let bytes = self.party_bytes.keys().filter(|(of, _)| *of == holder);
+            let count = bytes.count() as u64;
+            let name = format!("{count} of {all} refused party bytes, {holder:?}");
+            list.push((name, count / all));
         }
         list
     }

@@ -12,7 +12,7 @@ use cases::Random;
 use crate::comparison::{Comparison, Difference};
 use crate::library::Library;
 use crate::reached::Reached;
-use crate::{blocks, exhaustive, generated, streams};
+use crate::{blocks, exhaustive, exhaustive_messages, generated, streams};
 
 /// The seed, unless `SEED` gives another.
 pub const SEED: u64 = 107;
@@ -186,7 +186,7 @@ impl Run {
             Piece::Table => exhaustive::table(comparison),
             Piece::Sizes => exhaustive::sizes(comparison),
             Piece::Places => exhaustive::places(comparison),
-            Piece::Messages => exhaustive::messages(comparison),
+            Piece::Messages => exhaustive_messages::all(comparison),
             Piece::Dates => exhaustive::dates(comparison, &mut random(0)),
             Piece::TakeUps => exhaustive::take_ups(comparison, &mut random(10)),
             Piece::Lines => blocks::every(comparison, &mut random(11)),
@@ -196,7 +196,8 @@ impl Run {
             Piece::Pools => exhaustive::pools(comparison),
             Piece::Queues => exhaustive::queues(comparison),
             Piece::Arrangements => (1..=6)
-                .try_for_each(|size| streams::arrangements(comparison, &mut random(size), size)),
+                .try_for_each(|size| streams::arrangements(comparison, &mut random(size), size))
+                .and_then(|()| streams::every_list(comparison)),
             Piece::Blanks(part) => exhaustive::blanks(comparison, &mut random(100 + part), part),
             Piece::Forms(part) => exhaustive::forms(comparison, &mut random(200 + part), part),
             Piece::Generated(portion) => return self.generated(comparison, portion),

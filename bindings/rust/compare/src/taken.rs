@@ -2,7 +2,7 @@
 
 use std::fmt;
 
-use cases::{slot_of, FIELDS, FILLABLE, LISTS};
+use cases::{slot_of, DRAFT_SLOT_SIZE, FIELDS, FILLABLE, LENGTH_PLACE, LISTS};
 use kieselbrot::Refusal;
 
 use crate::dates::{shown, List};
@@ -132,7 +132,7 @@ pub fn slots(set: u16) -> impl Iterator<Item = usize> {
 
 /// The revision in a slot of a draft.
 pub fn revision_in(draft: &[u8], slot: usize) -> u32 {
-    let bytes = &draft[30 * slot..][..4];
+    let bytes = &draft[DRAFT_SLOT_SIZE * slot..];
     u32::from_be_bytes([bytes[0], bytes[1], bytes[2], bytes[3]])
 }
 
@@ -146,7 +146,10 @@ pub fn text_in(sheet: &[u8], slot: usize) -> &[u8] {
 fn causes(draft: &[u8], sheet: &[u8], slot: usize) -> Vec<Cause> {
     let causes = [
         (Cause::NoList, !FILLABLE.contains(&FIELDS[slot])),
-        (Cause::Given, draft[30 * slot + 4] != 0),
+        (
+            Cause::Given,
+            draft[DRAFT_SLOT_SIZE * slot + LENGTH_PLACE] != 0,
+        ),
         (Cause::NotProposed, sheet[26 * slot] == 0),
         (Cause::Greatest, revision_in(draft, slot) == u32::MAX),
     ];
@@ -218,7 +221,7 @@ fn not_taken(draft: &[u8], sheet: &[u8], set: u16, field: u8) -> Vec<Taken> {
 #[cfg(test)]
 mod tests {
     use super::*;
-    use cases::{Texts, BLANKS};
+    use cases::{Texts, BLANKS, DRAFT_SIZE};
 
     /// What a call of the second implementation reaches.
     fn take_up(draft: &[u8], sheet: &[u8], set: u16) -> Vec<Taken> {
@@ -257,7 +260,7 @@ mod tests {
         // Given, and without a list.
         assert_eq!(take_up(&draft, &sheet, bit(61)), []);
         let listless = Taken::Unfit(61, Cause::NoList);
-        assert_eq!(take_up(&[0; 450], &sheet, bit(61)), [listless]);
+        assert_eq!(take_up(&[0; DRAFT_SIZE], &sheet, bit(61)), [listless]);
         let blank = open.sheet();
         let none = Taken::Unfit(101, Cause::NotProposed);
         assert_eq!(take_up(&draft, &blank, bit(101)), [none]);
@@ -277,13 +280,16 @@ mod tests {
             };
             what
         };
-        assert_eq!(one(&[0; 449], &sheet, 0), Malformed::Draft);
-        assert_eq!(one(&[0; 449], &[], 0), Malformed::DraftAheadOf7);
+        assert_eq!(one(&[0; DRAFT_SIZE - 1], &sheet, 0), Malformed::Draft);
+        assert_eq!(one(&[0; DRAFT_SIZE - 1], &[], 0), Malformed::DraftAheadOf7);
         let mut damaged = sheet;
         damaged[389] = 1;
-        assert_eq!(one(&[0; 450], &damaged, 0), Malformed::Sheet);
+        assert_eq!(one(&[0; DRAFT_SIZE], &damaged, 0), Malformed::Sheet);
         let set = bit(101) | 1 << 15;
-        assert_eq!(one(&[0; 450], &damaged, set), Malformed::SheetAheadOf20);
-        assert_eq!(take_up(&[0; 450], &[], 0), []);
+        assert_eq!(
+            one(&[0; DRAFT_SIZE], &damaged, set),
+            Malformed::SheetAheadOf20
+        );
+        assert_eq!(take_up(&[0; DRAFT_SIZE], &[], 0), []);
     }
 }

@@ -4,6 +4,7 @@ use std::fmt;
 
 use crate::PAYMENT_PLACES;
 use crate::{ffi, BALANCE_MAX, FIELDS, KOPECKS_MAX, LINES_BLOCK_MAX, LINES_MAX};
+use crate::{Party, Version, TEXT_MAX};
 
 /// The class of an accepted sheet.
 #[derive(Clone, Copy, Debug, PartialEq, Eq, Hash, PartialOrd, Ord)]
@@ -19,6 +20,10 @@ pub enum Class {
 /// A message as read.
 #[derive(Clone, Copy, Debug, PartialEq, Eq, Hash)]
 pub struct Message<'a> {
+    /// The version: [`Version::ONE`] or [`Version::TWO`].
+    pub version: Version,
+    /// Who wrote it: [`Party::CLIENT`] or [`Party::ADVISER`]; the adviser in version 1.
+    pub party: Party,
     /// The number of a listed field.
     pub field: u8,
     /// The revision, not 0.
@@ -30,11 +35,13 @@ pub struct Message<'a> {
 /// What posting a message did.
 #[derive(Clone, Copy, Debug, PartialEq, Eq, Hash)]
 pub enum Posted {
-    /// A higher revision than the draft had: stored.
+    /// A higher revision than the draft had, or its revision by the adviser over the
+    /// client's: stored.
     Newer,
-    /// The revision and text that the draft has: nothing changed.
+    /// The revision, party and text that the draft has: nothing changed.
     Same,
-    /// A lower revision than the draft has: nothing changed.
+    /// A lower revision than the draft has, or its revision by the client under the
+    /// adviser's: nothing changed.
     Older,
 }
 
@@ -114,18 +121,20 @@ pub struct Leaving {
 #[derive(Clone, Copy, Debug, PartialEq, Eq, Hash)]
 pub enum Refusal {
     /// 1: the draft or sheet is malformed; for [`fresh`](crate::fresh), its size
-    /// is not 450.
+    /// is not [`DRAFT_SIZE`](crate::DRAFT_SIZE).
     Malformed,
     /// 2: the message has under 2 bytes, its length is not that of the rest, or
-    /// is outside 6 to 31; for [`write`](crate::write), the text is over 25.
+    /// is outside 6 to 32; tested after 3, it is one that the version does not allow (6 to
+    /// 31 in version 1, 7 to 32 in version 2); for [`write`](crate::write), the text is
+    /// over 25.
     Length,
-    /// 3: the version is not 1.
+    /// 3: the version is not 1 or 2.
     Version,
     /// 4: the field is not listed.
     UnknownField,
     /// 5: the revision is 0.
     RevisionZero,
-    /// 6: the draft has this revision with another text.
+    /// 6: the draft has this revision of this party with another text.
     Clash,
     /// 7: the output sheet's size is not 390, or the message buffer is too short; for
     /// [`pool`](crate::pool), the output has under 10,000 bytes; for
@@ -154,6 +163,9 @@ pub enum Refusal {
     /// an entry of the record is no Gregorian date of the years 1900 to 2099, or the order's
     /// date is before 20230925; tested just before 8.
     Undated,
+    /// 13: the party is neither the client nor the adviser; for [`write`](crate::write),
+    /// also if it is the client in version 1; tested just before 4.
+    UnknownParty,
     /// 14: for [`charge`](crate::charge()), an argument is out of range or the least
     /// is above the greatest.
     Tariff,
@@ -209,6 +221,7 @@ impl Refusal {
             Self::NoFilling { .. } => 10,
             Self::NoLines => 11,
             Self::Undated => 12,
+            Self::UnknownParty => 13,
             Self::Tariff => 14,
             Self::YearPart => 15,
             Self::Register => 16,
@@ -233,6 +246,7 @@ impl Refusal {
             9 => Self::Ordinary,
             11 => Self::NoLines,
             12 => Self::Undated,
+            13 => Self::UnknownParty,
             14 => Self::Tariff,
             15 => Self::YearPart,
             16 => Self::Register,
@@ -290,34 +304,52 @@ impl From<ffi::Check> for Result<Class, Refusal> {
 }
 
 impl ffi::Read {
-    /// The message that was read, with its text.
+    /// The message that was read, with its text: all that stands behind the head of its
+    /// version.
     pub fn message(self, message: &[u8]) -> Result<Message<'_>, Refusal> {
-        let Self {
-            number,
-            field,
-            revision,
-            text,
-            length,
-        } = self;
-        let end = text.checked_add(length);
-        let part = end.and_then(|end| message.get(text..end));
-        match (number, field, revision, text, length, part) {
-            (0, 1.., 1.., _, _, Some(text)) => Ok(Message {
-                field,
-                revision,
-                text,
-            }),
-            (number, 0, 0, 0, 0, _) => Err(Refusal::plain(number)),
+        let number = self.number;
+        match self {
+            Self { number: 0, .. } => self.known(message).ok_or(Refusal::Unknown { number }),
+            Self {
+                version: 0,
+                party: 0,
+                field: 0,
+                revision: 0,
+                text: 0,
+                length: 0,
+                ..
+            } => Err(Refusal::plain(number)),
             _ => Err(Refusal::Unknown { number }),
         }
     }
+
+    /// A message whose every value is one that reading may give.
+    fn known(self, message: &[u8]) -> Option<Message<'_>> {
+        let (version, party) = (Version(self.version), Party(self.party));
+        let head_size = version.head_size()?;
+        let text = message.get(head_size..)?;
+        let known = version.carries(party)
+            && FIELDS.contains(&self.field)
+            && self.revision > 0
+            && (self.text, self.length) == (head_size, text.len())
+            && text.len() <= TEXT_MAX;
+        known.then_some(Message {
+            version,
+            party,
+            field: self.field,
+            revision: self.revision,
+            text,
+        })
+    }
 }
 
-impl From<ffi::Write> for Result<usize, Refusal> {
-    fn from(answer: ffi::Write) -> Self {
-        let ffi::Write { number, length } = answer;
+impl ffi::Write {
+    /// The size of the message of this version with a text of this length.
+    pub fn size(self, version: Version, text: usize) -> Result<usize, Refusal> {
+        let Self { number, length } = self;
+        let size = version.head_size().map(|head_size| head_size + text);
         match (number, length) {
-            (0, 8..=33) => Ok(length),
+            (0, length) if Some(length) == size && text <= TEXT_MAX => Ok(length),
             (number, 0) => Err(Refusal::plain(number)),
             _ => Err(Refusal::Unknown { number }),
         }
@@ -491,11 +523,11 @@ mod tests {
 
     #[test]
     fn numbers_are_those_of_the_table() {
-        for number in (1..=7).chain([9, 11, 12, 14, 15, 16, 18, 19]) {
+        for number in (1..=7).chain([9, 11, 12, 13, 14, 15, 16, 18, 19]) {
             assert_eq!(Refusal::plain(number).number(), number);
             assert!(!matches!(Refusal::plain(number), Refusal::Unknown { .. }));
         }
-        for number in [0, 8, 10, 13, 17, 20, 255] {
+        for number in [0, 8, 10, 17, 20, 255] {
             assert_eq!(Refusal::plain(number), Refusal::Unknown { number });
         }
         let broken = Refusal::Broken {
@@ -510,6 +542,7 @@ mod tests {
         assert_eq!((none.number(), none.to_string().as_str()), (10, "10 1056"));
         assert_eq!(Refusal::NoLines.to_string(), "11");
         assert_eq!(Refusal::Undated.to_string(), "12");
+        assert_eq!(Refusal::UnknownParty.to_string(), "13");
         assert_eq!(Refusal::Tariff.to_string(), "14");
         assert_eq!(Refusal::YearPart.to_string(), "15");
         assert_eq!(Refusal::Register.to_string(), "16");
@@ -524,29 +557,147 @@ mod tests {
         );
     }
 
+    /// What reading answers of a message of the client's, text "08" from place 9 on.
+    const READ: ffi::Read = ffi::Read {
+        number: 0,
+        version: 2,
+        party: 1,
+        field: 101,
+        revision: 2,
+        text: 9,
+        length: 2,
+    };
+
+    const OF_THE_CLIENT: &[u8; 11] = b"\0\x09\x02\x01\x65\0\0\0\x0208";
+    const OF_THE_ADVISER: &[u8; 10] = b"\0\x08\x01\x65\0\0\0\x0208";
+
     #[test]
-    fn a_text_is_a_part_of_its_message() {
-        let read = |number, field, revision, text, length| {
-            let answer = ffi::Read {
-                number,
-                field,
-                revision,
-                text,
-                length,
-            };
-            let message = answer.message(b"\0\x08\x01\x65\0\0\0\x0208");
+    fn a_text_is_what_stands_behind_the_head() {
+        let read = |answer: ffi::Read| {
+            let message = answer.message(OF_THE_CLIENT);
             message.map(|message| message.text)
         };
-        assert_eq!(read(0, 101, 2, 8, 2), Ok(&b"08"[..]));
-        assert_eq!(read(2, 0, 0, 0, 0), Err(Refusal::Length));
-        for (text, length) in [(8, 3), (11, 0), (8, usize::MAX)] {
-            assert_eq!(
-                read(0, 101, 2, text, length),
-                Err(Refusal::Unknown { number: 0 })
-            );
+        assert_eq!(read(READ), Ok(&b"08"[..]));
+        for (text, length) in [(9, 3), (9, 1), (8, 3), (10, 1), (11, 0), (9, usize::MAX)] {
+            let answer = ffi::Read {
+                text,
+                length,
+                ..READ
+            };
+            assert_eq!(read(answer), Err(Refusal::Unknown { number: 0 }));
         }
-        assert_eq!(read(2, 0, 0, 8, 0), Err(Refusal::Unknown { number: 2 }));
-        assert_eq!(read(2, 0, 0, 0, 2), Err(Refusal::Unknown { number: 2 }));
+        let long = [&OF_THE_CLIENT[..9], &[b'7'; 26]].concat();
+        let answer = ffi::Read { length: 26, ..READ };
+        assert_eq!(answer.message(&long), Err(Refusal::Unknown { number: 0 }));
+        assert!(READ.message(&long[..8]).is_err());
+    }
+
+    #[test]
+    fn versions_and_parties_that_are_known() {
+        let read = |version, party| {
+            let answer = ffi::Read {
+                version,
+                party,
+                ..READ
+            };
+            let of_version_1 = ffi::Read { text: 8, ..answer };
+            let first = of_version_1.message(OF_THE_ADVISER);
+            let second = answer.message(OF_THE_CLIENT);
+            first
+                .or(second)
+                .map(|message| (message.version, message.party))
+        };
+        let known = [
+            ((1, 2), (Version::ONE, Party::ADVISER)),
+            ((2, 1), (Version::TWO, Party::CLIENT)),
+            ((2, 2), (Version::TWO, Party::ADVISER)),
+        ];
+        for version in 0..=u8::MAX {
+            for party in 0..=u8::MAX {
+                let expected = known.iter().find(|(key, _)| *key == (version, party));
+                let expected = expected.map(|(_, known)| *known);
+                let expected = expected.ok_or(Refusal::Unknown { number: 0 });
+                assert_eq!(read(version, party), expected, "{version} {party}");
+            }
+        }
+    }
+
+    #[test]
+    fn what_else_is_read() {
+        let read = |answer: ffi::Read| {
+            let message = answer.message(OF_THE_CLIENT);
+            message.map(|message| (message.field, message.revision))
+        };
+        assert_eq!(read(READ), Ok((101, 2)));
+        for answer in [
+            ffi::Read { field: 0, ..READ },
+            ffi::Read { field: 16, ..READ },
+            ffi::Read {
+                revision: 0,
+                ..READ
+            },
+        ] {
+            assert_eq!(read(answer), Err(Refusal::Unknown { number: 0 }));
+        }
+    }
+
+    #[test]
+    fn a_refused_message_has_nothing_else() {
+        const REFUSED: ffi::Read = ffi::Read {
+            number: 13,
+            version: 0,
+            party: 0,
+            field: 0,
+            revision: 0,
+            text: 0,
+            length: 0,
+        };
+        let read = |answer: ffi::Read| answer.message(OF_THE_CLIENT).err();
+        assert_eq!(read(REFUSED), Some(Refusal::UnknownParty));
+        let (number, length) = (2, 2);
+        let short = ffi::Read { number, ..REFUSED };
+        assert_eq!(read(short), Some(Refusal::Length));
+        for answer in [
+            ffi::Read {
+                version: 2,
+                ..short
+            },
+            ffi::Read { party: 1, ..short },
+            ffi::Read { field: 14, ..short },
+            ffi::Read {
+                revision: 1,
+                ..short
+            },
+            ffi::Read { text: 9, ..short },
+            ffi::Read { length, ..short },
+        ] {
+            assert_eq!(read(answer), Some(Refusal::Unknown { number }));
+        }
+    }
+
+    #[test]
+    fn a_written_message_has_the_size_of_its_version() {
+        let size = |version, number, length, text| {
+            ffi::Write { number, length }.size(Version(version), text)
+        };
+        for (version, length, text) in [(1, 8, 0), (1, 33, 25), (2, 9, 0), (2, 34, 25)] {
+            assert_eq!(size(version, 0, length, text), Ok(length));
+        }
+        assert_eq!(size(1, 13, 0, 2), Err(Refusal::UnknownParty));
+        assert_eq!(size(3, 3, 0, 2), Err(Refusal::Version));
+        for (version, number, length, text) in [
+            (1, 0, 0, 0),
+            (1, 0, 9, 0),
+            (2, 0, 8, 0),
+            (1, 0, 34, 26),
+            (2, 0, 35, 26),
+            (0, 0, 8, 0),
+            (3, 0, 9, 0),
+            (2, 13, 9, 0),
+        ] {
+            let unknown = Err(Refusal::Unknown { number });
+            assert_eq!(size(version, number, length, text), unknown);
+        }
     }
 
     #[test]

@@ -5,7 +5,7 @@
 
 use std::mem::offset_of;
 
-use crate::{Date, Record, PAYMENT_PLACES, SHARE_PLACES};
+use crate::{Date, Party, Record, Version, PAYMENT_PLACES, SHARE_PLACES};
 
 /// The answer of a check.
 #[repr(C)]
@@ -23,6 +23,8 @@ pub struct Check {
 #[derive(Clone, Copy)]
 pub struct Read {
     pub number: u8,
+    pub version: u8,
+    pub party: u8,
     pub field: u8,
     pub revision: u32,
     pub text: usize,
@@ -131,6 +133,7 @@ pub struct Leave {
 // The sizes that bindings/c/kieselbrot.h has.
 const _: () = assert!(size_of::<Date>() == 4);
 const _: () = assert!(size_of::<Record>() == 12);
+const _: () = assert!(size_of::<Version>() == 1 && size_of::<Party>() == 1);
 const _: () = assert!(size_of::<Check>() == 4);
 const _: () = assert!(size_of::<Read>() == 24);
 const _: () = assert!(size_of::<Write>() == 16);
@@ -149,6 +152,8 @@ extern "C" {
     fn kieselbrot_check(sheet: *const u8, sheet_len: usize, date: Date, record: Record) -> Check;
     fn kieselbrot_read(message: *const u8, message_len: usize) -> Read;
     fn kieselbrot_write(
+        version: Version,
+        party: Party,
         field: u8,
         revision: u32,
         text: *const u8,
@@ -236,9 +241,18 @@ pub fn read(message: &[u8]) -> Read {
     unsafe { kieselbrot_read(message.as_ptr(), message.len()) }
 }
 
-pub fn write(field: u8, revision: u32, text: &[u8], buffer: &mut [u8]) -> Write {
+pub fn write(
+    version: Version,
+    party: Party,
+    field: u8,
+    revision: u32,
+    text: &[u8],
+    buffer: &mut [u8],
+) -> Write {
     unsafe {
         kieselbrot_write(
+            version,
+            party,
             field,
             revision,
             text.as_ptr(),

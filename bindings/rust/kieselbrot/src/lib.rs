@@ -11,7 +11,8 @@
 //! Texts are bytes of Windows-1251, 0 to 25 of them; the empty text is a blank. The
 //! constants have the sizes of a sheet, a draft, a message and a register's line, and
 //! say how they are laid out. Amounts are in kopecks. The order's [`Date`] and a
-//! [`Record`] of three dates say which statuses are allowed. The module [`words`] says in
+//! [`Record`] of three dates say which statuses are allowed. A message has a [`Version`] and
+//! is a [`Party`]'s, the client's or the adviser's. The module [`words`] says in
 //! English what a rule wants and why an order can't be completed.
 //!
 //! # Example
@@ -19,8 +20,8 @@
 //! An order arrives in messages, in any order, and is completed:
 //!
 //! ```
-//! use kieselbrot::{check, complete, post, pretest, write};
-//! use kieselbrot::{Class, Date, Posted, Record, Refusal};
+//! use kieselbrot::{check, complete, post, pretest, read, write};
+//! use kieselbrot::{Class, Date, Party, Posted, Record, Refusal, Version};
 //!
 //! # fn main() -> Result<(), Refusal> {
 //! let order: [(u8, &[u8]); 8] = [
@@ -37,7 +38,8 @@
 //! kieselbrot::fresh(&mut draft)?;
 //! for (field, text) in order {
 //!     let mut message = [0; kieselbrot::MESSAGE_MAX];
-//!     let length = write(field, 1, text, &mut message)?;
+//!     let (version, party) = (Version::ONE, Party::ADVISER);
+//!     let length = write(version, party, field, 1, text, &mut message)?;
 //!     assert_eq!(post(&mut draft, &message[..length])?, Posted::Newer);
 //! }
 //!
@@ -51,7 +53,8 @@
 //! // Corrected, and dated back to when status 02 was allowed.
 //! for field in [60, 102] {
 //!     let mut message = [0; kieselbrot::MESSAGE_MAX];
-//!     let length = write(field, 2, b"0", &mut message)?;
+//!     let (version, party) = (Version::ONE, Party::ADVISER);
+//!     let length = write(version, party, field, 2, b"0", &mut message)?;
 //!     post(&mut draft, &message[..length])?;
 //! }
 //! let back = Date(20231015);
@@ -61,6 +64,14 @@
 //! let (field, rule) = (101, 10);
 //! let broken = Refusal::Broken { field, rule };
 //! assert_eq!(check(&sheet, date, Record::GIVEN), Err(broken));
+//!
+//! // The client's document number; at the same revision the adviser's stands over it.
+//! let mut message = [0; kieselbrot::MESSAGE_MAX];
+//! let length = write(Version::TWO, Party::CLIENT, 108, 1, b"17", &mut message)?;
+//! assert_eq!(read(&message[..length])?.party, Party::CLIENT);
+//! assert_eq!(post(&mut draft, &message[..length])?, Posted::Newer);
+//! let length = write(Version::ONE, Party::ADVISER, 108, 1, b"18", &mut message)?;
+//! assert_eq!(post(&mut draft, &message[..length])?, Posted::Newer);
 //! # Ok(())
 //! # }
 //! ```
@@ -73,11 +84,13 @@ mod dates;
 #[allow(unsafe_code)]
 mod ffi;
 mod fillings;
+mod parties;
 pub mod words;
 
 pub use answers::{Broken, Class, Completed, Leaving, Message, Paid, Part, Payment, Posted};
 pub use answers::{Quickened, Refusal};
 pub use dates::{Date, Record};
+pub use parties::{Party, Version};
 
 /// The numbers of the fifteen fields, in the order of their slots.
 pub const FIELDS: [u8; 15] = [
@@ -95,19 +108,24 @@ pub const SHEET_SIZE: usize = 390;
 pub const SHEET_SLOT_SIZE: usize = 26;
 
 /// A draft's size: a slot for each field.
-pub const DRAFT_SIZE: usize = 450;
+pub const DRAFT_SIZE: usize = 465;
 
-/// The size of a draft's slot: the revision (4 bytes, big-endian, 0 = never given),
+/// The size of a draft's slot: the revision (4 bytes, big-endian, 0 = never given), the
+/// party that gave it (0 exactly if the revision is 0, otherwise 1 client or 2 adviser),
 /// then as in a sheet. Slot i stands at i times this.
-pub const DRAFT_SLOT_SIZE: usize = 30;
+pub const DRAFT_SLOT_SIZE: usize = 31;
 
-/// The size of what stands before a message's text: L, how many bytes follow it (2
-/// bytes, big-endian), the version 1, the field, the revision (4 bytes, big-endian,
-/// not 0).
-pub const MESSAGE_HEAD_SIZE: usize = 8;
+/// The size of what stands before the text of a message of version 1: L, how many bytes
+/// follow it (2 bytes, big-endian), the version, the field, the revision (4 bytes,
+/// big-endian, not 0).
+pub const MESSAGE_HEAD_SIZE_1: usize = 8;
+
+/// The size of what stands before the text of a message of version 2: as in version 1,
+/// with the party after the version, 1 client or 2 adviser.
+pub const MESSAGE_HEAD_SIZE_2: usize = 9;
 
 /// The size of the longest message; a buffer of it is long enough for any.
-pub const MESSAGE_MAX: usize = 33;
+pub const MESSAGE_MAX: usize = 34;
 
 /// The size of the longest block of MT103 lines, that with a code of 25 digits; a buffer of
 /// it is long enough for any.
@@ -147,7 +165,8 @@ pub const BALANCE_MAX: u64 = 1_000_000_000_000_000;
 
 const _: () = assert!(SHEET_SIZE == FIELDS.len() * SHEET_SLOT_SIZE);
 const _: () = assert!(DRAFT_SIZE == FIELDS.len() * DRAFT_SLOT_SIZE);
-const _: () = assert!(MESSAGE_MAX == MESSAGE_HEAD_SIZE + TEXT_MAX);
+const _: () = assert!(MESSAGE_HEAD_SIZE_2 == MESSAGE_HEAD_SIZE_1 + size_of::<Party>());
+const _: () = assert!(MESSAGE_MAX == MESSAGE_HEAD_SIZE_2 + TEXT_MAX);
 const _: () = assert!(POOL_SIZE == LINES_MAX * LINE_SIZE);
 
 /// Checks the sheet of an order with this date against the rules and tells its class.
@@ -180,11 +199,13 @@ pub fn check(sheet: &[u8], date: Date, record: Record) -> Result<Class, Refusal>
     ffi::check(sheet, date, record).into()
 }
 
-/// Reads a message. Its text is a part of the bytes that were lent.
+/// Reads a message of version 1 or 2. Its text is a part of the bytes that were lent.
+/// Version 1 counts as the adviser's.
 ///
 /// # Errors
 ///
-/// In this order: [`Refusal::Length`], [`Refusal::Version`],
+/// In this order: [`Refusal::Length`], [`Refusal::Version`], [`Refusal::Length`] for a
+/// length that its version does not allow, [`Refusal::UnknownParty`],
 /// [`Refusal::UnknownField`], [`Refusal::RevisionZero`].
 #[inline]
 pub fn read(message: &[u8]) -> Result<Message<'_>, Refusal> {
@@ -192,15 +213,41 @@ pub fn read(message: &[u8]) -> Result<Message<'_>, Refusal> {
 }
 
 /// Writes a message at the start of a buffer and tells its size; the rest of the
-/// buffer stays as it is.
+/// buffer stays as it is. Version 1 is the adviser's alone.
 ///
 /// # Errors
 ///
-/// In this order: [`Refusal::Length`], [`Refusal::UnknownField`],
-/// [`Refusal::RevisionZero`], [`Refusal::Output`].
+/// In this order: [`Refusal::Length`], [`Refusal::Version`], [`Refusal::UnknownParty`],
+/// [`Refusal::UnknownField`], [`Refusal::RevisionZero`], [`Refusal::Output`].
+///
+/// # Examples
+///
+/// ```
+/// use kieselbrot::{read, write, Message, Party, Refusal, Version, MESSAGE_MAX};
+///
+/// # fn main() -> Result<(), Refusal> {
+/// let (field, revision, text) = (108, 1, &b"17"[..]);
+/// let (version, party) = (Version::TWO, Party::CLIENT);
+/// let mut buffer = [0; MESSAGE_MAX];
+/// let length = write(version, party, field, revision, text, &mut buffer)?;
+/// let message = Message { version, party, field, revision, text };
+/// assert_eq!(read(&buffer[..length]), Ok(message));
+///
+/// let first = write(Version::ONE, party, field, revision, text, &mut buffer);
+/// assert_eq!(first, Err(Refusal::UnknownParty));
+/// # Ok(())
+/// # }
+/// ```
 #[inline]
-pub fn write(field: u8, revision: u32, text: &[u8], buffer: &mut [u8]) -> Result<usize, Refusal> {
-    ffi::write(field, revision, text, buffer).into()
+pub fn write(
+    version: Version,
+    party: Party,
+    field: u8,
+    revision: u32,
+    text: &[u8],
+    buffer: &mut [u8],
+) -> Result<usize, Refusal> {
+    ffi::write(version, party, field, revision, text, buffer).size(version, text.len())
 }
 
 /// Makes a draft fresh, whatever it held: all zero.
@@ -213,9 +260,10 @@ pub fn fresh(draft: &mut [u8]) -> Result<(), Refusal> {
     answers::number(ffi::fresh(draft))
 }
 
-/// Posts a message to a draft: a higher revision of its field is stored, the same
-/// message again or a lower revision changes nothing. An empty text with a higher
-/// revision blanks the field.
+/// Posts a message to a draft: a higher revision of its field is stored, with its party;
+/// the same revision, party and text again, or a lower revision, changes nothing. At equal
+/// revisions the adviser's stands over the client's, whichever came first. An empty text
+/// with a higher revision blanks the field.
 ///
 /// # Errors
 ///
@@ -227,7 +275,7 @@ pub fn post(draft: &mut [u8], message: &[u8]) -> Result<Posted, Refusal> {
 }
 
 /// Copies a draft's texts to a sheet, whatever that held, and drops the
-/// revisions.
+/// revisions and parties.
 ///
 /// # Errors
 ///
@@ -290,7 +338,7 @@ pub fn complete(
 /// A payer without INN and KPP, then one with "0" for a KBK:
 ///
 /// ```
-/// use kieselbrot::{post, quick, write, Date, Record, Refusal};
+/// use kieselbrot::{post, quick, write, Date, Party, Record, Refusal, Version};
 ///
 /// # fn main() -> Result<(), Refusal> {
 /// let order: [(u8, &[u8]); 8] = [
@@ -306,7 +354,8 @@ pub fn complete(
 /// let mut draft = [0; kieselbrot::DRAFT_SIZE];
 /// let mut message = [0; kieselbrot::MESSAGE_MAX];
 /// for (field, text) in order {
-///     let length = write(field, 1, text, &mut message)?;
+///     let (version, party) = (Version::ONE, Party::ADVISER);
+///     let length = write(version, party, field, 1, text, &mut message)?;
 ///     post(&mut draft, &message[..length])?;
 /// }
 ///
@@ -315,7 +364,8 @@ pub fn complete(
 /// // Rule 23 fails for status 01. Status 03, which rule 25 refuses, was tried.
 /// assert_eq!((quickened.completed?.count, quickened.skipped), (97, 1));
 ///
-/// let length = write(104, 2, b"0", &mut message)?;
+/// let (version, party) = (Version::ONE, Party::ADVISER);
+/// let length = write(version, party, 104, 2, b"0", &mut message)?;
 /// post(&mut draft, &message[..length])?;
 /// let quickened = quick(&draft, &mut sheet, Date(20240115), Record::GIVEN);
 /// // Rule 28 fails for all.
@@ -331,8 +381,8 @@ pub fn quick(draft: &[u8], sheet: &mut [u8], date: Date, record: Record) -> Quic
 }
 
 /// Takes up part of a proposal: for each slot of the set, posts the text that the sheet has
-/// there to the draft, with the revision after its slot's. Bit i of the set is for slot i, as
-/// in [`Completed::set`].
+/// there to the draft as the adviser's, with the revision after its slot's, whichever party
+/// gave that. Bit i of the set is for slot i, as in [`Completed::set`].
 ///
 /// If completing the draft at a date and record gave this sheet, and the set is a part of the
 /// returned one, completing it again at the same date and record gives the very same sheet, a
@@ -353,7 +403,8 @@ pub fn quick(draft: &[u8], sheet: &mut [u8], date: Date, record: Record) -> Quic
 /// Of what is proposed to a payer without INN and KPP, the status is taken up:
 ///
 /// ```
-/// use kieselbrot::{complete, post, take_up, write, Completed, Date, Record, Refusal};
+/// use kieselbrot::{complete, post, take_up, write};
+/// use kieselbrot::{Completed, Date, Party, Record, Refusal, Version};
 ///
 /// # fn main() -> Result<(), Refusal> {
 /// let order: [(u8, &[u8]); 8] = [
@@ -369,7 +420,8 @@ pub fn quick(draft: &[u8], sheet: &mut [u8], date: Date, record: Record) -> Quic
 /// let mut draft = [0; kieselbrot::DRAFT_SIZE];
 /// let mut message = [0; kieselbrot::MESSAGE_MAX];
 /// for (field, text) in order {
-///     let length = write(field, 1, text, &mut message)?;
+///     let (version, party) = (Version::ONE, Party::ADVISER);
+///     let length = write(version, party, field, 1, text, &mut message)?;
 ///     post(&mut draft, &message[..length])?;
 /// }
 ///
@@ -416,7 +468,7 @@ pub fn take_up(draft: &mut [u8], sheet: &[u8], set: u16) -> Result<(), Refusal> 
 ///
 /// ```
 /// use kieselbrot::{complete, post, read_lines, write, write_lines};
-/// use kieselbrot::{Date, Record, Refusal, LINES_BLOCK_MAX, SHEET_SIZE};
+/// use kieselbrot::{Date, Party, Record, Refusal, Version, LINES_BLOCK_MAX, SHEET_SIZE};
 ///
 /// # fn main() -> Result<(), Refusal> {
 /// let order: [(u8, &[u8]); 8] = [
@@ -432,7 +484,7 @@ pub fn take_up(draft: &mut [u8], sheet: &[u8], set: u16) -> Result<(), Refusal> 
 /// let mut draft = [0; kieselbrot::DRAFT_SIZE];
 /// let mut message = [0; kieselbrot::MESSAGE_MAX];
 /// for (field, text) in order {
-///     let length = write(field, 1, text, &mut message)?;
+///     let length = write(Version::ONE, Party::ADVISER, field, 1, text, &mut message)?;
 ///     post(&mut draft, &message[..length])?;
 /// }
 /// let date = Date(20240115);

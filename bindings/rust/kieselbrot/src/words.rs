@@ -1,12 +1,12 @@
-//! Rules, fields, the answer of a completion, why a value can't be taken up and why MT103
-//! lines can't be written or read in words, for people.
+//! Rules, fields, parties, the answer of a completion, why a value can't be taken up, why
+//! MT103 lines can't be written or read and why a message is refused, in words, for people.
 //!
 //! The library decides; this module says it in English. It is not proved. Unlike
 //! the functions of the library it allocates.
 
 use crate::fillings::{self, Sheet};
 use crate::{check, complete, copy, pretest, DRAFT_SLOT_SIZE, FIELDS, SHEET_SIZE};
-use crate::{Broken, Completed, Date, Record, Refusal, LINES_BLOCK_MAX};
+use crate::{Broken, Completed, Date, Party, Record, Refusal, LINES_BLOCK_MAX};
 
 /// What the rules want, rule 1 first. Where [`LIST`] stands, the statuses follow that the
 /// date allows: in rule 10 all of them, in rule 19 those of [`TREASURY`].
@@ -94,6 +94,40 @@ pub const fn field(number: u8) -> Option<&'static str> {
         107 => "customs office",
         108 => "document",
         109 => "date",
+        _ => return None,
+    })
+}
+
+/// The name of a known party.
+#[must_use]
+pub const fn party(party: Party) -> Option<&'static str> {
+    match party {
+        Party::CLIENT => Some("client"),
+        Party::ADVISER => Some("adviser"),
+        _ => None,
+    }
+}
+
+/// What is wrong with a message that [`read`](crate::read), [`write`](crate::write) or
+/// [`post`](crate::post) refuses for itself: a sentence without its full stop. The other
+/// refusals have none.
+#[must_use]
+pub const fn message(refusal: Refusal) -> Option<&'static str> {
+    Some(match refusal {
+        Refusal::Length => {
+            "the message has not the length that it tells, or none that its version allows; a \
+             text has at most 25 characters"
+        }
+        Refusal::Version => "the message's version is neither 1 nor 2",
+        Refusal::UnknownParty => {
+            "the message's party is neither the client nor the adviser, or it is the client in \
+             version 1, which is the adviser's alone"
+        }
+        Refusal::UnknownField => "the message's field is not listed",
+        Refusal::RevisionZero => "the message's revision is 0",
+        Refusal::Clash => {
+            "the draft has the message's revision of the same party with another text"
+        }
         _ => return None,
     })
 }
@@ -406,5 +440,31 @@ mod tests {
         let written = lines_not_written(refusal, Date(20240101), Record::GIVEN);
         assert!(written.ends_with("writing lines never answers 77."));
         assert!(lines_not_read(refusal).ends_with("reading lines never answers 77."));
+        let of_a_message = wording.refused(Refusal::UnknownParty);
+        assert!(of_a_message.ends_with("completion never answers 13."));
+        let of_a_message = not_taken_up(&[], &[], Refusal::UnknownParty);
+        assert!(of_a_message.ends_with("taking up never answers 13."));
+    }
+
+    #[test]
+    fn parties_and_refused_messages_have_words() {
+        assert_eq!(party(Party::CLIENT), Some("client"));
+        assert_eq!(party(Party::ADVISER), Some("adviser"));
+        assert_eq!([Party(0), Party(3)].map(party), [None; 2]);
+        let words = message(Refusal::UnknownParty).expect("words for 13");
+        assert!(words.contains("neither the client nor the adviser"));
+        let of_messages = [
+            Refusal::Length,
+            Refusal::Version,
+            Refusal::UnknownField,
+            Refusal::RevisionZero,
+            Refusal::Clash,
+        ];
+        assert!(of_messages
+            .into_iter()
+            .all(|refusal| message(refusal).is_some()));
+        for refusal in [Refusal::Malformed, Refusal::Output, Refusal::Ordinary] {
+            assert_eq!(message(refusal), None);
+        }
     }
 }

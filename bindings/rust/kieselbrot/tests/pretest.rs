@@ -1,7 +1,7 @@
 //! The test ahead of completion on R-3's table: differences from the paper's sheet S, and what is named.
 
 use cases::Texts;
-use kieselbrot::{complete, pretest, Broken, Date, Record, Refusal, SHEET_SIZE};
+use kieselbrot::{complete, pretest, Broken, Date, Record, Refusal, DRAFT_SIZE, SHEET_SIZE};
 
 const INSTITUTION: &[u8] = b"03212643000000014800";
 
@@ -64,9 +64,9 @@ fn it_refuses_as_completion_does() {
     let broken = Refusal::Broken { field: 14, rule: 1 };
     let table = [
         (draft(&[(14, b"1")]), broken),
-        (vec![0; 450], broken),
+        (vec![0; DRAFT_SIZE], broken),
         (draft(&[(15, b"")]), Refusal::Ordinary),
-        (vec![0; 449], Refusal::Malformed),
+        (vec![0; DRAFT_SIZE - 1], Refusal::Malformed),
     ];
     for (draft, refusal) in table {
         assert_eq!(pretest(&draft), Err(refusal));

@@ -2,7 +2,7 @@
 //! statuses are skipped.
 
 use cases::{Texts, BLANKS};
-use kieselbrot::{complete, quick, Date, Quickened, Record, Refusal, SHEET_SIZE};
+use kieselbrot::{complete, quick, Date, Quickened, Record, Refusal, DRAFT_SIZE, SHEET_SIZE};
 
 const INSTITUTION: &[u8] = b"03212643000000014800";
 
@@ -103,7 +103,7 @@ fn other_refusals_skip_none() {
     let (field, rule) = (14, 1);
     let hopeless: &[Change] = &[(17, INSTITUTION)];
     let table = [
-        (vec![0; 449], 389, 0, Refusal::Malformed),
+        (vec![0; DRAFT_SIZE - 1], 389, 0, Refusal::Malformed),
         (draft(hopeless), 389, 0, Refusal::Output),
         (draft(hopeless), 390, 20230924, Refusal::Undated),
         (draft(&[(14, b"")]), 390, 0, Refusal::Undated),

@@ -1,7 +1,8 @@
 //! Taking up part of a proposal, on document 01's sheet S with 22, 101 and 105 to 109
 //! blank and "0" in 60 and 102, which is completed at count 97.
 
-use cases::{message, slot_of, Draft, Sheet, Text, Texts, BLANKS, FIELDS, FILLABLE};
+use cases::{advised, set_slot, CLIENT, DRAFT_SIZE, LENGTH_PLACE, PARTY_PLACE};
+use cases::{message, slot_of, Draft, Sheet, Texts, BLANKS, FIELDS, FILLABLE};
 use kieselbrot::words::not_taken_up;
 use kieselbrot::{complete, post, take_up, Completed, Date, Posted, Record, Refusal};
 
@@ -27,11 +28,9 @@ fn set_of(fields: &[u8]) -> u16 {
     fields.iter().fold(0, add)
 }
 
-/// The draft with this text and revision in a field's slot.
+/// The draft with this text and revision of the adviser's in a field's slot.
 fn with(mut draft: Draft, field: u8, revision: u32, text: &[u8]) -> Draft {
-    let slot = &mut draft[30 * slot_of(field)..][..30];
-    slot[..4].copy_from_slice(&revision.to_be_bytes());
-    slot[4..].copy_from_slice(&Text::new(text).slot());
+    set_slot(&mut draft, field, revision, advised(revision), text);
     draft
 }
 
@@ -120,6 +119,25 @@ fn the_revision_after_its_slots() {
     }
 }
 
+/// A blank of the client's takes up a value as the adviser's.
+#[test]
+fn a_slot_that_the_client_blanked() {
+    for (had, revision) in [(1, 2), (u32::MAX - 1, u32::MAX)] {
+        let mut blanked = draft(&open());
+        set_slot(&mut blanked, 101, had, CLIENT, b"");
+        let before = completed(&blanked);
+        let mut taken = blanked;
+        assert_eq!(take_up(&mut taken, &before.1, set_of(&[101])), Ok(()));
+        assert_eq!(taken, with(blanked, 101, revision, b"04"));
+        keeps_the_proposal(&taken, before, set_of(&[101]));
+    }
+    let mut greatest = draft(&open());
+    set_slot(&mut greatest, 101, u32::MAX, CLIENT, b"");
+    let sheet = completed(&greatest).1;
+    let refused = Err(Refusal::NotTakenUp { field: 101 });
+    assert_eq!(take_up(&mut greatest, &sheet, set_of(&[101])), refused);
+}
+
 #[test]
 fn all_fields_that_have_a_list() {
     let texts = Texts::s()
@@ -160,15 +178,17 @@ fn malformed_ones() {
             refused(draft, sheet, set, Refusal::Malformed, MALFORMED);
         }
     };
-    for size in [0, 390, 449, 451] {
+    for size in [0, 390, DRAFT_SIZE - 1, DRAFT_SIZE + 1] {
         refused(&vec![0; size], &sheet);
         // The draft is tested first.
         refused(&vec![0; size], &sheet[1..]);
     }
-    refused(&changed(&draft, 4, 26), &sheet);
-    refused(&changed(&draft, 449, 1), &sheet);
-    // Revision 0 with a text.
+    refused(&changed(&draft, LENGTH_PLACE, 26), &sheet);
+    refused(&changed(&draft, DRAFT_SIZE - 1, 1), &sheet);
+    // Revision 0 with a text and a party; a revision without a party, and of no known one.
     refused(&changed(&draft, 3, 0), &sheet);
+    refused(&changed(&draft, PARTY_PLACE, 0), &sheet);
+    refused(&changed(&draft, PARTY_PLACE, 3), &sheet);
     refused(&draft, &changed(&sheet, 0, 26));
     refused(&draft, &changed(&sheet, 389, 1));
 }
@@ -177,7 +197,7 @@ fn malformed_ones() {
 fn sheets_of_another_size() {
     let draft = draft(&open());
     let (proposed, sheet) = completed(&draft);
-    for size in [0, 364, 389, 391, 450] {
+    for size in [0, 364, 389, 391, DRAFT_SIZE] {
         let mut other = sheet.to_vec();
         other.resize(size, 0xFF);
         for set in [0, proposed.set, BIT_15] {

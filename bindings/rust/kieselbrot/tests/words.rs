@@ -3,6 +3,7 @@
 use std::collections::BTreeSet;
 
 use cases::{sheets, Dates, Texts, ALL_STATUSES, BASES, BLANKS, FILLABLE, LISTS, STATUSES};
+use cases::{LENGTH_PLACE, PARTY_PLACE};
 use kieselbrot::words::{self, explanation};
 use kieselbrot::{check, complete, pretest, Broken, Class, Date, Record, Refusal};
 use kieselbrot::{FIELDS, SHEET_SIZE};
@@ -197,9 +198,11 @@ fn a_malformed_draft() {
     let expected = "This draft is malformed: it can't be read as an order.";
     let (date, record) = asked(Dates::given(0));
     assert_eq!(explanation(&[], date, record), expected);
-    let mut malformed = draft(&Texts::s());
-    malformed[4] = 26;
-    assert_eq!(explanation(&malformed, date, record), expected);
+    for (place, byte) in [(LENGTH_PLACE, 26), (PARTY_PLACE, 0), (PARTY_PLACE, 3)] {
+        let mut malformed = draft(&Texts::s());
+        malformed[place] = byte;
+        assert_eq!(explanation(&malformed, date, record), expected);
+    }
 }
 
 #[test]

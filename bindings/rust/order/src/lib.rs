@@ -3,7 +3,9 @@
 //!
 //! A line is `FIELD REVISION TEXT`, in UTF-8, with one space between the items.
 //! The text is the rest of the line: it may contain spaces, and may be empty or
-//! missing for a blank. Lines that are blank or begin with `#` are left out.
+//! missing for a blank. Before the field may stand `client`: the line is then the
+//! client's, in a message of version 2; all others are the adviser's, in messages of
+//! version 1. Lines that are blank or begin with `#` are left out.
 
 #![forbid(unsafe_code)]
 #![warn(missing_docs)]
@@ -14,7 +16,8 @@ mod windows1251;
 use std::fmt;
 use std::path::Path;
 
-use kieselbrot::{Date, Refusal, DRAFT_SIZE, FIELDS, MESSAGE_MAX, TEXT_MAX};
+use kieselbrot::{words, Date, Party, Refusal, Version};
+use kieselbrot::{DRAFT_SIZE, FIELDS, MESSAGE_MAX, TEXT_MAX};
 
 pub use take::{take_up, Line};
 
@@ -29,9 +32,10 @@ pub const ORDER_DATE: Date = Date(20240101);
 pub enum Mistake {
     /// The line is not UTF-8.
     NotUtf8,
-    /// The first item is not a listed field; so it was written.
+    /// The first item, or the one behind the party, is not a listed field; so it was
+    /// written.
     Field(String),
-    /// The second item is not a revision; so it was written.
+    /// The item behind the field is not a revision; so it was written.
     Revision(String),
     /// The text has a character that Windows-1251 does not have.
     Character(char),
@@ -52,7 +56,11 @@ impl fmt::Display for Mistake {
                 FIELDS.iter().try_for_each(|field| write!(f, " {field}"))
             }
             Self::Revision(item) if item.is_empty() => {
-                write!(f, "the revision is missing; a line is FIELD REVISION TEXT")
+                write!(
+                    f,
+                    "the revision is missing; a line is FIELD REVISION TEXT, with or without \
+                     \"client \" before it"
+                )
             }
             Self::Revision(item) => {
                 let highest = u32::MAX;
@@ -74,7 +82,11 @@ impl fmt::Display for Mistake {
                 f,
                 "with this line the order is longer than {ORDER_MAX} bytes"
             ),
-            Self::Refused(refusal) => write!(f, "the library refuses the line: {refusal}"),
+            Self::Refused(refusal) => {
+                write!(f, "the library refuses the line: {refusal}")?;
+                let why = words::message(*refusal);
+                why.map_or(Ok(()), |why| write!(f, " ({why})"))
+            }
         }
     }
 }
@@ -132,12 +144,23 @@ pub fn messages(order: &[u8]) -> Result<Vec<u8>, Vec<WrongLine>> {
     }
 }
 
+/// The version and party of a line, and the line without its party.
+fn party(line: &str) -> (Version, Party, &str) {
+    let (item, rest) = line.split_once(' ').unwrap_or((line, ""));
+    if Some(item) == words::party(Party::CLIENT) {
+        (Version::TWO, Party::CLIENT, rest)
+    } else {
+        (Version::ONE, Party::ADVISER, line)
+    }
+}
+
 /// Adds a line's message; a comment or blank line has none.
 fn add_line(line: &[u8], messages: &mut Vec<u8>) -> Result<(), Mistake> {
     let line = str::from_utf8(line).map_err(|_| Mistake::NotUtf8)?;
     if matches!(line.trim_start().chars().next(), None | Some('#')) {
         return Ok(());
     }
+    let (version, party, line) = party(line);
     let (field, rest) = line.split_once(' ').unwrap_or((line, ""));
     let (revision, text) = rest.split_once(' ').unwrap_or((rest, ""));
     let wrong_field = || Mistake::Field(field.to_owned());
@@ -148,7 +171,7 @@ fn add_line(line: &[u8], messages: &mut Vec<u8>) -> Result<(), Mistake> {
     let text = windows1251::bytes(text).map_err(Mistake::Character)?;
 
     let mut buffer = [0; MESSAGE_MAX];
-    let length = kieselbrot::write(number, given, &text, &mut buffer);
+    let length = kieselbrot::write(version, party, number, given, &text, &mut buffer);
     let length = length.map_err(|refusal| match refusal {
         Refusal::Length => Mistake::Long(text.len()),
         Refusal::UnknownField => wrong_field(),
@@ -226,6 +249,56 @@ mod tests {
     }
 
     #[test]
+    fn lines_of_the_client() {
+        let order = "client 108 1 17\n108 1 18\nclient 109 2\nclient 106 258 ТД\r\n\
+                     client 22 4  a b \n";
+        let expected = [
+            &b"\x00\x09\x02\x01\x6C\x00\x00\x00\x0117"[..],
+            b"\x00\x08\x01\x6C\x00\x00\x00\x0118",
+            b"\x00\x07\x02\x01\x6D\x00\x00\x00\x02",
+            b"\x00\x09\x02\x01\x6A\x00\x00\x01\x02\xD2\xC4",
+            b"\x00\x0C\x02\x01\x16\x00\x00\x00\x04 a b ",
+        ];
+        assert_eq!(messages(order.as_bytes()), Ok(expected.concat()));
+    }
+
+    #[test]
+    fn wrong_lines_of_the_client() {
+        let order = "client 108 1 17\nclient\nclient \nclient 16 1 x\nclient 108\n\
+                     client 108 0 17\nclient  108 1 17\nClient 108 1 17\nadviser 108 1 17\n\
+                     client client 108 1 17\n";
+        let field = |item: &str| Mistake::Field(item.into());
+        let revision = |item: &str| Mistake::Revision(item.into());
+        let expected = vec![
+            (2, field("")),
+            (3, field("")),
+            (4, field("16")),
+            (5, revision("")),
+            (6, revision("0")),
+            (7, field("")),
+            (8, field("Client")),
+            (9, field("adviser")),
+            (10, field("client")),
+        ];
+        assert_eq!(mistakes(order), expected);
+        let long = format!(
+            "client 22 1 {}\nclient 22 2 {}",
+            "7".repeat(25),
+            "7".repeat(26)
+        );
+        assert_eq!(mistakes(&long), [(2, Mistake::Long(26))]);
+    }
+
+    #[test]
+    fn a_refused_line_has_words() {
+        let shown = Mistake::Refused(Refusal::UnknownParty).to_string();
+        let expected = "the library refuses the line: 13 (the message's party is neither ";
+        assert!(shown.starts_with(expected), "{shown}");
+        let shown = Mistake::Refused(Refusal::Output).to_string();
+        assert_eq!(shown, "the library refuses the line: 7");
+    }
+
+    #[test]
     fn wrong_lines_are_named_all() {
         let order = "14 1 1\n16 1 1\n300 1 1\nx\n14\n14 0 1\n14 4294967296 1\n14 +1 1\n14  1 1\n";
         let field = |item: &str| Mistake::Field(item.into());
@@ -264,7 +337,15 @@ mod tests {
             Ok(ORDER_MAX)
         );
         assert_eq!(mistakes(&(full + "22 1")), [(4097, Mistake::Order)]);
+        // Nine bytes each in version 2: 8 are left.
+        let most = "client 22 1\n".repeat(3640);
+        assert_eq!(
+            messages((most.clone() + "22 1").as_bytes()).map(|all| all.len()),
+            Ok(ORDER_MAX)
+        );
+        assert_eq!(mistakes(&(most + "client 22 1")), [(3641, Mistake::Order)]);
     }
+
     #[test]
     fn messages_are_posted_as_the_program_does() {
         let texts = |messages: &[u8]| {

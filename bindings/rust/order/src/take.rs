@@ -7,7 +7,7 @@ use kieselbrot::{SHEET_SIZE, SHEET_SLOT_SIZE};
 
 use crate::{windows1251, ORDER_DATE};
 
-/// A line of an order: FIELD REVISION TEXT.
+/// A line of an order that is the adviser's: FIELD REVISION TEXT.
 #[derive(Clone, Debug, PartialEq, Eq)]
 pub struct Line {
     /// The field.
@@ -25,8 +25,8 @@ impl fmt::Display for Line {
 }
 
 /// Completes a draft as budgetorder does and takes up what is proposed for these fields.
-/// Gives the lines that record it, in the order of the slots: with them the order is
-/// completed to the same sheet.
+/// Gives the lines that record it as the adviser's, in the order of the slots: with them
+/// the order is completed to the same sheet.
 ///
 /// # Errors
 ///
@@ -53,13 +53,12 @@ fn set_of(fields: &[u8]) -> u16 {
 /// The line of what a slot of a well-formed draft holds.
 fn line(draft: &[u8; DRAFT_SIZE], slot: usize) -> Line {
     let held = &draft[DRAFT_SLOT_SIZE * slot..][..DRAFT_SLOT_SIZE];
-    let (revision, text) = held.split_at(DRAFT_SLOT_SIZE - SHEET_SLOT_SIZE);
+    let revision = held.first_chunk().copied().map(u32::from_be_bytes);
+    let text = &held[DRAFT_SLOT_SIZE - SHEET_SLOT_SIZE..];
     let length = usize::from(text[0]);
     Line {
         field: FIELDS[slot],
-        revision: revision
-            .iter()
-            .fold(0, |number, &byte| number << 8 | u32::from(byte)),
+        revision: revision.unwrap_or_default(),
         text: windows1251::text(&text[1..][..length]),
     }
 }
@@ -89,6 +88,9 @@ mod tests {
         assert_eq!(lines(ORDER, &[106, 101, 22, 101]), Ok(three.to_vec()));
         assert_eq!(lines(ORDER, &[]), Ok(vec![]));
         let blanked = ORDER.to_owned() + "101 7 08\n101 300 \n";
+        assert_eq!(lines(&blanked, &[101]), Ok(vec!["101 301 04".into()]));
+        // Blanked by the client, and taken up as the adviser's.
+        let blanked = ORDER.to_owned() + "101 7 08\nclient 101 300 \n";
         assert_eq!(lines(&blanked, &[101]), Ok(vec!["101 301 04".into()]));
     }
 

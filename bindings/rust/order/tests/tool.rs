@@ -57,6 +57,16 @@ fn the_sample_is_completed() {
 }
 
 #[test]
+fn a_sample_of_both_parties() {
+    let draft = order::draft(&messages("client"));
+    let completed = complete(&draft).expect("the sample can be completed");
+    assert_eq!((completed.count, completed.ones), (1, 6));
+    // 101 and 108 are the client's, 102 is the adviser's though both gave it.
+    let party = |slot: usize| draft[kieselbrot::DRAFT_SLOT_SIZE * slot + 4];
+    assert_eq!([6, 7, 13].map(party), [1, 2, 1]);
+}
+
+#[test]
 fn two_samples_can_not_be_completed() {
     let rule_28 = Broken {
         field: 104,
@@ -71,7 +81,7 @@ fn two_samples_can_not_be_completed() {
 
 #[test]
 fn the_words_of_the_samples() {
-    for name in ["order", "hopeless", "status-by-status"] {
+    for name in ["order", "hopeless", "status-by-status", "client"] {
         let stored = fs::read_to_string(sample(name, "report")).expect("a stored report");
         let (_, words) = stored.split_once("\n\n").expect("words below the report");
         assert_eq!(explain(&messages(name)), words);
@@ -152,6 +162,14 @@ fn lines_are_taken_up() {
         let error = fails(take(&file.0, &["106"]));
         assert!(error.contains("Field 106 (basis) can't take up a value: it is given already."));
     }
+}
+
+/// What the client blanked is taken up in a line of the adviser's.
+#[test]
+fn a_line_of_the_adviser_is_taken_up() {
+    let output = take(sample("client", "txt"), &["101", "22"]);
+    assert!(output.status.success());
+    assert_eq!(output.stdout, b"22 1 0\n101 3 01\n");
 }
 
 /// Nothing is written, and this is the error.

@@ -9,7 +9,7 @@ use crate::lines::is_class_a;
 
 impl Planted {
     /// What a changed writer does.
-    pub(super) fn changed_writing(
+    pub(super) fn changed_line_writing(
         self,
         sheet: &[u8],
         dates: Dates,
@@ -22,7 +22,7 @@ impl Planted {
         };
         match Reference.write_lines(sheet, seen, buffer) {
             Ok(length) => self.changed_lines(sheet, length, buffer, &before),
-            Err(refusal) => self.changed_writing_refusal(sheet, dates, buffer, refusal),
+            Err(refusal) => self.changed_line_writing_refusal(sheet, dates, buffer, refusal),
         }
     }
 
@@ -53,7 +53,7 @@ impl Planted {
     }
 
     /// What is done in place of this refusal.
-    fn changed_writing_refusal(
+    fn changed_line_writing_refusal(
         self,
         sheet: &[u8],
         dates: Dates,
@@ -89,11 +89,15 @@ impl Planted {
     }
 
     /// What a changed reader does.
-    pub(super) fn changed_reading(self, block: &[u8], sheet: &mut [u8]) -> Result<(), Refusal> {
+    pub(super) fn changed_line_reading(
+        self,
+        block: &[u8],
+        sheet: &mut [u8],
+    ) -> Result<(), Refusal> {
         let before = sheet.to_vec();
         match Reference.read_lines(&self.seen_block(block), sheet) {
             Ok(()) => self.changed_sheet(block, sheet, &before),
-            Err(refusal) => self.changed_reading_refusal(block, sheet, refusal),
+            Err(refusal) => self.changed_line_reading_refusal(block, sheet, refusal),
         }
     }
 
@@ -154,7 +158,7 @@ impl Planted {
     }
 
     /// What is done in place of this refusal.
-    fn changed_reading_refusal(
+    fn changed_line_reading_refusal(
         self,
         block: &[u8],
         sheet: &mut [u8],

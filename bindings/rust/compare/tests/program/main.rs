@@ -10,7 +10,7 @@ use std::sync::mpsc;
 use std::thread;
 use std::time::Duration;
 
-use cases::{message, messages, Random, Texts};
+use cases::{message, message_2, messages, Random, Texts, ADVISER, CLIENT};
 use reference::{read, report, Refusal};
 
 use running::{path, run, run_in_pieces, run_with, write};
@@ -61,6 +61,27 @@ fn short_inputs() {
     }
     let worked = b"\x00\x0A\x01\x0E\x00\x00\x00\x010045";
     assert_eq!(compared(worked), b"1 newer\nend 8 14 1\n");
+}
+
+/// Streams whose version bytes are all 1, each with what the program wrote of it before R-8:
+/// a length in two bytes, big-endian, and so many bytes, for both.
+const BEFORE_R8: &[u8] = include_bytes!("version-1.streams");
+
+#[test]
+fn streams_of_version_1_print_as_before_r8() {
+    let mut rest = BEFORE_R8;
+    let mut next = || {
+        let (length, behind) = rest.split_first_chunk()?;
+        let (part, behind) = behind.split_at(usize::from(u16::from_be_bytes(*length)));
+        rest = behind;
+        Some(part)
+    };
+    let mut streams = 0;
+    while let (Some(input), Some(before)) = (next(), next()) {
+        assert_eq!(compared(input), before);
+        streams += 1;
+    }
+    assert_eq!(streams, 54);
 }
 
 #[test]
@@ -122,19 +143,70 @@ fn the_longest_report() {
 #[test]
 fn a_stream_of_refusals() {
     let mut other_version = message(101, 2, b"08");
-    other_version[2] = 2;
+    other_version[2] = 3;
     let refused = [
         other_version,
         message(16, 2, b"08"),
         message(101, 0, b"08"),
         message(101, 1, b"08"),
+        message_2(3, 101, 2, b"08"),
     ]
     .concat();
-    let input = [Texts::s().messages(1), refused.repeat(700)].concat();
+    let input = [Texts::s().messages(1), refused.repeat(600)].concat();
     let output = compared(&input);
     let text = String::from_utf8(output).expect("ASCII");
-    assert!(text.contains("\n15 newer\n16 3\n17 4\n18 5\n19 6\n20 3\n"));
-    assert!(text.contains("\n2815 6\nend ok 1\n"));
+    assert!(text.contains("\n15 newer\n16 3\n17 4\n18 5\n19 6\n20 13\n21 3\n"));
+    assert!(text.contains("\n3015 13\nend ok 1\n"));
+}
+
+/// The same document of both parties, in both orders.
+#[test]
+fn both_parties() {
+    let client = message_2(CLIENT, 108, 2, b"17");
+    for adviser in [message(108, 2, b"18"), message_2(ADVISER, 108, 2, b"18")] {
+        for (list, answer) in [
+            ([&client, &adviser], "newer"),
+            ([&adviser, &client], "older"),
+        ] {
+            let list: Vec<u8> = list.into_iter().flatten().copied().collect();
+            let output = compared(&[Texts::s().messages(1), list].concat());
+            let text = String::from_utf8(output).expect("ASCII");
+            assert!(text.contains(&format!("\n16 newer\n17 {answer}\nend ok 1\n")));
+            assert!(text.contains("\n108 18\n"));
+        }
+    }
+}
+
+/// A 2 that is tested after 3 ends the reading; a 3 does not, though its L is 32.
+#[test]
+fn a_length_that_the_version_does_not_allow() {
+    let behind = message(108, 2, b"17");
+    let told = |refused: &[u8]| {
+        let input = [&Texts::s().messages(1)[..], refused, &behind].concat();
+        let text = String::from_utf8(compared(&input)).expect("ASCII");
+        let lines: Vec<&str> = text.lines().collect();
+        lines[15..17].join(", ")
+    };
+    let mut l_32 = message(104, 2, &[b'1'; 26]);
+    let mut l_6 = message(16, 0, b"");
+    assert_eq!(told(&l_32), "16 2, end ok 1");
+    (l_32[2], l_6[2]) = (3, 3);
+    assert_eq!(told(&l_32), "16 3, 17 newer");
+    assert_eq!(told(&l_6), "16 3, 17 newer");
+    l_6[2] = 2;
+    assert_eq!(told(&l_6), "16 2, end ok 1");
+    let longest = message_2(CLIENT, 105, 2, &[b'1'; 25]);
+    assert_eq!(told(&longest), "16 newer, 17 newer");
+}
+
+/// As many of the longest messages as fit, and the beginning of another.
+#[test]
+fn a_full_input_of_version_2() {
+    let mut input = message_2(CLIENT, 101, 1, &[b'1'; 25]).repeat(964);
+    input.truncate(INPUT_MAX);
+    let output = compared(&input);
+    assert!(output.starts_with(b"1 newer\n2 same\n"));
+    assert!(output.ends_with(b"\n963 same\n964 2\nend 8 14 1\n"));
 }
 
 #[test]
@@ -174,7 +246,8 @@ fn with(mut set: BTreeSet<String>, item: String) -> BTreeSet<String> {
     set
 }
 
-const TOLD: [&str; 14] = [
+const TOLD: [&str; 15] = [
+    "13",
     "2",
     "3",
     "4",

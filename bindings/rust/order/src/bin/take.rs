@@ -1,6 +1,6 @@
 //! `take FILE FIELD ..` completes the order in a file at the program's date and takes up what
-//! is proposed for these fields: it writes the lines FIELD REVISION TEXT that record it, to be
-//! appended to the file. If a line or a field is wrong, the order can't be completed, or a
+//! is proposed for these fields: it writes the lines FIELD REVISION TEXT that record it as the
+//! adviser's, to be appended to the file. If a line or a field is wrong, the order can't be completed, or a
 //! field can't take up a value, it says so and writes nothing.
 
 use std::env;

@@ -1,7 +1,7 @@
 //! An example, and what the second implementation says of it. To add a kind, give
 //! it a letter, an output and a list of examples.
 
-use cases::{Dates, Draft, Sheet};
+use cases::{Dates, Draft, Sheet, DRAFT_SIZE};
 use compare::{Library, Reference};
 use kieselbrot::{Completed, Quickened, Refusal};
 use reference::{read, report};
@@ -193,7 +193,7 @@ fn completion(completed: Result<Completed, Refusal>, sheet: &Sheet) -> Vec<u8> {
 /// The draft of messages end to end, each 2 + L bytes or what is left; after a 2 nothing
 /// more is read.
 fn posted(mut messages: &[u8]) -> Draft {
-    let mut draft = [0; 450];
+    let mut draft = [0; DRAFT_SIZE];
     while !messages.is_empty() {
         let size = match messages {
             [high, low, ..] => 2 + usize::from(u16::from_be_bytes([*high, *low])),
@@ -224,11 +224,13 @@ fn checked(sheet: &[u8], dates: Dates) -> Vec<u8> {
     }
 }
 
-/// `ok FIELD REVISION TEXT`, with `-` for a blank, or the refusal's number.
+/// `ok VERSION PARTY FIELD REVISION TEXT`, with `-` for a blank, or the refusal's number.
 fn message_read(message: &[u8]) -> Vec<u8> {
     match read(message) {
         Ok(message) => {
-            let head = format!("ok {} {} ", message.field, message.revision);
+            let (version, party) = (message.version, message.party);
+            let (field, revision) = (message.field, message.revision);
+            let head = format!("ok {version} {party} {field} {revision} ");
             [head.as_bytes(), shown(message.text)].concat()
         }
         Err(refusal) => refusal.to_string().into_bytes(),

@@ -14,6 +14,7 @@ mod dates;
 mod example;
 mod lines;
 mod messages;
+mod parties;
 mod quick;
 mod reports;
 mod sheets;
@@ -48,6 +49,7 @@ fn all() -> Vec<Example> {
         quick::all(),
         take_up::all(),
         lines::all(),
+        parties::all(),
     ]
     .concat()
 }

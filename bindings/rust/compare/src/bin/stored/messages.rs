@@ -1,11 +1,11 @@
-//! Messages to read.
+//! Messages of version 1 to read, and of versions that are not known.
 
 use cases::message;
 
 use crate::example::{Example, Kind};
 
 /// A text to take the beginning of, more than a message has room for.
-const LONG: &[u8; 26] = b"ABCDEFGHIJKLMNOPQRSTUVWXYZ";
+pub const LONG: &[u8; 27] = b"ABCDEFGHIJKLMNOPQRSTUVWXYZA";
 
 /// All messages: each part of one at its boundaries, then two parts wrong.
 pub fn all() -> Vec<Example> {
@@ -21,7 +21,7 @@ pub fn all() -> Vec<Example> {
     .concat()
 }
 
-fn read(name: impl AsRef<str>, bytes: &[u8]) -> Example {
+pub fn read(name: impl AsRef<str>, bytes: &[u8]) -> Example {
     Example::new(Kind::Message, format!("message: {}", name.as_ref()), bytes)
 }
 
@@ -54,7 +54,7 @@ fn lengths() -> Vec<Example> {
         wrong("L 256 more than the rest", 266),
         read("L 5", &[0, 5, 1, 14, 0, 0, 0]),
     ];
-    for length in [6, 31, 32] {
+    for length in [6, 31, 32, 33] {
         let bytes = message(104, 1, &LONG[..length - 6]);
         examples.push(read(format!("L {length}"), &bytes));
     }
@@ -63,7 +63,7 @@ fn lengths() -> Vec<Example> {
 }
 
 /// The message with another version.
-fn with_version(mut bytes: Vec<u8>, version: u8) -> Vec<u8> {
+pub fn with_version(mut bytes: Vec<u8>, version: u8) -> Vec<u8> {
     bytes[2] = version;
     bytes
 }
@@ -73,7 +73,7 @@ fn versions() -> Vec<Example> {
         let bytes = with_version(message(101, 1, b"08"), version);
         read(format!("version {version}"), &bytes)
     };
-    [0, 1, 2, 255].map(version).to_vec()
+    [0, 1, 3, 255].map(version).to_vec()
 }
 
 /// Every field number, listed or not.
@@ -106,7 +106,7 @@ fn texts() -> Vec<Example> {
 /// Two parts wrong at once, and all of them.
 fn two_wrong() -> Vec<Example> {
     let cut = |bytes: Vec<u8>| bytes[..bytes.len() - 1].to_vec();
-    let other_version = |bytes| with_version(bytes, 2);
+    let other_version = |bytes| with_version(bytes, 3);
     vec![
         read(
             "length and version",
@@ -149,15 +149,16 @@ mod tests {
             ("size 1", "2"),
             ("size 2", "2"),
             ("size 7", "2"),
-            ("size 8", "ok 14 1 -"),
+            ("size 8", "ok 1 2 14 1 -"),
             ("L one less than the rest", "2"),
-            ("L as the rest", "ok 14 1 0045"),
+            ("L as the rest", "ok 1 2 14 1 0045"),
             ("L one more than the rest", "2"),
             ("L 256 more than the rest", "2"),
             ("L 5", "2"),
-            ("L 6", "ok 104 1 -"),
-            ("L 31", "ok 104 1 ABCDEFGHIJKLMNOPQRSTUVWXY"),
+            ("L 6", "ok 1 2 104 1 -"),
+            ("L 31", "ok 1 2 104 1 ABCDEFGHIJKLMNOPQRSTUVWXY"),
             ("L 32", "2"),
+            ("L 33", "2"),
             ("L 262", "2"),
         ]);
     }
@@ -166,14 +167,14 @@ mod tests {
     fn versions_and_revisions() {
         lines(&[
             ("version 0", "3"),
-            ("version 1", "ok 101 1 08"),
-            ("version 2", "3"),
+            ("version 1", "ok 1 2 101 1 08"),
+            ("version 3", "3"),
             ("version 255", "3"),
             ("revision 0", "5"),
-            ("revision 1", "ok 102 1 770301001"),
-            ("revision 256", "ok 102 256 770301001"),
-            ("revision 16909060", "ok 102 16909060 770301001"),
-            ("revision 4294967295", "ok 102 4294967295 770301001"),
+            ("revision 1", "ok 1 2 102 1 770301001"),
+            ("revision 256", "ok 1 2 102 256 770301001"),
+            ("revision 16909060", "ok 1 2 102 16909060 770301001"),
+            ("revision 4294967295", "ok 1 2 102 4294967295 770301001"),
         ]);
     }
 
@@ -186,7 +187,7 @@ mod tests {
         for field in 0..=255 {
             let number = field.to_string();
             let expected = match listed.contains(&number.as_str()) {
-                true => format!("ok {number} 1 0"),
+                true => format!("ok 1 2 {number} 1 0"),
                 false => "4".into(),
             };
             lines(&[(&format!("field {number}"), &expected)]);
@@ -196,13 +197,13 @@ mod tests {
     #[test]
     fn texts_as_they_are() {
         lines(&[
-            ("text of 0 bytes", "ok 108 7 -"),
-            ("text of 1 bytes", "ok 108 7 A"),
-            ("text of 25 bytes", "ok 108 7 ABCDEFGHIJKLMNOPQRSTUVWXY"),
+            ("text of 0 bytes", "ok 1 2 108 7 -"),
+            ("text of 1 bytes", "ok 1 2 108 7 A"),
+            ("text of 25 bytes", "ok 1 2 108 7 ABCDEFGHIJKLMNOPQRSTUVWXY"),
             ("text of 26 bytes", "2"),
         ]);
-        assert_eq!(line("text of letters"), b"ok 106 2 \xD2\xC4");
-        assert_eq!(line("text of any bytes"), b"ok 108 2  \x00-\xFF");
+        assert_eq!(line("text of letters"), b"ok 1 2 106 2 \xD2\xC4");
+        assert_eq!(line("text of any bytes"), b"ok 1 2 108 2  \x00-\xFF");
     }
 
     #[test]

@@ -21,7 +21,7 @@ pub fn all() -> Vec<Example> {
     .concat()
 }
 
-fn report(name: impl AsRef<str>, input: &[u8]) -> Example {
+pub fn report(name: impl AsRef<str>, input: &[u8]) -> Example {
     Example::new(Kind::Report, format!("report: {}", name.as_ref()), input)
 }
 
@@ -36,14 +36,14 @@ pub fn order(texts: &Texts) -> Vec<u8> {
 }
 
 /// The order S and further messages behind it.
-fn s_and(messages: &[Vec<u8>]) -> Vec<u8> {
+pub fn s_and(messages: &[Vec<u8>]) -> Vec<u8> {
     [order(&Texts::s()), messages.concat()].concat()
 }
 
-/// A message of version 2, which is refused with 3.
+/// A message of version 3, which is refused with 3.
 fn other_version() -> Vec<u8> {
     let mut bytes = message(101, 2, b"08");
-    bytes[2] = 2;
+    bytes[2] = 3;
     bytes
 }
 

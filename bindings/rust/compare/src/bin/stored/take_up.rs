@@ -16,7 +16,7 @@ fn take_up(name: impl AsRef<str>, texts: &Texts, set: u16) -> Example {
     take_up_bytes(name, &order(texts), set, Dates::PROGRAM)
 }
 
-fn take_up_bytes(name: impl AsRef<str>, messages: &[u8], set: u16, dates: Dates) -> Example {
+pub fn take_up_bytes(name: impl AsRef<str>, messages: &[u8], set: u16, dates: Dates) -> Example {
     let name = format!("take up: {}", name.as_ref());
     let bytes = with_dates(dates, &with_set(set, messages));
     Example::new(Kind::TakeUpAt, name, &bytes)
@@ -24,7 +24,7 @@ fn take_up_bytes(name: impl AsRef<str>, messages: &[u8], set: u16, dates: Dates)
 
 const BIT_15: u16 = 1 << 15;
 
-fn set_of(fields: &[u8]) -> u16 {
+pub fn set_of(fields: &[u8]) -> u16 {
     let add = |set, &field: &u8| set | 1 << slot_of(field);
     fields.iter().fold(0, add)
 }
