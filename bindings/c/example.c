@@ -1,9 +1,10 @@
 /* A small order: its messages are written, posted in the order of their arrival,
- * tested and completed, and the sheet is printed; then a client writes into it, too; a
- * correction dated back, also completed quickly; a proposal of which parts are taken up; the
- * sheet's MT103 lines, read back; the bank's charge for a few amounts, parts of a year, a
+ * tested and completed, and the sheet is printed; all rules that it breaks with another
+ * status, and which message each slot holds; then a client writes into it, too; a
+ * correction dated back, also completed quickly; a proposal of which parts are taken up;
+ * entries of completion's lists; the sheet's MT103 lines, read back; the bank's charge for a few amounts, parts of a year, a
  * year's amount shared among its months, the pooled lines of a register, and which payments
- * leave first.
+ * leave first; and null pointers with length 0 in every place.
  * The program checks its own results and returns 1 if one is not as expected. */
 
 #include <inttypes.h>
@@ -14,6 +15,7 @@
 
 _Static_assert(sizeof(kieselbrot_record) == 12, "the record's layout");
 _Static_assert(sizeof(kieselbrot_check_answer) == 4, "the answers' layout");
+_Static_assert(sizeof(kieselbrot_broken_rules_answer) == 16, "the answers' layout");
 _Static_assert(sizeof(kieselbrot_read_answer) == 24, "the answers' layout");
 _Static_assert(sizeof(kieselbrot_write_answer) == 16, "the answers' layout");
 _Static_assert(sizeof(kieselbrot_post_answer) == 2, "the answers' layout");
@@ -21,11 +23,66 @@ _Static_assert(sizeof(kieselbrot_pretest_answer) == 3, "the answers' layout");
 _Static_assert(sizeof(kieselbrot_complete_answer) == 32, "the answers' layout");
 _Static_assert(sizeof(kieselbrot_quick_answer) == 32, "the answers' layout");
 _Static_assert(sizeof(kieselbrot_take_up_answer) == 2, "the answers' layout");
+_Static_assert(sizeof(kieselbrot_entry_answer) == 4, "the answers' layout");
 _Static_assert(sizeof(kieselbrot_lines_answer) == 16, "the answers' layout");
 _Static_assert(sizeof(kieselbrot_charge_answer) == 16, "the answers' layout");
 _Static_assert(sizeof(kieselbrot_part_answer) == 16, "the answers' layout");
 _Static_assert(sizeof(kieselbrot_pool_answer) == 24, "the answers' layout");
 _Static_assert(sizeof(kieselbrot_leave_answer) == 32, "the answers' layout");
+
+/* Where the fields stand, as the Rust crate has them, too. */
+#define AT(answer, field, place) \
+    _Static_assert(offsetof(kieselbrot_##answer, field) == (place), "the fields' places")
+AT(record, first32, 0);
+AT(record, first33, 4);
+AT(record, last02, 8);
+AT(check_answer, number, 0);
+AT(check_answer, field, 1);
+AT(check_answer, rule, 2);
+AT(check_answer, class_, 3);
+AT(read_answer, number, 0);
+AT(read_answer, version, 1);
+AT(read_answer, party, 2);
+AT(read_answer, field, 3);
+AT(read_answer, revision, 4);
+AT(read_answer, text, 8);
+AT(read_answer, length, 16);
+AT(write_answer, number, 0);
+AT(write_answer, length, 8);
+AT(post_answer, number, 0);
+AT(post_answer, standing, 1);
+AT(pretest_answer, number, 0);
+AT(pretest_answer, field, 1);
+AT(pretest_answer, rule, 2);
+AT(complete_answer, number, 0);
+AT(complete_answer, field, 1);
+AT(complete_answer, rule, 2);
+AT(complete_answer, set, 4);
+AT(complete_answer, ones, 8);
+AT(complete_answer, count, 16);
+AT(complete_answer, skipped, 24);
+AT(take_up_answer, number, 0);
+AT(take_up_answer, field, 1);
+AT(entry_answer, number, 0);
+AT(entry_answer, length, 1);
+AT(entry_answer, first, 2);
+AT(entry_answer, second, 3);
+AT(lines_answer, number, 0);
+AT(lines_answer, field, 1);
+AT(lines_answer, rule, 2);
+AT(lines_answer, length, 8);
+AT(charge_answer, number, 0);
+AT(charge_answer, kopecks, 8);
+AT(part_answer, number, 0);
+AT(part_answer, remainder, 4);
+AT(part_answer, kopecks, 8);
+AT(pool_answer, number, 0);
+AT(pool_answer, lines, 8);
+AT(pool_answer, difference, 16);
+AT(leave_answer, number, 0);
+AT(leave_answer, paid, 8);
+AT(leave_answer, sum, 16);
+AT(leave_answer, left, 24);
 
 _Static_assert(KIESELBROT_SHEET_SIZE == KIESELBROT_FIELDS * KIESELBROT_SHEET_SLOT_SIZE, "a sheet");
 _Static_assert(KIESELBROT_DRAFT_SIZE == KIESELBROT_FIELDS * KIESELBROT_DRAFT_SLOT_SIZE, "a draft");
@@ -710,6 +767,160 @@ static void ask_leave(void)
         expect(places[i] == 0, "a place past the last payment");
 }
 
+/* An entry of a field's list at a date is this text, or there is none. */
+static void expect_entry(uint8_t field, size_t place, uint32_t on, const char *text)
+{
+    const kieselbrot_entry_answer entry = kieselbrot_entry(field, place, on, given);
+    const size_t length = strlen(text);
+
+    expect(entry.number == KIESELBROT_OK && entry.length == length, "an entry's length");
+    expect(entry.first == (length < 1 ? 0 : (uint8_t)text[0]) &&
+               entry.second == (length < 2 ? 0 : (uint8_t)text[1]),
+           "an entry's bytes");
+}
+
+/* What completion may put into blank fields. */
+static void ask_entries(void)
+{
+    size_t statuses = 0;
+    kieselbrot_entry_answer refused;
+
+    while (kieselbrot_entry(101, statuses, UINT32_C(20240101), given).length != 0)
+        statuses++;
+    expect(statuses == 22, "the statuses of 1 January 2024");
+    expect_entry(101, 0, UINT32_C(20240101), "01");
+    expect_entry(101, 1, UINT32_C(20240101), "03");
+    expect_entry(101, 21, UINT32_C(20240101), "33");
+    expect_entry(101, 1, UINT32_C(20231231), "02");
+    expect_entry(101, 21, UINT32_C(20231231), "32");
+    expect_entry(101, SIZE_MAX, UINT32_C(20231231), "");
+    expect_entry(106, 2, date, "\xD3\xC2");
+    expect_entry(106, 11, date, "\xCA\xDD");
+    expect_entry(106, 12, date, "");
+    expect_entry(108, 1, date, "00");
+    expect_entry(22, 0, date, "0");
+    expect_entry(22, 1, date, "");
+    expect_entry(61, 0, date, "");
+
+    refused = kieselbrot_entry(16, 0, date, given);
+    expect(refused.number == KIESELBROT_UNKNOWN_FIELD && refused.length == 0 &&
+               refused.first == 0 && refused.second == 0,
+           "a field that is not listed");
+    expect(kieselbrot_entry(16, 0, 0, given).number == KIESELBROT_UNDATED, "no date");
+}
+
+/* Null pointers with length 0, in every place that takes a length. */
+static void lend_nothing(void)
+{
+    uint8_t draft[KIESELBROT_DRAFT_SIZE], sheet[KIESELBROT_SHEET_SIZE];
+    uint8_t buffer[KIESELBROT_MESSAGE_MAX], output[KIESELBROT_POOL_SIZE];
+    uint64_t shares[KIESELBROT_SHARE_PLACES];
+    uint32_t places[KIESELBROT_PAYMENT_PLACES];
+    const uint8_t priority = 1;
+    const uint32_t arrival = 1;
+    const uint64_t amount = 1;
+
+    expect(kieselbrot_fresh(draft, sizeof draft) == KIESELBROT_OK, "a fresh draft");
+    expect(kieselbrot_copy(draft, sizeof draft, sheet, sizeof sheet) == KIESELBROT_OK, "its sheet");
+    expect(kieselbrot_check(NULL, 0, date, given).number == KIESELBROT_MALFORMED, "no sheet");
+    expect(kieselbrot_read(NULL, 0).number == KIESELBROT_LENGTH, "no message");
+    expect(kieselbrot_write(1, KIESELBROT_ADVISER, 14, 1, NULL, 0, buffer, sizeof buffer).length ==
+               KIESELBROT_MESSAGE_HEAD_SIZE_1,
+           "no text: a blank");
+    expect(kieselbrot_write(1, KIESELBROT_ADVISER, 14, 1, NULL, 0, NULL, 0).number ==
+               KIESELBROT_OUTPUT,
+           "no buffer for a message");
+    expect(kieselbrot_fresh(NULL, 0) == KIESELBROT_MALFORMED, "no draft to make fresh");
+    expect(kieselbrot_post(draft, sizeof draft, NULL, 0).number == KIESELBROT_LENGTH,
+           "no message to post");
+    expect(kieselbrot_post(NULL, 0, NULL, 0).number == KIESELBROT_MALFORMED, "no draft to post to");
+    expect(kieselbrot_copy(draft, sizeof draft, NULL, 0) == KIESELBROT_OUTPUT, "no sheet to copy to");
+    expect(kieselbrot_copy(NULL, 0, sheet, sizeof sheet) == KIESELBROT_MALFORMED,
+           "no draft to copy");
+    expect(kieselbrot_pretest(NULL, 0).number == KIESELBROT_MALFORMED, "no draft to test");
+    expect(kieselbrot_complete(draft, sizeof draft, NULL, 0, date, given).number ==
+               KIESELBROT_OUTPUT,
+           "no sheet to complete");
+    expect(kieselbrot_complete(NULL, 0, NULL, 0, date, given).number == KIESELBROT_MALFORMED,
+           "no draft to complete");
+    expect(kieselbrot_take_up(draft, sizeof draft, NULL, 0, 0).number == KIESELBROT_OUTPUT,
+           "no sheet to take up from");
+    expect(kieselbrot_take_up(NULL, 0, sheet, sizeof sheet, 0).number == KIESELBROT_MALFORMED,
+           "no draft to take up");
+    expect(kieselbrot_write_lines(NULL, 0, date, given, NULL, 0).number == KIESELBROT_MALFORMED,
+           "lines of no sheet");
+    expect(kieselbrot_write_lines(sheet, sizeof sheet, date, given, NULL, 0).number ==
+               KIESELBROT_BROKEN,
+           "no buffer for lines");
+    expect(kieselbrot_read_lines(NULL, 0, sheet, sizeof sheet) == KIESELBROT_NO_LINES, "no block");
+    expect(kieselbrot_read_lines(NULL, 0, NULL, 0) == KIESELBROT_OUTPUT, "no sheet for a block");
+    expect(kieselbrot_shares(1, 365, NULL, 0, shares) == KIESELBROT_YEAR_PART, "no periods");
+    expect(kieselbrot_pool(NULL, 0, 1, output, sizeof output).number == KIESELBROT_REGISTER,
+           "no register");
+    expect(kieselbrot_pool(NULL, 0, 1, NULL, 0).number == KIESELBROT_OUTPUT, "no output");
+    expect(kieselbrot_leave(7, NULL, 0, NULL, 0, NULL, 0, places).left == 7, "no payments");
+    expect(kieselbrot_leave(7, &priority, 1, NULL, 0, NULL, 0, places).number == KIESELBROT_QUEUE,
+           "a priority alone");
+    expect(kieselbrot_leave(7, NULL, 0, &arrival, 1, &amount, 1, places).number ==
+               KIESELBROT_QUEUE,
+           "no priority");
+    expect(kieselbrot_broken_rules(NULL, 0, date, given).number == KIESELBROT_MALFORMED,
+           "the rules of no sheet");
+    uint64_t origins[KIESELBROT_FIELDS];
+    memset(origins, 0xEE, sizeof origins);
+    kieselbrot_origins(NULL, 0, origins);
+    for (size_t slot = 0; slot < KIESELBROT_FIELDS; slot++) {
+        expect(origins[slot] == 0, "the origins in no input");
+    }
+}
+
+/* All rules that the completed sheet breaks with another status, and none as it is. */
+static void ask_broken_rules(const uint8_t *sheet)
+{
+    uint8_t other[KIESELBROT_SHEET_SIZE];
+
+    memcpy(other, sheet, sizeof other);
+    kieselbrot_broken_rules_answer broken =
+        kieselbrot_broken_rules(other, sizeof other, date, given);
+    expect(broken.number == KIESELBROT_OK && broken.rules == 0, "no broken rule");
+    memcpy(other + 6 * KIESELBROT_SHEET_SLOT_SIZE + 1, "31", 2);
+    broken = kieselbrot_broken_rules(other, sizeof other, date, given);
+    printf("status 31: rules 0x%" PRIx64 "\n", broken.rules);
+    expect(broken.number == KIESELBROT_OK &&
+               broken.rules == (UINT64_C(1) << 20 | UINT64_C(1) << 21),
+           "rules 20 and 21");
+    broken = kieselbrot_broken_rules(other, sizeof other - 1, 0, given);
+    expect(broken.number == KIESELBROT_MALFORMED && broken.rules == 0, "1 before 12");
+    broken = kieselbrot_broken_rules(other, sizeof other, 0, given);
+    expect(broken.number == KIESELBROT_UNDATED && broken.rules == 0, "no date");
+}
+
+/* Which of the order's messages, end to end, each slot holds. */
+static void ask_origins(void)
+{
+    uint8_t input[KIESELBROT_MESSAGE_MAX * sizeof order / sizeof order[0]];
+    uint64_t places[KIESELBROT_FIELDS], expected[KIESELBROT_FIELDS] = {0};
+    size_t length = 0;
+
+    for (size_t i = 0; i < sizeof order / sizeof order[0]; i++) {
+        length += kieselbrot_write(1, KIESELBROT_ADVISER, order[i].field, order[i].revision,
+                                   (const uint8_t *)order[i].text, strlen(order[i].text),
+                                   input + length, sizeof input - length)
+                      .length;
+        for (size_t slot = 0; slot < KIESELBROT_FIELDS; slot++) {
+            if (fields[slot] == order[i].field && order[i].standing == 'n') {
+                expected[slot] = i + 1;
+            }
+        }
+    }
+    memset(places, 0xEE, sizeof places);
+    kieselbrot_origins(input, length, places);
+    expect(memcmp(places, expected, sizeof places) == 0, "the origins");
+    /* Field 104 has slot 9; its sixth message stands over the seventh, which is older. */
+    printf("field 104 is from message %" PRIu64 "\n", places[9]);
+    expect(places[9] == 6, "the origin of 104");
+}
+
 int main(void)
 {
     uint8_t draft[KIESELBROT_DRAFT_SIZE];
@@ -741,15 +952,19 @@ int main(void)
     const kieselbrot_check_answer checked = kieselbrot_check(sheet, sizeof sheet, date, given);
     printf("class %c\n", checked.class_);
     expect(checked.number == KIESELBROT_OK && checked.class_ == 'A', "the completed sheet");
+    ask_broken_rules(sheet);
+    ask_origins();
     write_as_client(draft);
     date_back(draft);
     take_up(draft);
+    ask_entries();
     write_lines(sheet);
     ask_charges();
     ask_parts();
     ask_shares();
     ask_pool();
     ask_leave();
+    lend_nothing();
 
     return failures != 0;
 }

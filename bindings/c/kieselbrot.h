@@ -1,15 +1,20 @@
 /* Budget payment orders under 107n: field messages, the draft, the rules,
- * completion, taking up part of what it proposes, MT103 lines, the bank's charge, part of
- * a year, the register of an order, and which payments leave first.
+ * completion and its lists, taking up part of what it proposes, MT103 lines, the bank's
+ * charge, part of a year, the register of an order, and which payments leave first.
  *
  * The functions are proved: each one's answer, and every buffer that it is lent,
  * equals a definition, for all inputs. They are total: buffers of any length may
  * be lent, none is kept, nothing is allocated and no byte outside is touched. A
- * buffer that is written must not overlap another argument. A pointer must not
- * be null, not even with length 0.
+ * buffer that is written must not overlap another argument. A pointer may be null
+ * where its length is 0, as that of an empty C++ vector is; example.c tries it for
+ * every function and argument. The pointers to 12 and to 64 places must not be null.
+ *
+ * Every function may be called from several threads at once, as long as no two
+ * calls share a lent buffer that one of them writes: nothing else is written.
  *
  * Each answer has a number: 0 for success, else why it is refused. A refusal
- * changes no buffer. Values that do not belong to an answer are 0.
+ * changes no buffer. Values that do not belong to an answer are 0. Answers may have
+ * padding, whose bytes are any: compare fields, not memory.
  *
  * Field, status and rule numbers are those of the form and of document 01. Texts
  * are bytes of Windows-1251, 0 to 25 of them; the empty text is a blank. Amounts
@@ -130,7 +135,8 @@ extern "C" {
 #define KIESELBROT_BALANCE_MAX UINT64_C(1000000000000000)
 
 /* The numbers of the answers, in the order in which they are tested; 12 comes just
- * before 8, 13 just before 4, a part of 2 after 3, and for write_lines 7 comes last. */
+ * before 8 and, for entry, before 4, 13 just before 4, a part of 2 after 3, and for
+ * write_lines 7 comes last. */
 enum {
     KIESELBROT_OK = 0,
     KIESELBROT_MALFORMED = 1,     /* draft or sheet malformed; for fresh, size not 465 */
@@ -150,9 +156,9 @@ enum {
     KIESELBROT_NO_FILLING = 10,   /* no filling keeps the rules */
     KIESELBROT_NO_LINES = 11,     /* for write_lines, a sheet of class B or O; for read_lines, a
                                      block that is none of these lines */
-    KIESELBROT_UNDATED = 12,      /* for check, completion and write_lines, an order date or an
-                                     entry of the record that is no Gregorian date of the years
-                                     1900 to 2099, or an order date before 20230925 */
+    KIESELBROT_UNDATED = 12,      /* for check, completion, write_lines and entry, an order date
+                                     or an entry of the record that is no Gregorian date of the
+                                     years 1900 to 2099, or an order date before 20230925 */
     KIESELBROT_UNKNOWN_PARTY = 13, /* party not 1 or 2; for write, also the client in version 1 */
     KIESELBROT_TARIFF = 14,       /* for charge, an argument out of range or a least above the
                                      greatest */
@@ -186,6 +192,21 @@ typedef struct {
     uint8_t rule;   /* with 8: the first broken rule, 1 to 35 */
     uint8_t class_; /* accepted: 'A', 'B' (budget payments) or 'O' (ordinary) */
 } kieselbrot_check_answer;
+
+/* The answer of asking for all broken rules. */
+typedef struct {
+    uint8_t number; /* 0, 1 or 12 */
+    uint64_t rules; /* with 0: bit n is set exactly if the sheet breaks rule n, 1 to 35 */
+} kieselbrot_broken_rules_answer;
+
+/* The answer of asking for an entry of a list. The text is the first `length` of first and
+ * second. */
+typedef struct {
+    uint8_t number; /* 0, 12 or 4 */
+    uint8_t length; /* how many bytes the entry has, 1 or 2; 0 where there is none */
+    uint8_t first;
+    uint8_t second;
+} kieselbrot_entry_answer;
 
 /* The answer of reading a message. The text is `length` bytes of the message,
  * from place `text` on up to its end. */
@@ -290,6 +311,22 @@ typedef struct {
 kieselbrot_check_answer kieselbrot_check(const uint8_t *sheet, size_t sheet_len, uint32_t date,
                                          kieselbrot_record record);
 
+/* Tells all rules that a sheet breaks, where a check names the first of them. The set is
+ * empty exactly if a check accepts the sheet; else the first of it in the order of
+ * testing, in which 22 stands ahead of 21, is the rule that a check names. A rule is
+ * judged by itself, whatever the others say of the texts that it reads; for an ordinary
+ * payment only rules 1 to 4 are. Refused in this order: 1, 12. */
+kieselbrot_broken_rules_answer kieselbrot_broken_rules(const uint8_t *sheet, size_t sheet_len,
+                                                       uint32_t date, kieselbrot_record record);
+
+/* Tells an entry of a field's list in completion: what a blank field is filled with, by its
+ * place from 0. The list of 101 is the statuses that the order's date allows, ascending;
+ * that of 106 "0", "00" and the ten pairs of letters in rule 15's order; those of 108 and
+ * 109 are "0" and "00"; those of 22, 60, 102, 104, 105 and 107 "0"; the other fields have
+ * none. Refused in this order: 12, 4. */
+kieselbrot_entry_answer kieselbrot_entry(uint8_t field, size_t place, uint32_t date,
+                                         kieselbrot_record record);
+
 /* Reads a message of either version. Refused in this order: 2, 3, 2 for a length that its
  * version does not allow, 13, 4, 5. */
 kieselbrot_read_answer kieselbrot_read(const uint8_t *message, size_t message_len);
@@ -311,6 +348,15 @@ uint8_t kieselbrot_fresh(uint8_t *draft, size_t draft_len);
 kieselbrot_post_answer kieselbrot_post(uint8_t *draft, size_t draft_len, const uint8_t *message,
                                        size_t message_len);
 
+/* Tells of an input of messages, end to end, which message each slot holds after all of
+ * them were posted to a fresh draft: place i gets the number, from 1, of the message whose
+ * revision, party and text slot i holds, or 0 if none names its field. The input is cut as
+ * budgetorder does it: each message has 2 + L bytes, or what is left if that is less, and
+ * after one that is refused with 2 nothing is read. Messages that are refused, or that
+ * change nothing, are counted, too. All fifteen places are written. */
+void kieselbrot_origins(const uint8_t *input, size_t input_len,
+                        uint64_t places[KIESELBROT_FIELDS]);
+
 /* Copies a draft's texts to a sheet, whatever that held, without the revisions and
  * parties. Returns the number. */
 uint8_t kieselbrot_copy(const uint8_t *draft, size_t draft_len, uint8_t *sheet, size_t sheet_len);
@@ -318,7 +364,8 @@ uint8_t kieselbrot_copy(const uint8_t *draft, size_t draft_len, uint8_t *sheet, 
 /* Tests a draft ahead of completion. Where it names a rule, completing the draft
  * into any sheet buffer of the right size is refused with 10 and the count of all
  * fillings, at every date and record that 12 does not refuse; it names none exactly
- * when every filling keeps all twelve rules. */
+ * when every filling keeps all twelve rules. The number is 0 where it names a rule,
+ * too: ask the answer's `rule`. Refused in this order: 1, 8, 9. */
 kieselbrot_pretest_answer kieselbrot_pretest(const uint8_t *draft, size_t draft_len);
 
 /* Completes a draft: writes the first filling that keeps all rules to the sheet,

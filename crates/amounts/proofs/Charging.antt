@@ -1,6 +1,6 @@
 -- What a charge promises, by its definition, and the ways through `charge`. Assumes nothing.
 use mathlib.Core.Path.{_≡_, refl, sym, ap, _∙_, subst}
-use mathlib.Core.Bool.{Bool, true, false, not, cond, _&&_}
+use mathlib.Core.Bool.{Bool, true, false, not, cond, _&&_, true≢false}
 use mathlib.Core.List.{[], _∷_}
 use Prim.Native.Nat.{ℕ, _*_, _≤_}
 use native.Mathlib.Nat.{mul-le-mul, mul-le-mul-right}
@@ -8,11 +8,14 @@ use native.Mathlib.Omega.{arith}
 use borrow.Author.Tests.{leb-true, le-leb, ltb-true, ltb-false, not-false}
 use lib.Dec.{leb, ltb}
 use Rattle.texts.specs.Answers.{success, numberOf}
+use Rattle.texts.specs.declared.answers.Refusal.{Refusal}
 use Rattle.texts.proofs.Bools.{both, and2}
 use Rattle.texts.proofs.Refusals.{none-of, succeeded, Way, way-out}
 use Rattle.amounts.specs.Amount.{mostKopecks, isAmount}
 use Rattle.amounts.specs.Charge.{chargeable, rounded, raisedTo, loweredTo, limited, chargeTests, charging, chargeAnswer, InRange, IsCharge, Charges}
+use Rattle.amounts.specs.declared.amount.Kopecks.{Kopecks}
 use Rattle.amounts.specs.declared.charge.Charged.{Charged}
+use Rattle.amounts.specs.declared.charge.Charged.the-variants.{Made, Refused}
 use Rattle.amounts.proofs.Ranges.{sole, no-number, amount-is, is-amount}
 
 -- the product fits in 64 bits, and so does what is added
@@ -111,6 +114,19 @@ module _ (a r l g : ℕ) where
       let z : c ≡ limited l g (rounded a r) = cc (q .1) in
       (in-range (not-false _ (none-of (chargeTests a r l g) (q .0) .0)), z)
 
+  -- a charge that is made, and a refusal
+  holds-by : (x : Charged) → chargeAnswer x ≡ charging a r l g → (c : Kopecks) → x ≡ Made c → InRange a r l g × IsCharge a r l g (c .0)
+  unfolding chargeAnswer
+  holds-by x e c h =
+      let q = made-of (c .0) (sym e ∙ ap chargeAnswer h) in
+      (q .0, subst (IsCharge a r l g) (sym (q .1)) (is-charge (q .0)))
+
+  number-by : (x : Charged) → chargeAnswer x ≡ charging a r l g → (n : Refusal) → x ≡ Refused n → (n .0 ≡ 14) × (InRange a r l g → ⊥)
+  unfolding charging chargeTests chargeAnswer
+  number-by x e n h =
+      let q = sole (chargeable a r l g) 14 (n .0) _ [] (sym e ∙ ap chargeAnswer h) in
+      (q .0, λ i. true≢false (sym (range-in i) ∙ q .1))
+
   -- the promise, from the equation that the code is proved to meet
   charges-by : (x : Charged) → chargeAnswer x ≡ charging a r l g → Charges a r l g x
   unfolding charging chargeTests
@@ -119,6 +135,8 @@ module _ (a r l g : ℕ) where
     exactly = (λ z. in-range (no-number (chargeable a r l g) 14 _ (λ k. omega arith) (ap numberOf (sym e) ∙ z)), λ i. ap numberOf (e ∙ answered i));
     refused = λ n vs h. sole (chargeable a r l g) 14 n _ vs (sym e ∙ h) .0;
     charged = λ c h. let q = made-of c (sym e ∙ h) in subst (IsCharge a r l g) (sym (q .1)) (is-charge (q .0));
+    holds = holds-by x e;
+    number = number-by x e;
     rises = λ m c d o h k.
         let p = made-of c (sym e ∙ h) .1 in
         let q = succeeded (limited l g (rounded m r) ∷ []) (d ∷ []) (chargeTests m r l g) (sym k) .1 in

@@ -1,6 +1,6 @@
 -- What a part promises, by its definition, and the ways through `part`. Assumes nothing.
 use mathlib.Core.Path.{_≡_, sym, ap, _∙_, subst}
-use mathlib.Core.Bool.{Bool, true, false, not, _&&_}
+use mathlib.Core.Bool.{Bool, true, false, not, _&&_, true≢false}
 use mathlib.Core.List.{[], _∷_}
 use Prim.Native.Nat.{ℕ, _+_, _*_, _≤_, _<_}
 use native.Mathlib.Nat.{mul-le-mul, div-add-mod', mod-lt}
@@ -8,11 +8,15 @@ use native.Mathlib.Omega.{arith}
 use borrow.Author.Tests.{leb-true, le-leb, not-false}
 use lib.Dec.{leb}
 use Rattle.texts.specs.Answers.{success, numberOf}
+use Rattle.texts.specs.declared.answers.Refusal.{Refusal}
 use Rattle.texts.proofs.Bools.{both, and2}
 use Rattle.texts.proofs.Refusals.{Way, way-out}
 use Rattle.amounts.specs.Amount.{mostKopecks, isAmount}
 use Rattle.amounts.specs.Part.{isYear, partable, quotientOf, remainderOf, partTests, parting, partAnswer, PartRange, IsPart, Parts}
+use Rattle.amounts.specs.declared.amount.Kopecks.{Kopecks}
+use Rattle.amounts.specs.declared.part.Remainder.{Remainder}
 use Rattle.amounts.specs.declared.part.Parted.{Parted}
+use Rattle.amounts.specs.declared.part.Parted.the-variants.{Made, Refused}
 use Rattle.amounts.proofs.Ranges.{sole, no-number, amount-is, is-amount, year-is, is-year, year-bound}
 
 -- the product fits in 64 bits
@@ -47,21 +51,39 @@ module _ (a d y : ℕ) where
   unfolding parting partTests
   in-range z = part-range (no-number (partable a d y) 15 _ (λ k. omega arith) z)
 
-  -- the promise, from the equation that the code is proved to meet
-  parts-by : (x : Parted) → partAnswer x ≡ parting a d y → Parts a d y x
-  unfolding parting partTests
-  parts-by x e = record {
-    answer = e;
-    exactly = (λ z. in-range (ap numberOf (sym e) ∙ z), λ i. ap numberOf (e ∙ parted-by i));
-    refused = λ n vs h. sole (partable a d y) 15 n _ vs (sym e ∙ h) .0;
-    parted = λ q r h.
-        let i = in-range (ap numberOf (sym e ∙ h)) in
-        let z : success (quotientOf a d y ∷ remainderOf a d y ∷ []) ≡ success (q ∷ r ∷ []) = sym (parted-by i) ∙ sym e ∙ h in
-        let zq : quotientOf a d y ≡ q = cc in
-        let zr : remainderOf a d y ≡ r = cc in
-        let p = is-part i in
-        record { exactly = (λ k. sym zq k * y + sym zr k) ∙ p .exactly; below = subst (λ (n : ℕ). n < y) zr (p .below) };
-  }
+  -- a part is of arguments in range
+  made-of : (q r : ℕ) → parting a d y ≡ success (q ∷ r ∷ []) → PartRange a d y × IsPart a d y q r
+  made-of q r h =
+      let i = in-range (ap numberOf h) in
+      let z : success (quotientOf a d y ∷ remainderOf a d y ∷ []) ≡ success (q ∷ r ∷ []) = sym (parted-by i) ∙ h in
+      let zq : quotientOf a d y ≡ q = cc in
+      let zr : remainderOf a d y ≡ r = cc in
+      let p = is-part i in
+      (i, record { exactly = (λ k. sym zq k * y + sym zr k) ∙ p .exactly; below = subst (λ (n : ℕ). n < y) zr (p .below) })
+
+  module _ (x : Parted) (e : partAnswer x ≡ parting a d y) where
+    -- a part that is made, and a refusal
+    holds-by : (q : Kopecks) (r : Remainder) → x ≡ Made q r → PartRange a d y × IsPart a d y (q .0) (r .0)
+    unfolding partAnswer
+    holds-by q r h = made-of (q .0) (r .0) (sym e ∙ ap partAnswer h)
+
+    number-by : (n : Refusal) → x ≡ Refused n → (n .0 ≡ 15) × (PartRange a d y → ⊥)
+    unfolding parting partTests partAnswer
+    number-by n h =
+        let q = sole (partable a d y) 15 (n .0) _ [] (sym e ∙ ap partAnswer h) in
+        (q .0, λ i. true≢false (sym (range-part i) ∙ q .1))
+
+    -- the promise, from the equation that the code is proved to meet
+    parts-by : Parts a d y x
+    unfolding parting partTests
+    parts-by = record {
+      answer = e;
+      exactly = (λ z. in-range (ap numberOf (sym e) ∙ z), λ i. ap numberOf (e ∙ parted-by i));
+      refused = λ n vs h. sole (partable a d y) 15 n _ vs (sym e ∙ h) .0;
+      parted = λ q r h. made-of q r (sym e ∙ h) .1;
+      holds = holds-by;
+      number = number-by;
+    }
 
   -- w is what `is_partable` answered
   pub ranged : (w : Bool) → w ≡ partable a d y → not w ≡ false → (a ≤ mostKopecks) × (d ≤ 366) × (0 < y) × (y ≤ 366)

@@ -1,6 +1,6 @@
 -- What shares promise, by their definition; the loops and the ways through `shares`. Assumes nothing.
 use mathlib.Core.Path.{_≡_, refl, sym, ap, _∙_, subst}
-use mathlib.Core.Bool.{Bool, true, false, not, _&&_}
+use mathlib.Core.Bool.{Bool, true, false, not, _&&_, true≢false}
 use mathlib.Core.List.{List, [], _∷_, _++_}
 use Prim.Native.Nat.{ℕ, zero, suc, _+_, _-_, _*_, _/_, _≤_, _<_}
 use native.Mathlib.Nat.{zero-add, mul-zero, zero-div, mul-le-mul-left, le-div-iff-mul-le, div-mul-le-self, mul-div-cancel}
@@ -12,12 +12,14 @@ use lib.ListN.{length, take, drop, getD, set, replicate, length-append, length-r
 use lib.Seq.{take-all, drop-cons, sets, sets-eq, getD-append-add}
 use Rattle.texts.specs.Texts.{every}
 use Rattle.texts.specs.Answers.{success, refusal, numberOf}
+use Rattle.texts.specs.declared.answers.Refusal.{Refusal}
 use Rattle.texts.proofs.Bools.{both, and2}
 use Rattle.texts.proofs.Refusals.{Way, way-out}
 use Rattle.amounts.specs.Amount.{mostKopecks, isAmount}
 use Rattle.amounts.specs.Part.{isYear, quotientOf}
 use Rattle.amounts.specs.Shares.{total, allSome, arePeriods, sharable, sharesFrom, placesOf, shareTests, sharing, sharedTo, shareAnswer, ShareRange, AreShares, Shares}
 use Rattle.amounts.specs.declared.shares.Shared.{Shared}
+use Rattle.amounts.specs.declared.shares.Shared.the-variants.{Made, Refused}
 use Rattle.amounts.proofs.Ranges.{sole, no-number, amount-is, is-amount, year-is, is-year, year-bound}
 
 zeros-total : (k n : ℕ) → total (take k (replicate n 0)) ≡ 0
@@ -164,12 +166,22 @@ module _ (a y : ℕ) (ps : List ℕ) where
         let k : sharedTo a y ps b ≡ placesOf a y ps = rw s in
         subst (AreShares a y ps) (sym (he ∙ k)) (are-shares a y (year-bound y (i .years) .0) ps (i .last) (i .whole))
 
-    refused-by : (n : ℕ) (vs : List ℕ) → shareAnswer x ≡ refusal n vs → (n ≡ 15) × (e ≡ b)
+    refused-by : (n : ℕ) (vs : List ℕ) → shareAnswer x ≡ refusal n vs → (n ≡ 15) × (ShareRange a y ps → ⊥) × (e ≡ b)
     unfolding sharing sharedTo shareTests
-    refused-by n vs h = let q = sole (sharable a y ps) 15 n [] vs (sym ha ∙ h) in (q .0, he ∙ simp (q .1))
+    refused-by n vs h =
+        let q = sole (sharable a y ps) 15 n [] vs (sym ha ∙ h) in
+        (q .0, λ i. true≢false (sym (range-share i) ∙ q .1), he ∙ simp (q .1))
+
+    holds-by : x ≡ Made → ShareRange a y ps × AreShares a y ps e
+    unfolding shareAnswer
+    holds-by h = let k = ap shareAnswer h in (share-range (in-range (ap numberOf k)), shared-by k)
+
+    number-by : (n : Refusal) → x ≡ Refused n → (n .0 ≡ 15) × (ShareRange a y ps → ⊥) × (e ≡ b)
+    unfolding shareAnswer
+    number-by n h = refused-by (n .0) [] (ap shareAnswer h)
 
     shares-by : Shares a y ps b x e
-    shares-by = record { answer = ha; places = he; exactly = (λ z. share-range (in-range z), accepted); refused = refused-by; shared = shared-by }
+    shares-by = record { answer = ha; places = he; exactly = (λ z. share-range (in-range z), accepted); refused = λ n vs h. let q = refused-by n vs h in (q .0, q .2); shared = shared-by; holds = holds-by; number = number-by }
 
   -- w is what `is_sharable` answered
   pub asked : (w : Bool) → w ≡ sharable a y ps → not w ≡ false → (isAmount a ≡ true) × (isYear y ≡ true) × (arePeriods y ps ≡ true)

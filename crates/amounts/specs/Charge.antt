@@ -6,7 +6,9 @@ use mathlib.Core.List.{List, [], _∷_}
 use Prim.Native.Nat.{ℕ, _+_, _*_, _/_, _≤_, _<_}
 use lib.Dec.{leb, ltb}
 use Rattle.texts.specs.Answers.{Answer, success, refusal, numberOf, Test, _refuses_, answerBy}
+use Rattle.texts.specs.declared.answers.Refusal.{Refusal}
 use Rattle.amounts.specs.Amount.{mostKopecks, isAmount}
+use Rattle.amounts.specs.declared.amount.Kopecks.{Kopecks}
 use Rattle.amounts.specs.declared.charge.Charged.{Charged}
 use Rattle.amounts.specs.declared.charge.Charged.the-variants.{Made, Refused}
 
@@ -69,5 +71,8 @@ pub record Charges (amount rate least greatest : ℕ) (x : Charged) : Type 0 whe
   pub exactly : (numberOf (chargeAnswer x) ≡ 0) ↔ InRange amount rate least greatest
   pub refused : (n : ℕ) (vs : List ℕ) → chargeAnswer x ≡ refusal n vs → n ≡ 14
   pub charged : (c : ℕ) → chargeAnswer x ≡ success (c ∷ []) → IsCharge amount rate least greatest c
+  -- the same of each case itself, whatever numbers stand for it
+  pub holds : (c : Kopecks) → x ≡ Made c → InRange amount rate least greatest × IsCharge amount rate least greatest (c .0)
+  pub number : (n : Refusal) → x ≡ Refused n → (n .0 ≡ 14) × (InRange amount rate least greatest → ⊥)
   -- it never falls when the amount rises
   pub rises : (more c d : ℕ) → amount ≤ more → chargeAnswer x ≡ success (c ∷ []) → charging more rate least greatest ≡ success (d ∷ []) → c ≤ d

@@ -6,7 +6,10 @@ use mathlib.Core.Logic.{_⊎_, _↔_}
 use Prim.Native.Nat.{ℕ, _+_, _*_, _/_, _%_, _≤_, _<_}
 use lib.Dec.{leb, eqb}
 use Rattle.texts.specs.Answers.{Answer, success, refusal, numberOf, Test, _refuses_, answerBy}
+use Rattle.texts.specs.declared.answers.Refusal.{Refusal}
 use Rattle.amounts.specs.Amount.{mostKopecks, isAmount}
+use Rattle.amounts.specs.declared.amount.Kopecks.{Kopecks}
+use Rattle.amounts.specs.declared.part.Remainder.{Remainder}
 use Rattle.amounts.specs.declared.part.Parted.{Parted}
 use Rattle.amounts.specs.declared.part.Parted.the-variants.{Made, Refused}
 
@@ -56,3 +59,6 @@ pub record Parts (amount days year : ℕ) (x : Parted) : Type 0 where
   pub exactly : (numberOf (partAnswer x) ≡ 0) ↔ PartRange amount days year
   pub refused : (n : ℕ) (vs : List ℕ) → partAnswer x ≡ refusal n vs → n ≡ 15
   pub parted : (q r : ℕ) → partAnswer x ≡ success (q ∷ r ∷ []) → IsPart amount days year q r
+  -- the same of each case itself, whatever numbers stand for it
+  pub holds : (q : Kopecks) (r : Remainder) → x ≡ Made q r → PartRange amount days year × IsPart amount days year (q .0) (r .0)
+  pub number : (n : Refusal) → x ≡ Refused n → (n .0 ≡ 15) × (PartRange amount days year → ⊥)

@@ -8,6 +8,7 @@ use lib.Dec.{leb, eqb}
 use lib.ListN.{length, take, getD, replicate}
 use Rattle.texts.specs.Texts.{every}
 use Rattle.texts.specs.Answers.{Answer, success, refusal, numberOf, Test, _refuses_, answerBy, bufferBy}
+use Rattle.texts.specs.declared.answers.Refusal.{Refusal}
 use Rattle.amounts.specs.Amount.{mostKopecks, isAmount}
 use Rattle.amounts.specs.Part.{isYear, quotientOf}
 use Rattle.amounts.specs.declared.shares.Shared.{Shared}
@@ -85,3 +86,6 @@ pub record Shares (amount year : ℕ) (ps b : List ℕ) (x : Shared) (e : List �
   pub exactly : (numberOf (shareAnswer x) ≡ 0) ↔ ShareRange amount year ps
   pub refused : (n : ℕ) (vs : List ℕ) → shareAnswer x ≡ refusal n vs → (n ≡ 15) × (e ≡ b)
   pub shared : shareAnswer x ≡ success [] → AreShares amount year ps e
+  -- the same of each case itself, whatever number stands for it
+  pub holds : x ≡ Made → ShareRange amount year ps × AreShares amount year ps e
+  pub number : (n : Refusal) → x ≡ Refused n → (n .0 ≡ 15) × (ShareRange amount year ps → ⊥) × (e ≡ b)

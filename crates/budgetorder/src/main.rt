@@ -18,4 +18,18 @@ fn main() {
             b"budgetorder: the report could not be written\n",
         );
     }
+    if n == INPUT_SIZE {
+        tell_unread();
+    }
+}
+
+// Says on standard error that more input follows; none of it is read as messages.
+fn tell_unread() {
+    let mut next = [0u8; 1];
+    if io::read_full(STDIN_FILENO, &mut next) == 1 {
+        io::write_all(
+            STDERR_FILENO,
+            b"budgetorder: input past 32,768 bytes was not read\n",
+        );
+    }
 }

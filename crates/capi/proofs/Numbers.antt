@@ -13,7 +13,8 @@ use Rattle.texts.specs.Texts.{between, same}
 use Rattle.texts.specs.Answers.{Answer, success, refusal, numberOf, Test, test, answerBy}
 use Rattle.rules.specs.Rules.{classOf}
 use Rattle.sheets.specs.declared.dates.Dates.{Dates}
-use Rattle.rules.specs.Verdicts.{className, verdictAnswer, checkTests, checked, Checked}
+use Rattle.rules.specs.Verdicts.{className, verdictAnswer, checkTests, checked}
+use Rattle.rules.specs.Checked.{Checked}
 use Rattle.rules.specs.declared.class.Class.{Class}
 use Rattle.rules.specs.declared.class.Class.the-variants.{A, B, O}
 use Rattle.rules.specs.declared.check.Verdict.{Verdict}
@@ -33,7 +34,7 @@ use Rattle.drafts.specs.declared.draft.Begun.{Begun}
 use Rattle.drafts.specs.declared.draft.Posted.{Posted}
 use Rattle.drafts.specs.declared.draft.Copied.{Copied}
 use Rattle.drafts.proofs.Messages.{readable-means, reading-is, text-at, text-length}
-use Rattle.orders.specs.Complete.{completeAnswer, sheetTests, completeTests, completing}
+use Rattle.orders.specs.Complete.{completeAnswer, sheetTests, completeTests, completing, completed}
 use Rattle.orders.specs.Whole.{Completes}
 use Rattle.orders.specs.Skipping.{skippedOf, withSkipped, quickening, quickAnswer, Quickens}
 use Rattle.orders.specs.declared.quick.Quickened.{Quickened}
@@ -84,16 +85,16 @@ pick : (P : Answer → Type 0) (b : Bool) {x y : Answer} → P x → P y → P (
 pick P true p q = p
 pick P false p q = q
 
-abbrev Each : (Answer → Type 0) → List Test → Type 0
+abbrev pub Each : (Answer → Type 0) → List Test → Type 0
 Each P [] = Unit
 Each P (test b n ws ∷ ts) = P (refusal n ws) × Each P ts
 
-tested : (P : Answer → Type 0) (ts : List Test) (vs : List ℕ) → P (success vs) → Each P ts → P (answerBy ts vs)
+pub tested : (P : Answer → Type 0) (ts : List Test) (vs : List ℕ) → P (success vs) → Each P ts → P (answerBy ts vs)
 tested P [] vs s q = s
 tested P (test b n ws ∷ ts) vs s q = pick P b (q .0) (tested P ts vs s (q .1))
 
 -- the answer a is what is read in its numbers
-abbrev Back : {X : Type 0} → (Answer → X) → (X → Answer) → Answer → Type 0
+abbrev pub Back : {X : Type 0} → (Answer → X) → (X → Answer) → Answer → Type 0
 Back num of a = of (num a) ≡ a
 
 read-back : (t m : List ℕ) → Back (readNumbers t) readOf (readingOf m)
@@ -188,11 +189,25 @@ lines-read-back : (b o : List ℕ) → Back numberOf numberAnswer (readingLines 
 unfolding readingLines lineReadTests numberAnswer numbered
 lines-read-back b o = tested (Back numberOf numberAnswer) (lineReadTests b o) _ refl (search depth 12)
 
--- ---- what each function returned: v is what it called, and k the case of v in an arm
+-- ---- what each function returned: v is what it called, and k the case of v in an arm; a clause over the answer from what it has there
+
+-- what was returned holds the numbers of the answer, whichever that is
+pub at : {X : Type 0} (num : Answer → X) {r : X} {a b : Answer} → r ≡ num a → a ≡ b → r ≡ num b
+at num q e = q ∙ ap num e
 
 module _ (D E : Dates) (z : E ≡ D) (s : List ℕ) (v : Verdict) (p : Checked E s v) (k : Verdict) (e : v ≡ k) (r : Check) (q : r ≡ checkNumbers (verdictAnswer k)) where
+  check-numbers : r ≡ checkNumbers (checked D s)
+  check-numbers = cc
+
   pub checked-is : CheckReturns D s r
-  checked-is = record { numbers = cc; answer = cc (check-back D s) }
+  unfolding checkNumbers
+  checked-is = record {
+    numbers = check-numbers;
+    answer = ap checkOf check-numbers ∙ check-back D s;
+    made = λ c. at checkNumbers check-numbers;
+    broken = λ f n. at checkNumbers check-numbers;
+    refused = λ n. at checkNumbers check-numbers;
+  }
 
 -- the same, where the class is matched in its turn
 pub accepted-is : (D E : Dates) → E ≡ D → (s : List ℕ) (v : Verdict) → Checked E s v → (c k : Class) → v ≡ Accepted c → c ≡ k → (r : Check) → r ≡ checkNumbers (verdictAnswer (Accepted k)) → CheckReturns D s r
@@ -221,7 +236,15 @@ module _ (m : List ℕ) (v : Reading) (p : Reads m v) (k : Reading) (e : v ≡ k
     within-is = omega (arith, text-is, text-length m h)
 
   pub read-is : ReadReturns m r
-  read-is = record { numbers = numbers-are; answer = cc (read-back t m); part = part-is; within = within-is }
+  unfolding readNumbers
+  read-is = record {
+    numbers = numbers-are;
+    answer = ap readOf numbers-are ∙ read-back (messageText m) m;
+    part = part-is;
+    within = within-is;
+    made = λ w p f v. at (readNumbers (messageText m)) numbers-are;
+    refused = λ n vs. at (readNumbers (messageText m)) numbers-are;
+  }
 
 -- the same, where the place of the text was asked of the version
 pub found-read : (m : List ℕ) (v : Reading) → Reads m v → (w : Version) (f : Field) (u : Revision) → v ≡ Message w f u → (t : List ℕ) → t ≡ messageText m → (s : ℕ) → s ≡ headSize (w .0)
@@ -231,27 +254,86 @@ found-read m v p w f u e t g s h =
     read-is m v p (Message w f u) e t g _ (λ i. record { number = 0; version = w .0; party = u .party .0; field = f .0; revision = u .number; text = h i; length = length t })
 
 module _ (w p f n : ℕ) (t b : List ℕ) (v : Written) (x : List ℕ) (P : Writes w f (n by p) t b v x) (k : Written) (e : v ≡ k) (r : Write) (q : r ≡ writeNumbers (writeAnswer k)) where
+  write-numbers : r ≡ writeNumbers (writingOf w f (n by p) t b)
+  write-numbers = cc
+
   pub written-is : WriteReturns w p f n t b r x
-  written-is = record { numbers = cc; answer = cc (write-back w f (n by p) t b); buffer = P .buffer }
+  unfolding writeNumbers
+  written-is = record {
+    numbers = write-numbers;
+    answer = ap writeOf write-numbers ∙ write-back w f (n by p) t b;
+    buffer = P .buffer;
+    made = λ k. at writeNumbers write-numbers;
+    refused = λ k vs. at writeNumbers write-numbers;
+  }
 
 module _ (d : List ℕ) (v : Begun) (x : List ℕ) (p : Freshens d v x) (k : Begun) (e : v ≡ k) (r : ℕ) (q : r ≡ numberOf (beginAnswer k)) where
+  fresh-number : r ≡ numberOf (beginningOf d)
+  fresh-number = cc
+
   pub fresh-is : FreshReturns d r x
-  fresh-is = record { numbers = cc; answer = cc (fresh-back d); draft = p .draft }
+  fresh-is = record {
+    numbers = fresh-number;
+    answer = ap numberAnswer fresh-number ∙ fresh-back d;
+    draft = p .draft;
+    made = λ vs. at numberOf fresh-number;
+    refused = λ n vs. at numberOf fresh-number;
+  }
 
 module _ (d m : List ℕ) (v : Posted) (x : List ℕ) (p : Posts d m v x) (k : Posted) (e : v ≡ k) (r : Post) (q : r ≡ postNumbers (postAnswer k)) where
+  post-numbers : r ≡ postNumbers (postingOf d m)
+  post-numbers = cc
+
   pub posted-is : PostReturns d m r x
-  posted-is = record { numbers = cc; answer = cc (post-back d m); draft = p .draft }
+  unfolding postNumbers
+  posted-is = record {
+    numbers = post-numbers;
+    answer = ap postOf post-numbers ∙ post-back d m;
+    draft = p .draft;
+    newer = at postNumbers post-numbers;
+    same = at postNumbers post-numbers;
+    older = at postNumbers post-numbers;
+    refused = λ n vs. at postNumbers post-numbers;
+  }
 
 module _ (d s : List ℕ) (v : Copied) (x : List ℕ) (p : Copies d s v x) (k : Copied) (e : v ≡ k) (r : ℕ) (q : r ≡ numberOf (copyAnswer k)) where
+  copy-number : r ≡ numberOf (copyingOf d s)
+  copy-number = cc
+
   pub copied-is : CopyReturns d s r x
-  copied-is = record { numbers = cc; answer = cc (copy-back d s); sheet = p .sheet }
+  copied-is = record {
+    numbers = copy-number;
+    answer = ap numberAnswer copy-number ∙ copy-back d s;
+    sheet = p .sheet;
+    made = λ vs. at numberOf copy-number;
+    refused = λ n vs. at numberOf copy-number;
+  }
 
 module _ (d t : List ℕ) (set : ℕ) (v : TakenUp) (x : List ℕ) (p : (D : Dates) → TakesUp D d t set v x) (k : TakenUp) (e : v ≡ k) (r : TakeUp) (q : r ≡ takeNumbers (takeAnswer k)) where
+  take-numbers : (D : Dates) → r ≡ takeNumbers (taking D d t set)
+  take-numbers D = cc (p D .answer)
+
   pub taken-is : (D : Dates) → TakeUpReturns D d t set r x
-  taken-is D = record { numbers = cc (p D .answer); answer = cc (p D .answer, take-back D d t set); draft = p D .draft }
+  unfolding takeNumbers
+  taken-is D = record {
+    numbers = take-numbers D;
+    answer = ap takeOf (take-numbers D) ∙ take-back D d t set;
+    draft = p D .draft;
+    made = λ vs. at takeNumbers (take-numbers D);
+    unfit = λ f. at takeNumbers (take-numbers D);
+    refused = λ n. at takeNumbers (take-numbers D);
+  }
 
 abbrev noComplete : ℕ → Complete
 noComplete n = record { number = n; field = 0; rule = 0; set = 0; ones = 0; count = 0; skipped = 0 }
+
+nothing-beside : (n : ℕ) → completeNumbers (refusal n []) ≡ noComplete n
+unfolding completeNumbers
+nothing-beside n = go (eqb n 8)
+  where
+    go : (c : Bool) → cond c (noComplete n) (noComplete n) ≡ noComplete n
+    go true = refl
+    go false = refl
 
 module _ (D E : Dates) (z : E ≡ D) (d b : List ℕ) (v : Quickened) (x : List ℕ) (p : Quickens E d b v x) (k : Completed) (e : v .completed ≡ k) (r : Complete) (q : r ≡ completeNumbers (withSkipped (v .skipped) (completeAnswer k))) where
   numbers-complete : r ≡ completeNumbers (quickening D d b)
@@ -259,10 +341,15 @@ module _ (D E : Dates) (z : E ≡ D) (d b : List ℕ) (v : Quickened) (x : List 
   numbers-complete = q ∙ ap (λ (c : Completed). completeNumbers (withSkipped (v .skipped) (completeAnswer c))) (sym e) ∙ ap completeNumbers (p .answer) ∙ ap (λ (F : Dates). completeNumbers (quickening F d b)) z
 
   pub completed-is : CompleteReturns D d b r x
+  unfolding completeNumbers
   completed-is = record {
     numbers = numbers-complete;
     answer = ap completeOf numbers-complete ∙ complete-back D d b;
-    sheet = cc (p .completes .sheet);
+    sheet = p .completes .sheet ∙ ap (λ (F : Dates). completed F d b) z;
+    made = λ c set k j. at completeNumbers numbers-complete;
+    broken = λ f n. at completeNumbers numbers-complete;
+    impossible = λ c j. at completeNumbers numbers-complete;
+    refused = λ n e. at completeNumbers numbers-complete e ∙ nothing-beside n;
   }
 
 module _ (D E : Dates) (z : E ≡ D) (d b : List ℕ) (v : Quickened) (x : List ℕ) (p : Quickens E d b v x) where
@@ -280,44 +367,122 @@ module _ (D E : Dates) (z : E ≡ D) (d b : List ℕ) (v : Quickened) (x : List 
 
   pub complete-refused : (n : Refusal) → v .completed ≡ Refused n → CompleteReturns D d b (record { number = n .0; field = 0; rule = 0; set = 0; ones = 0; count = 0; skipped = 0 }) x
   unfolding withSkipped completeAnswer completeNumbers
-  complete-refused n e = completed-is D E z d b v x p (Refused n) e _ (sym (go (eqb (n .0) 8)))
-    where
-      go : (c : Bool) → cond c (noComplete (n .0)) (noComplete (n .0)) ≡ noComplete (n .0)
-      go true = refl
-      go false = refl
+  complete-refused n e = completed-is D E z d b v x p (Refused n) e _ (sym (nothing-beside (n .0)))
 
 module _ (d : List ℕ) (v : Pretested) (p : (D : Dates) → Pretests D d v) (k : Pretested) (e : v ≡ k) (r : Pretest) (q : r ≡ pretestNumbers (pretestAnswer k)) where
+  pretest-numbers : (D : Dates) → r ≡ pretestNumbers (pretesting D d)
+  pretest-numbers D = cc (p D .answer)
+
   pub pretested-is : (D : Dates) → PretestReturns D d r
-  pretested-is D = record { numbers = cc (p D .answer); answer = cc (p D .answer, pretest-back D d) }
+  unfolding pretestNumbers
+  pretested-is D = record {
+    numbers = pretest-numbers D;
+    answer = ap pretestOf (pretest-numbers D) ∙ pretest-back D d;
+    made = λ f n. at pretestNumbers (pretest-numbers D);
+    broken = λ f n. at pretestNumbers (pretest-numbers D);
+    refused = λ n. at pretestNumbers (pretest-numbers D);
+  }
 
 module _ (a p l g : ℕ) (v : Charged) (w : Charges a p l g v) (k : Charged) (e : v ≡ k) (r : Charge) (q : r ≡ chargeNumbers (chargeAnswer k)) where
+  charge-numbers : r ≡ chargeNumbers (charging a p l g)
+  charge-numbers = cc
+
   pub charged-is : ChargeReturns a p l g r
-  charged-is = record { numbers = cc; answer = cc (charge-back a p l g) }
+  unfolding chargeNumbers
+  charged-is = record {
+    numbers = charge-numbers;
+    answer = ap chargeOf charge-numbers ∙ charge-back a p l g;
+    made = λ c. at chargeNumbers charge-numbers;
+    refused = λ n vs. at chargeNumbers charge-numbers;
+  }
 
 module _ (a d y : ℕ) (v : Parted) (w : Parts a d y v) (k : Parted) (e : v ≡ k) (r : Part) (q : r ≡ partNumbers (partAnswer k)) where
+  part-numbers : r ≡ partNumbers (parting a d y)
+  part-numbers = cc
+
   pub parted-is : PartReturns a d y r
-  parted-is = record { numbers = cc; answer = cc (part-back a d y) }
+  unfolding partNumbers
+  parted-is = record {
+    numbers = part-numbers;
+    answer = ap partOf part-numbers ∙ part-back a d y;
+    made = λ c m. at partNumbers part-numbers;
+    refused = λ n vs. at partNumbers part-numbers;
+  }
 
 module _ (a y : ℕ) (ps b : List ℕ) (v : Shared) (x : List ℕ) (w : Shares a y ps b v x) (k : Shared) (e : v ≡ k) (r : ℕ) (q : r ≡ numberOf (shareAnswer k)) where
+  shares-number : r ≡ numberOf (sharing a y ps)
+  shares-number = cc
+
   pub shared-is : SharesReturns a y ps b r x
-  shared-is = record { numbers = cc; answer = cc (shares-back a y ps); places = w .places }
+  shared-is = record {
+    numbers = shares-number;
+    answer = ap numberAnswer shares-number ∙ shares-back a y ps;
+    places = w .places;
+    made = λ vs. at numberOf shares-number;
+    refused = λ n vs. at numberOf shares-number;
+  }
+
+abbrev differing : ℤ → Pool
+differing d = record { number = 17; lines = 0; difference = d }
 
 module _ (t : List ℕ) (a : ℕ) (o : List ℕ) (v : Pooled) (x : List ℕ) (w : Pools t a o v x) (k : Pooled) (e : v ≡ k) (r : Pool) (q : r ≡ poolNumbers (poolAnswer k)) where
-  pub pooled-is : PoolReturns t a o r x
-  pooled-is = record { numbers = cc; answer = cc (pool-back t a o); output = w .output }
+  pool-numbers : r ≡ poolNumbers (pooling t a o)
+  pool-numbers = cc
 
-pub differs-is : (t : List ℕ) (a : ℕ) (o : List ℕ) (v : Pooled) (x : List ℕ) → Pools t a o v x → (d : ℤ) → v ≡ Differs d → (r : Pool) → r ≡ record { number = 17; lines = 0; difference = d } → PoolReturns t a o r x
+  pub pooled-is : PoolReturns t a o r x
+  unfolding poolNumbers
+  pooled-is = record {
+    numbers = pool-numbers;
+    answer = ap poolOf pool-numbers ∙ pool-back t a o;
+    output = w .output;
+    made = λ n. at poolNumbers pool-numbers;
+    more = λ n e. at poolNumbers pool-numbers e ∙ ap differing (signed-of (pos n));
+    less = λ n e. at poolNumbers pool-numbers e ∙ ap differing (signed-of (negsuc n));
+    refused = λ n. at poolNumbers pool-numbers;
+  }
+
+pub differs-is : (t : List ℕ) (a : ℕ) (o : List ℕ) (v : Pooled) (x : List ℕ) → Pools t a o v x → (d : ℤ) → v ≡ Differs d → (r : Pool) → r ≡ differing d → PoolReturns t a o r x
 unfolding poolNumbers poolAnswer
-differs-is t a o v x w d e r q = pooled-is t a o v x w (Differs d) e r (q ∙ (λ i. record { number = 17; lines = 0; difference = sym (signed-of d) i }))
+differs-is t a o v x w d e r q = pooled-is t a o v x w (Differs d) e r (q ∙ ap differing (sym (signed-of d)))
 
 module _ (b : ℕ) (ps ns ks o : List ℕ) (v : Leaving) (x : List ℕ) (w : Leaves b ps ns ks o v x) (k : Leaving) (e : v ≡ k) (r : Leave) (q : r ≡ leaveNumbers (leaveAnswer k)) where
+  leave-numbers : r ≡ leaveNumbers (leaving b ps ns ks)
+  leave-numbers = cc
+
   pub left-is : LeaveReturns b ps ns ks o r x
-  left-is = record { numbers = cc; answer = cc (leave-back b ps ns ks); places = w .places }
+  unfolding leaveNumbers
+  left-is = record {
+    numbers = leave-numbers;
+    answer = ap leaveOf leave-numbers ∙ leave-back b ps ns ks;
+    places = w .places;
+    made = λ n s l. at leaveNumbers leave-numbers;
+    refused = λ n vs. at leaveNumbers leave-numbers;
+  }
 
 module _ (D E : Dates) (z : E ≡ D) (s o : List ℕ) (v : LinesWritten) (x : List ℕ) (w : WritesLines E s o v x) (k : LinesWritten) (e : v ≡ k) (r : Lines) (q : r ≡ linesNumbers (linesWrittenAnswer k)) where
+  lines-numbers : r ≡ linesNumbers (writingLines D s o)
+  lines-numbers = cc
+
   pub lines-written-is : WriteLinesReturns D s o r x
-  lines-written-is = record { numbers = cc; answer = cc (lines-back D s o); buffer = cc (w .buffer) }
+  unfolding linesNumbers
+  lines-written-is = record {
+    numbers = lines-numbers;
+    answer = ap linesFrom lines-numbers ∙ lines-back D s o;
+    buffer = cc (w .buffer);
+    made = λ n. at linesNumbers lines-numbers;
+    broken = λ f n. at linesNumbers lines-numbers;
+    refused = λ n. at linesNumbers lines-numbers;
+  }
 
 module _ (b o : List ℕ) (v : LinesRead) (x : List ℕ) (w : ReadsLines b o v x) (k : LinesRead) (e : v ≡ k) (r : ℕ) (q : r ≡ numberOf (linesReadAnswer k)) where
+  lines-number : r ≡ numberOf (readingLines b o)
+  lines-number = cc
+
   pub lines-read-is : ReadLinesReturns b o r x
-  lines-read-is = record { numbers = cc; answer = cc (lines-read-back b o); sheet = w .sheet }
+  lines-read-is = record {
+    numbers = lines-number;
+    answer = ap numberAnswer lines-number ∙ lines-read-back b o;
+    sheet = w .sheet;
+    made = λ vs. at numberOf lines-number;
+    refused = λ n vs. at numberOf lines-number;
+  }

@@ -1,2 +1,5 @@
 pub mod Numbers
 pub mod Promises
+pub mod AllBroken
+pub mod Origins
+pub mod Entry

@@ -1,5 +1,8 @@
 // The library for C and for what links like C. Each function forwards to a proved one, and gives document 01's numbers.
 ghost use Rattle.capi.specs.Promises.{CheckReturns, ReadReturns, WriteReturns, FreshReturns, PostReturns, CopyReturns, CompleteReturns, TakeUpReturns, PretestReturns, ChargeReturns, PartReturns, SharesReturns, PoolReturns, LeaveReturns, WriteLinesReturns, ReadLinesReturns};
+ghost use Rattle.capi.specs.AllBroken.{BrokenRulesReturns};
+ghost use Rattle.capi.specs.Origins.{OriginsReturns};
+ghost use Rattle.capi.specs.Entry.{EntryReturns};
 ghost use mathlib.Core.Path.{_≡_};
 ghost use Rattle.sheets.specs.declared.dates.Dates.{Dates};
 ghost use Rattle.capi.specs.Numbers.{datesOf};
@@ -18,10 +21,12 @@ use drafts::message::Written;
 use drafts::revision::Party;
 use drafts::revision::Revision;
 use orders::complete::Completed;
+use orders::entry::Listed;
 use orders::pretest::Pretested;
 use orders::take_up::TakenUp;
 use payments::leave::Leaving;
 use registers::pool::Pooled;
+use rules::all_broken::BrokenRules;
 use rules::check::Verdict;
 use rules::class::Class;
 use sheets::dates::Date;
@@ -36,6 +41,12 @@ pub struct Check {
     pub field: u8,
     pub rule: u8,
     pub class: u8,
+}
+
+#[repr(C)]
+pub struct AllBroken {
+    pub number: u8,
+    pub rules: u64,
 }
 
 #[repr(C)]
@@ -91,6 +102,14 @@ pub struct Pretest {
     pub number: u8,
     pub field: u8,
     pub rule: u8,
+}
+
+#[repr(C)]
+pub struct Entry {
+    pub number: u8,
+    pub length: u8,
+    pub first: u8,
+    pub second: u8,
 }
 
 #[repr(C)]
@@ -183,6 +202,24 @@ pub extern "C" fn kieselbrot_check(sheet: &[u8], date: u32, entries: Record) -> 
                 rule: 0,
                 class: 79,
             },
+        },
+    }
+}
+
+// Bit n of the set for rule n.
+#[no_mangle]
+pub extern "C" fn kieselbrot_broken_rules(sheet: &[u8], date: u32, entries: Record) -> AllBroken
+    ensures { λ r. ⌜ BrokenRulesReturns (datesOf date entries) (now (sheet .entry)) r ⌝ }
+{
+    let v = rules::all_broken::broken_rules(sheet, dates_of(date, entries));
+    match v {
+        BrokenRules::Set(set) => AllBroken {
+            number: 0,
+            rules: set,
+        },
+        BrokenRules::Refused(n) => AllBroken {
+            number: n.0,
+            rules: 0,
         },
     }
 }
@@ -281,6 +318,14 @@ pub extern "C" fn kieselbrot_post(draft: &mut [u8], message: &[u8]) -> Post
             standing: 0,
         },
     }
+}
+
+// The fifteen places hold the numbers of the messages, in the order of the slots.
+#[no_mangle]
+pub extern "C" fn kieselbrot_origins(input: &[u8], places: &mut [u64; 15])
+    ensures { λ _. ⌜ OriginsReturns (now (input .entry)) (now (places .exit)) ⌝ }
+{
+    *places = orders::origins::origins(input);
 }
 
 #[no_mangle]
@@ -393,6 +438,34 @@ pub extern "C" fn kieselbrot_pretest(draft: &[u8]) -> Pretest
             number: n.0,
             field: 0,
             rule: 0,
+        },
+    }
+}
+
+// A length of 0 says that there is none.
+#[no_mangle]
+pub extern "C" fn kieselbrot_entry(field: u8, place: usize, date: u32, entries: Record) -> Entry
+    ensures { λ r. ⌜ EntryReturns (datesOf date entries) field place r ⌝ }
+{
+    let v = orders::entry::entry(Field(field), place, dates_of(date, entries));
+    match v {
+        Listed::Entry(row) => Entry {
+            number: 0,
+            length: row.length,
+            first: row.first,
+            second: row.second,
+        },
+        Listed::Nothing => Entry {
+            number: 0,
+            length: 0,
+            first: 0,
+            second: 0,
+        },
+        Listed::Refused(n) => Entry {
+            number: n.0,
+            length: 0,
+            first: 0,
+            second: 0,
         },
     }
 }

@@ -2,9 +2,9 @@
 -- Assumes nothing.
 use mathlib.Core.Path.{_≡_, refl, sym, ap, ap₂, _∙_, subst}
 use mathlib.Core.Bool.{Bool, true, false, cond}
-use mathlib.Core.List.{List, [], _∷_, List·Memᴰ, List·Memᴰ·head, List·Memᴰ·tail, Memᴰ·append-right, List·Permᴰ, List·Permᴰ·nil, List·Permᴰ·cons, List·Permᴰ·swap, List·Permᴰ·trans, Permᴰ·symm}
-use Prim.Native.Nat.{ℕ, _+_, _*_, _/_, _%_, _<_, max}
-use native.Mathlib.Decide.{decLt}
+use mathlib.Core.List.{List, [], _∷_, List·Memᴰ, List·Memᴰ·head, List·Memᴰ·tail, List·Memᴰ·eq-of-singleton, Memᴰ·append-right, List·Permᴰ, List·Permᴰ·nil, List·Permᴰ·cons, List·Permᴰ·swap, List·Permᴰ·trans, Permᴰ·symm}
+use Prim.Native.Nat.{ℕ, suc, _+_, _*_, _/_, _%_, _<_, max}
+use native.Mathlib.Decide.{decLt, ℕ-discrete}
 use native.Mathlib.Omega.{arith}
 use borrow.Author.Tests.{eq-eqb, ne-eqb}
 use lib.Dec.{eqb}
@@ -12,9 +12,9 @@ use lib.ListN.{length, getD}
 use lib.Seq.{ext-getD}
 use Rattle.texts.proofs.Bools.{cases}
 use Rattle.sheets.specs.Sheet.{fields, slotCount}
-use Rattle.drafts.specs.Message.{partyOf, messageField, readable}
+use Rattle.drafts.specs.Message.{partyOf, messageField, messageText, readable}
 use Rattle.drafts.specs.Draft.{slotSize, draftSize, slotIn, rankOf}
-use Rattle.drafts.specs.History.{postedAll, names, rankIn, highest, firstOf, endSlot, AllBytes, NoClash, those, isOf, WroteAlone}
+use Rattle.drafts.specs.History.{postedAll, names, rankIn, highest, firstOf, endSlot, AllBytes, NoClash, Distinct, those, isOf, WroteAlone}
 use Rattle.drafts.specs.Promises.{Postings, Held}
 use Rattle.drafts.proofs.Messages.{readable-means, slotted}
 use Rattle.drafts.proofs.Slots.{at-slot, formed-by}
@@ -23,7 +23,7 @@ use Rattle.drafts.proofs.EndSlots.{named, unranked, ranked, top, top-at
 
 -- ---- a draft is its slots
 
-slots-ext : (d e : List ℕ) → length d ≡ draftSize → length e ≡ draftSize → ((i : ℕ) → i < slotCount → slotIn d i ≡ slotIn e i) → d ≡ e
+pub slots-ext : (d e : List ℕ) → length d ≡ draftSize → length e ≡ draftSize → ((i : ℕ) → i < slotCount → slotIn d i ≡ slotIn e i) → d ≡ e
 slots-ext d e ld le h =
     ext-getD 0 d e (ld ∙ sym le)
     (λ k l.
@@ -75,6 +75,28 @@ end-perm ms ns agree p i =
       | no h ↦ rw (eq-eqb (highest i ms) 0 (omega arith), eq-eqb (highest i ns) 0 (omega arith))
     ]
 
+-- ---- the premise is true of lists
+
+single-agrees : (m : List ℕ) → NoClash (m ∷ [])
+single-agrees m a b p q ra rb f r = ap messageText (List·Memᴰ·eq-of-singleton p ∙ sym (List·Memᴰ·eq-of-singleton q))
+
+place-in : {a : List ℕ} {ms : List (List ℕ)} → List·Memᴰ a ms → (k : ℕ) × (k < length ms) × (getD ms k [] ≡ a)
+place-in (List·Memᴰ·head e) = (0, omega arith, sym e)
+place-in (List·Memᴰ·tail m) = let (k, l, e) = place-in m in (suc k, omega arith, e)
+
+distinct-agree : (ms : List (List ℕ)) → Distinct ms → NoClash ms
+distinct-agree ms D a b p q ra rb f r =
+    let (i, il, ei) = place-in p in
+    let (j, jl, ej) = place-in q in
+    elim (ℕ-discrete i j) [
+      | yes e ↦ ap messageText (sym ei ∙ ap (λ (k : ℕ). getD ms k []) e ∙ ej)
+      | no n ↦
+          elim (decLt i j) [
+            | yes l ↦ absurd (D i j l jl (rw ei ra) (rw ej rb) (rw (ei, ej) f) (rw (ei, ej) r))
+            | no g ↦ absurd (D j i (omega arith) il (rw ej rb) (rw ei ra) (rw (ei, ej) (sym f)) (rw (ei, ej) (sym r)))
+          ]
+    ]
+
 -- ---- only the messages that name a field count for its slot
 
 those-named : (i : ℕ) (ms : List (List ℕ))
@@ -121,6 +143,8 @@ held-by ms d L =
           let c : AllBytes ns = λ m h. b m (perm-mem (Permᴰ·symm p) h) in
           slots-ext (postedAll ns) (postedAll ms) (all-formed ns c .sized) (all-formed ms b .sized)
           (λ i l. all-slot ns c i l ∙ sym (end-perm ms ns agree p i) ∙ sym (all-slot ms b i l));
+      single = single-agrees;
+      distinct = distinct-agree ms;
       named = λ i l ns c e. alike-by i l ns c e;
       alone =
           λ p i l w ns c x e.

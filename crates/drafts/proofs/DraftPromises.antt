@@ -44,8 +44,9 @@ use Rattle.drafts.specs.declared.draft.Copied.the-variants as copied
 use Rattle.texts.proofs.Refusals.{no-success, none-of, succeeds, succeeded, refused, unchanged, never, Way, way-out, tested}
 use Rattle.drafts.proofs.Messages.{revision-is, small, readable-means, slotted, reading-is, read-found, text-short, party-known, message-is}
 use Rattle.drafts.proofs.Ranks.{clashTest, below-by, rank-same}
-use Rattle.drafts.proofs.EndSlots.{post-read}
+use Rattle.drafts.proofs.EndSlots.{post-read, posted-more}
 use Rattle.drafts.proofs.Arrangements.{held-by}
+use Rattle.drafts.proofs.Reaching.{messagesIn, reached}
 use Rattle.drafts.proofs.DraftSheets.{length-cell, length-cells, length-sheet, sheet-made, sheet-into}
 use Rattle.drafts.proofs.Slots.{length-slot, party-small, formed-means}
 
@@ -113,10 +114,6 @@ fresh-made d e z p =
     }
 
 -- ---- post
-
-pub posted-more : (m d : List ℕ) (ms : List (List ℕ)) → postedFrom d (ms ++ (m ∷ [])) ≡ postedTo (postedFrom d ms) m
-posted-more m d [] = refl
-posted-more m d (l ∷ ms) = posted-more m (postedTo d l) ms
 
 left-more : (d m e : List ℕ) → Bytes m → e ≡ postedTo d m → (ms : List (List ℕ)) → Postings ms d → Postings (ms ++ (m ∷ [])) e
 unfolding postedAll
@@ -206,6 +203,7 @@ posts-by d m r e h p q = record {
   stands = post-stands d m r p;
   after = left-more d m e (λ k. h k .fits) q;
   held = λ ms L. held-by (ms ++ (m ∷ [])) e (left-more d m e (λ k. h k .fits) q ms L);
+  reached = λ b f. (messagesIn d slotCount, reached d b f);
 }
 
 module _ (d m : List ℕ) (h : (k : ℕ) → Fits w8 (getD m k 0)) (b : Bool) (eb : b ≡ draftFormed d) where

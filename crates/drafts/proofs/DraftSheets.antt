@@ -1,21 +1,21 @@
 -- The draft's sheet is a well-formed sheet, and has the draft's texts. Assumes nothing.
-use mathlib.Core.Path.{_≡_, refl, sym, _∙_}
+use mathlib.Core.Path.{_≡_, refl, ap, sym, _∙_}
 use mathlib.Core.Bool.{true}
 use mathlib.Core.List.{List, _++_}
 use Prim.Native.Nat.{ℕ, zero, suc, _+_, _-_, _*_, _<_, _≤_}
 use native.Mathlib.Decide.{decLt}
 use native.Mathlib.Omega.{arith}
 use borrow.Author.Tests.{ltb-true, eq-eqb}
-use lib.Dec.{ltb}
+use lib.Dec.{ltb, eqb}
 use lib.ListN.{length, take, drop, length-append, length-drop}
 use lib.Seq.{length-take-le, take-all, drop-at, take-append-le, drop-append-le}
-use Rattle.texts.specs.Texts.{between, every}
+use Rattle.texts.specs.Texts.{between, every, blank}
 use Rattle.texts.proofs.Bools.{both}
 use Rattle.sheets.proofs.Frames.{cell-part}
 use Rattle.sheets.specs.Sheet.{slotCount, cellSize, sheetSize, cellOk, cellOf, textOf, slotOk, wellFormed}
-use Rattle.drafts.specs.Draft.{cellPlace, draftSize, slotIn, slotCell, slotText, slotFormed, draftFormed, cells, draftSheet}
+use Rattle.drafts.specs.Draft.{cellPlace, draftSize, slotIn, slotCell, slotText, lengthIn, slotFormed, draftFormed, cells, draftSheet}
 use Rattle.drafts.specs.Working.Steps.{sheetInto}
-use Rattle.drafts.proofs.Slots.{length-slot-in, formed-means}
+use Rattle.drafts.proofs.Slots.{at-slot, length-slot-in, text-blank, formed-means}
 
 module _ (d : List ℕ) (size : length d ≡ draftSize) where
   pub length-cell : (n : ℕ) → n < slotCount → length (slotCell (slotIn d n)) ≡ cellSize
@@ -62,6 +62,13 @@ sheet-made d w =
     let ok : (i : ℕ) → ltb i slotCount ≡ true → cellOk (cellOf (cells d slotCount) i) ≡ true =
     λ i t. let l = ltb-true i slotCount t in rw (is i l) (both (cellOk (slotCell (slotIn d i))) _ (F .slot i l) .0) in
     (simp (eq-eqb _ _ (length-sheet d (F .sized)), ok), λ i l. rw (is i l))
+
+-- a text of the draft's sheet is blank exactly if the byte before it in the draft is 0
+pub blank-in : (d : List ℕ) → draftFormed d ≡ true → (i : ℕ) → i < slotCount → blank (textOf (draftSheet d) i) ≡ eqb (lengthIn d i) 0
+blank-in d w i l =
+    ap blank (sheet-made d w .1 i l)
+    ∙ text-blank (slotIn d i) (length-slot-in d (formed-means d w .sized) i l)
+    ∙ ap (λ (n : ℕ). eqb n 0) (at-slot d i cellPlace (omega arith))
 
 pub sheet-into : (d s : List ℕ) → length d ≡ draftSize → length s ≡ sheetSize → sheetInto d s ≡ draftSheet d
 unfolding sheetInto

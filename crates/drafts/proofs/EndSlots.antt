@@ -169,6 +169,10 @@ module _ (r b t : ℕ) (v s : List ℕ) (F : ℕ → List ℕ) where
         | no g ↦ rw (le-ltb r t (omega arith), le-ltb r (max b t) (omega arith))
       ]
 
+pub posted-more : (m d : List ℕ) (ms : List (List ℕ)) → postedFrom d (ms ++ (m ∷ [])) ≡ postedTo (postedFrom d ms) m
+posted-more m d [] = refl
+posted-more m d (l ∷ ms) = posted-more m (postedTo d l) ms
+
 -- a list of postings, from any well-formed draft
 pub posted-list : (d : List ℕ) (ms : List (List ℕ)) → Formed d → AllBytes ms
     → Formed (postedFrom d ms) × ((i : ℕ) → slotIn (postedFrom d ms) i ≡ cond (ltb (slotRank (slotIn d i)) (highest i ms)) (slotWith (firstOf i (highest i ms) ms)) (slotIn d i))
@@ -191,11 +195,11 @@ posted-list d (m ∷ ms) f b =
 
 -- ---- from a fresh draft
 
-fresh-formed : Formed freshDraft
+pub fresh-formed : Formed freshDraft
 unfolding freshDraft draftFormed slotsFormed slotFormed slotIn slotRevision slotCell slotText cellOk cellText between every are
 fresh-formed = formed-means freshDraft refl
 
-fresh-slot : (i : ℕ) → i < slotCount → slotIn freshDraft i ≡ emptySlot
+pub fresh-slot : (i : ℕ) → i < slotCount → slotIn freshDraft i ≡ emptySlot
 unfolding freshDraft emptySlot
 fresh-slot i h =
     let l = length-slot-in (replicate draftSize 0) refl i h in

@@ -5,6 +5,7 @@ pub mod Ranks
 pub mod EndSlots
 pub mod Arrangements
 pub mod DraftSheets
+pub mod Reaching
 pub mod DraftPromises
 pub mod Examples
 pub mod PartyExamples

@@ -229,7 +229,7 @@ read-back m w f v t M =
 -- ---- a readable message is the one that the writer makes of its version, party, field, revision and text
 
 -- what stands from place i on: k bytes, and the rest
-bytes-from : (m : List ℕ) (k i : ℕ) → i + k ≤ length m → drop i m ≡ bytesAt m i k ++ drop (i + k) m
+pub bytes-from : (m : List ℕ) (k i : ℕ) → i + k ≤ length m → drop i m ≡ bytesAt m i k ++ drop (i + k) m
 bytes-from m zero i l = rw add-zero
 bytes-from m (suc k) i l =
     let e : suc i + k ≡ i + suc k = omega arith in

@@ -207,7 +207,7 @@ short-blank (suc x ∷ (y ∷ r)) h =
     let e : 1 + suc x - 1 ≡ suc x = omega arith in
     rw (e, ne-eqb (suc x) 0 (λ z. omega arith)) (ne-eqb (suc (length (take x r))) 0 (λ z. omega arith))
 
-text-blank : (s : List ℕ) → length s ≡ slotSize → blank (slotText s) ≡ eqb (getD s cellPlace 0) 0
+pub text-blank : (s : List ℕ) → length s ≡ slotSize → blank (slotText s) ≡ eqb (getD s cellPlace 0) 0
 unfolding slotText cellText slotCell between
 text-blank s l =
     let c = take cellSize (drop cellPlace s) in

@@ -46,6 +46,10 @@ slotCell s = between s cellPlace slotSize
 unfoldable pub slotText : List ℕ → Text
 slotText s = cellText (slotCell s)
 
+-- the length of a slot's text, as its byte says
+abbrev pub lengthIn : List ℕ → ℕ → ℕ
+lengthIn d i = getD d (i * slotSize + cellPlace) 0
+
 unfoldable pub slotBytes : Revision → Text → List ℕ
 slotBytes v t = bytesOf revisionSize (v .number) ++ (v .party .0 ∷ cell t)
 

@@ -3,9 +3,9 @@
 use mathlib.Core.Path.{_≡_}
 use mathlib.Core.Bool.{Bool, true, false, cond, _&&_}
 use mathlib.Core.List.{List, [], _∷_, _++_, List·Memᴰ}
-use Prim.Native.Nat.{ℕ, max}
+use Prim.Native.Nat.{ℕ, _<_, max}
 use lib.Dec.{eqb}
-use lib.ListN.{replicate}
+use lib.ListN.{length, getD, replicate}
 use Rattle.texts.specs.Numbers.{Bytes}
 use Rattle.sheets.specs.Sheet.{slotOf}
 use Rattle.drafts.specs.Revision.{_below_}
@@ -77,6 +77,18 @@ NoClash ms =
     → messageField a ≡ messageField b
     → revisionOf a ≡ revisionOf b
     → messageText a ≡ messageText b
+
+-- no two places of a list hold readable messages of the same field, revision and party
+abbrev pub Distinct : List (List ℕ) → Type 0
+Distinct ms =
+    (i j : ℕ)
+    → i < j
+    → j < length ms
+    → readable (getD ms i []) ≡ true
+    → readable (getD ms j []) ≡ true
+    → messageField (getD ms i []) ≡ messageField (getD ms j [])
+    → revisionOf (getD ms i []) ≡ revisionOf (getD ms j [])
+    → ⊥
 
 -- the messages of a list that a test passes, in their order
 abbrev pub those : (List ℕ → Bool) → List (List ℕ) → List (List ℕ)

@@ -6,13 +6,14 @@ use mathlib.Core.List.{List, [], _∷_, _++_, List·Permᴰ}
 use Prim.Native.Nat.{ℕ, _+_, _≤_, _<_}
 use lib.ListN.{length, take, drop}
 use Rattle.texts.specs.Answers.{success, refusal}
+use Rattle.texts.specs.Numbers.{Bytes}
 use Rattle.texts.specs.Buffers.{put}
 use Rattle.sheets.specs.Sheet.{slotCount, slotOf, textOf, sheetSize, wellFormed}
 use Rattle.sheets.specs.declared.sheet.Field.{Field}
 use Rattle.drafts.specs.Revision.{_below_}
 use Rattle.drafts.specs.Message.{headSize, readValues, IsMessage, Writable, messageText, readingOf, readAnswer, writingOf, writtenOf, writeAnswer}
 use Rattle.drafts.specs.Draft.{slotIn, slotRevision, slotText, draftSize, draftFormed, beginningOf, begunFrom, beginAnswer, postingOf, postedTo, postAnswer, copyingOf, copiedTo, copyAnswer}
-use Rattle.drafts.specs.History.{postedAll, names, endSlot, Ends, AllBytes, NoClash, those, isOf, WroteAlone}
+use Rattle.drafts.specs.History.{postedAll, names, endSlot, Ends, AllBytes, NoClash, Distinct, those, isOf, WroteAlone}
 use Rattle.drafts.specs.declared.revision.Revision.{Revision}
 use Rattle.drafts.specs.declared.message.Version.{Version}
 use Rattle.drafts.specs.declared.message.Reading.{Reading}
@@ -65,6 +66,9 @@ pub record Held (ms : List (List ℕ)) (d : List ℕ) : Type 0 where
   pub ends : (i : ℕ) → i < slotCount → Ends i ms (slotIn d i)
   -- "same field, revision and party, same text. With it any arrangement ends in one draft"
   pub arranged : NoClash ms → (ns : List (List ℕ)) → List·Permᴰ ms ns → postedAll ns ≡ d
+  -- this premise is true of one message, which agrees with itself, and of messages that differ in field, revision or party
+  pub single : (m : List ℕ) → NoClash (m ∷ [])
+  pub distinct : Distinct ms → NoClash ms
   -- a slot ends as it does in every list that has the same messages for its field, in the same order
   pub named :
       (i : ℕ) → i < slotCount
@@ -110,6 +114,8 @@ pub record Posts (d m : List ℕ) (r : Posted) (e : List ℕ) : Type 0 where
   pub stands : draftFormed d ≡ true → (w f : ℕ) (v : Revision) (t : List ℕ) → IsMessage m w f v t → Stands (slotIn d (slotOf f)) v t r
   pub after : (ms : List (List ℕ)) → Postings ms d → Postings (ms ++ (m ∷ [])) e
   pub held : (ms : List (List ℕ)) → Postings ms d → Held (ms ++ (m ∷ [])) e
+  -- these say it of every well-formed draft: each is one that postings left
+  pub reached : Bytes d → draftFormed d ≡ true → (ms : List (List ℕ)) × Postings ms d
 
 -- copying d to the buffer s returned r and left e
 pub record Copies (d s : List ℕ) (r : Copied) (e : List ℕ) : Type 0 where

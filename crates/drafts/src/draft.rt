@@ -4,7 +4,7 @@ ghost use Prim.Native.Nat.{_*_, _≤_};
 ghost use lib.ListN.{length};
 ghost use Rattle.texts.specs.Buffers.{putAt};
 ghost use Rattle.sheets.specs.Sheet.{textMax};
-ghost use Rattle.drafts.specs.Draft.{slotSize, slotIn, slotRevision, slotCell, slotText, draftFormed, slotComparison, slotBytes};
+ghost use Rattle.drafts.specs.Draft.{slotSize, slotIn, slotRevision, slotCell, slotText, lengthIn, draftFormed, slotComparison, slotBytes};
 ghost use Rattle.drafts.specs.Working.Steps.{unknownParty, misfit, textPut, sheetInto};
 ghost use Rattle.drafts.specs.Promises.{Freshens, Posts, Copies};
 use crate::message::REVISION_SIZE;
@@ -93,6 +93,13 @@ pub fn text_in(draft: &[u8], slot: u8) -> &[u8]
     ensures { λ r. ⌜ now r ≡ slotText (slotIn (now (draft .entry)) slot) ⌝ }
 {
     cell_text(slot_cell(slot_in(draft, slot)))
+}
+
+// The length of a slot's text, as its byte says.
+pub fn length_in(draft: &[u8], slot: u8) -> u8
+    ensures { λ r. ⌜ r ≡ lengthIn (now (draft .entry)) slot ⌝ }
+{
+    at(draft, wide(slot) * SLOT_SIZE + CELL_PLACE)
 }
 
 // A slot without its revision, as a sheet has it.

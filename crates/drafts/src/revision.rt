@@ -33,7 +33,7 @@ pub enum Comparison {
 
 impl Revision {
     // What is compared: the revision, then the party.
-    fn rank(self) -> u64
+    pub fn rank(self) -> u64
         ensures { λ r. ⌜ r ≡ rank self ⌝ }
     {
         self.number as u64 * 256 + self.party.0 as u64

@@ -122,6 +122,15 @@ computed :
 unfolding order zeros draft blanks filling foreign sheet postedAll listOf of.toFill set.setOf budgetPayment rulesComputing draftsComputing
 computed = (refl, refl, refl, refl, refl, refl, refl, refl, refl)
 
+-- the same messages from the last to the first, the client's correction ahead of what it corrects
+backwards : List (List ℕ) → List (List ℕ) → List (List ℕ)
+backwards [] ns = ns
+backwards (m ∷ ms) ns = backwards ms (m ∷ ns)
+
+rearranged : postedAll (backwards order []) ≡ draft
+unfolding order backwards zeros draft postedAll draftsComputing
+rearranged = refl
+
 -- the draft that the messages leave is a budget payment, and completing it fills 22, 101 and 105 to 109
 left : draftSheet (postedAll order) ≡ foreign
 left = ap draftSheet (computed .0) ∙ computed .2 ∙ computed .3

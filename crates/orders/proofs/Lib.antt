@@ -1,4 +1,5 @@
 pub mod Lists
+pub mod Listing
 pub mod BlankSlots
 pub mod Linking
 pub mod Keeping
@@ -16,6 +17,7 @@ pub mod SkippedList
 pub mod Quickening
 pub mod Pretesting
 pub mod Streaming
+pub mod Winning
 pub mod Examples
 pub mod Counts
 pub mod SkippedStatuses

@@ -176,6 +176,7 @@ module _ (D : Dates) (d : List ℕ) where
 
   -- the promise, from the equation that the code is proved to meet
   pub pretests-by : (r : Pretested) → pretestAnswer r ≡ pretesting D d → (ruleNamed r ≡ 0 → ⊥) → Pretests D d r
+  unfolding pretestAnswer
   pretests-by r e y = record {
     answer = e;
     refused = λ b z t n vs h. refuses-as b z t n vs (sym e ∙ h);
@@ -184,6 +185,13 @@ module _ (D : Dates) (d : List ℕ) where
     none = λ f p. rw e (says-none f p);
     named = λ g n y h. let w = passed (g ∷ n ∷ []) (sym e ∙ h) in names (w .0) (w .1) g n y (sym e ∙ h);
     numbered = λ f n h z. y (ap ruleNamed h ∙ z);
+    holds = λ f n h.
+        let a = sym e ∙ ap pretestAnswer h in
+        let w = passed (f .0 ∷ n .0 ∷ []) a in
+        names (w .0) (w .1) (f .0) (n .0) (λ z. y (ap ruleNamed h ∙ z)) a;
+    unnamed = λ h. let a = sym e ∙ ap pretestAnswer h in let w = passed (0 ∷ 0 ∷ []) a in says-none (w .0) (w .1) .0 a;
+    broken = λ f n h b z t. refuses-as b z t 8 (f .0 ∷ n .0 ∷ []) (sym e ∙ ap pretestAnswer h);
+    number = λ n h b z t. refuses-as b z t (n .0) [] (sym e ∙ ap pretestAnswer h);
   }
 
 -- ---- the ways through `pretest`: it reads the facts at some dates E, and what it says holds at all dates

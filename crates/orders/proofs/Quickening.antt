@@ -17,7 +17,7 @@ use Rattle.sheets.specs.declared.sheet.Field.{Field}
 use Rattle.sheets.specs.Working.Facts.{Read}
 use Rattle.rules.specs.Rules.{budget}
 use Rattle.rules.specs.declared.rules.RuleNumber.{RuleNumber}
-use Rattle.drafts.specs.Draft.{draftSheet}
+use Rattle.drafts.specs.Draft.{draftFormed, draftSheet}
 use Rattle.fillings.specs.Fillings.{width, Look, found, none}
 use Rattle.fillings.specs.Filled.{tally}
 use Rattle.fillings.specs.Working.Places.{places}
@@ -35,6 +35,7 @@ use Rattle.orders.specs.declared.search.Found.the-variants.{Place, Nothi
 use Rattle.orders.specs.declared.complete.Completed.{Completed}
 use Rattle.orders.specs.declared.complete.Completed.the-variants.{Filled, Impossible, Broken, Refused}
 use Rattle.orders.proofs.Completing.{Prepared, payment-is, refused-10, filled-first}
+use Rattle.orders.proofs.Keeping.{picked-alike, base-length}
 use Rattle.orders.proofs.Skipping.{skipped-none, skipped-found}
 use Rattle.orders.proofs.SkippedList.{are-skipped}
 
@@ -71,6 +72,18 @@ place-cases : (p : ℕ → Bool) (w : ℕ) (l : Look (List ℕ)) (n : ℕ) (c : 
 place-cases p w (found m q) n c k e = (q, cc, cc, cc)
 place-cases p w (none m) n c k e = let z : _≡_ {A = ℕ} 0 1 = cc in absurd (omega arith)
 
+-- `fill_found` left w in the work that held u, of the set of the filled slots
+abbrev pub Fills : Dates → List ℕ → ℕ → Pick → List ℕ → Type 0
+Fills D u set p w = (s : List ℕ) → length s ≡ sheetSize → set ≡ setOf D s → u ≡ baseOf s → w ≡ pickedOf D u (p .status ∷ p .basis ∷ p .document ∷ p .day ∷ [])
+
+module _ {D : Dates} {d s u : List ℕ} {x : Facts} {g : RuleNumber} (B : Prepared D d s u x g) (set : ℕ) (p : Pick) (w : List ℕ)
+    (hset : (F : Dates) → draftFormed d ≡ true → set ≡ setOf F (draftSheet d)) (hw : Fills D u set p w) where
+  filled-by : w ≡ pickedOf D u (p .status ∷ p .basis ∷ p .document ∷ p .day ∷ [])
+  filled-by = hw (draftSheet d) (B .size) (hset D (B .formed)) (B .base)
+
+  pub filled-long : sheetSize ≡ length w
+  filled-long = sym (ap length filled-by ∙ picked-alike D u _ (ap length (B .base) ∙ base-length D (draftSheet d) (B .size)) .0)
+
 module _ {D : Dates} {d s u : List ℕ} {x : Facts} {g : RuleNumber} (b : List ℕ) (E : (length b ≡ sheetSize) × (datesFit D ≡ true)) (B : Prepared D d s u x g) (y : g .0 ≡ 0) (r : Bool) (hr : (D : Dates) (t : List ℕ) → Read D x t → r ≡ budget t) (t : not r ≡ false) (m : Found) (hm : (D : Dates) (v : List ℕ) → Payment D x v → m ≡ foundOf D v) where
   sought : m ≡ foundBy (skips D (baseOf (draftSheet d))) (width (blank (textOf (baseOf (draftSheet d)) 6)) (statusCount D)) (firstPick D (baseOf (draftSheet d)))
   unfolding foundOf
@@ -91,13 +104,14 @@ module _ {D : Dates} {d s u : List ℕ} {x : Facts} {g : RuleNumber} (b : List �
         exactly = are-skipped D (draftSheet d);
       }
 
-  pub quick-filled : (n set k : ℕ) (p : Pick) (w f : List ℕ) → ((D : Dates) → set ≡ setOf D s) → m ≡ Place n p k → w ≡ pickedOf D u (p .status ∷ p .basis ∷ p .document ∷ p .day ∷ []) → f ≡ putAt b 0 w
+  pub quick-filled : (n set k : ℕ) (p : Pick) (w f : List ℕ) → ((F : Dates) → draftFormed d ≡ true → set ≡ setOf F (draftSheet d)) → m ≡ Place n p k → Fills D u set p w → f ≡ putAt b 0 w
       → Quickens D d b (record { completed = Filled n set (ones set); skipped = k }) f
   unfolding quickAnswer quickening
   quick-filled n set k p w f hset e hw hf =
       let (q, l, pq, h) = place-cases _ _ (firstPick D (baseOf (draftSheet d))) n p k (sym e ∙ sought) in
       let c : k ≡ skippedOf D (draftSheet d) = h ∙ skipped-found D (draftSheet d) (B .size) n q l in
-      let a = filled-first b E B y r hr t n set q p w f hset l pq hw hf in
+      let of-sheet : (F : Dates) → set ≡ setOf F s = λ F. hset F (B .formed) ∙ ap (setOf F) (sym (B .sheet)) in
+      let a = filled-first b E B y r hr t n set q p w f of-sheet l pq (filled-by B set p w hset hw) hf in
       record {
         answer = λ i. withSkipped (c i) (a .answer i);
         completes = a;

@@ -1,19 +1,22 @@
 -- The messages of an input, one at a time, and the ways through the functions that post them. Assumes nothing.
 use mathlib.Core.Path.{_≡_, refl, sym, ap, _∙_, subst}
-use mathlib.Core.Bool.{Bool, true, false, cond}
+use mathlib.Core.Logic.{_↔_}
+use mathlib.Core.Bool.{Bool, true, false, cond, true≢false}
 use mathlib.Core.List.{List, [], _∷_, _++_, append-assoc, append-nil}
 use Prim.Native.Nat.{ℕ, zero, suc, _+_, _-_, _<_, _≤_}
 use native.Mathlib.Decide.{ℕ-discrete}
 use native.Mathlib.Omega.{arith}
 use borrow.Author.Needs.{needs}
-use borrow.Author.Tests.{eq-eqb, ne-eqb}
+use borrow.Author.Tests.{eq-eqb, ne-eqb, eqb-true}
 use lib.Dec.{eqb}
-use lib.ListN.{length, getD, drop, length-take, length-drop}
+use lib.ListN.{length, getD, take, drop, length-take, length-drop}
 use lib.Seq.{take-all, drop-drop}
 use Rattle.texts.specs.Numbers.{big}
 use Rattle.texts.specs.Texts.{between}
 use Rattle.sheets.specs.declared.sheet.Field.{Field}
-use Rattle.drafts.specs.Message.{lengthOf}
+use Rattle.texts.specs.Answers.{refusal, numberOf, Test, test, answerBy}
+use Rattle.texts.proofs.Bools.{cases}
+use Rattle.drafts.specs.Message.{lengthOf, readTests, readingOf}
 use Rattle.drafts.specs.Promises.{Reads, Postings, Posts}
 use Rattle.drafts.specs.declared.revision.Revision.{Revision}
 use Rattle.drafts.specs.declared.message.Version.{Version}
@@ -24,7 +27,7 @@ use Rattle.drafts.specs.declared.draft.Posted.{Posted}
 use Rattle.sheets.specs.declared.dates.Dates.{Dates}
 use Rattle.orders.specs.Complete.{completing, completed, completeAnswer}
 use Rattle.orders.specs.Whole.{Whole, Completes}
-use Rattle.orders.specs.Stream.{pieceOf, endsStream, pieces, messagesOf, Streams}
+use Rattle.orders.specs.Stream.{pieceOf, endsStream, pieces, messagesOf, Parted, finished, stops, goes-on, Streams}
 use Rattle.orders.specs.declared.complete.Completed.{Completed}
 use Rattle.orders.proofs.Whole.{left-formed}
 
@@ -51,6 +54,23 @@ module _ (m : List ℕ) (rd : Reading) (R : Reads m rd) where
   pub ends-by : (n : Refusal) → rd ≡ Refused n → eqb (n .0) 2 ≡ endsStream m
   unfolding endsStream
   ends-by n e = rw (← R .answer, e)
+
+-- a refusal of tests that return nothing beside their numbers
+abbrev Bare : List Test → Type 0
+Bare [] = Unit
+Bare (test b n vs ∷ ts) = (vs ≡ []) × Bare ts
+
+bare : (k : ℕ) (ws : List ℕ) (ts : List Test) → Bare ts → (k ≡ 0 → ⊥) → numberOf (answerBy ts ws) ≡ k → answerBy ts ws ≡ refusal k []
+bare k ws [] p z e = absurd (z (sym e))
+bare k ws (test true n vs ∷ ts) p z e = λ i. refusal (e i) (p .0 i)
+bare k ws (test false n vs ∷ ts) p z e = bare k ws ts (p .1) z e
+
+ends-exactly : (m : List ℕ) → (endsStream m ≡ true) ↔ (readingOf m ≡ refusal 2 [])
+unfolding endsStream readingOf readTests
+ends-exactly m = (
+  λ t. bare 2 _ (readTests m) (refl, (refl, (refl, (refl, (refl, (refl, tt)))))) (λ z. omega arith) (eqb-true (numberOf (readingOf m)) 2 t),
+  λ e. rw e,
+)
 
 -- ---- the messages
 
@@ -82,6 +102,41 @@ messages-next s h =
     let e : length s ≡ suc (length s - 1) = omega arith in
     ap (λ (n : ℕ). pieces n s) e
     ∙ rw (ne-eqb _ _ q, pieces-more (length s - 1) (length (drop (length (pieceOf s)) s)) (drop (length (pieceOf s)) s) (omega arith) (omega arith))
+
+-- the same with no function
+split-at : (k : ℕ) (l : List ℕ) → l ≡ take k l ++ drop (length (take k l)) l
+split-at zero l = refl
+split-at (suc k) [] = refl
+split-at (suc k) (x ∷ l) = ap (λ (y : List ℕ). x ∷ y) (split-at k l)
+
+parted-none : (i : List ℕ) → length i ≡ 0 → Parted i (messagesOf i)
+parted-none [] e = rw (messages-none [] refl) finished
+parted-none (x ∷ s) e = absurd (omega arith)
+
+parted-next : (i : List ℕ) → 0 < length i → Parted (drop (length (pieceOf i)) i) (messagesOf (drop (length (pieceOf i)) i)) → Parted i (messagesOf i)
+unfolding pieceOf
+parted-next i h P =
+    let m = pieceOf i in
+    let rest = drop (length m) i in
+    let e = split-at (lengthOf i + 2) i in
+    let p = piece-length i h in
+    cases (endsStream m)
+    (λ t. rw (messages-next i h, t) (stops i m rest e (p .0) refl (ends-exactly m .0 t)))
+    (λ f.
+    let q : readingOf m ≡ refusal 2 [] → ⊥ = λ z. true≢false (sym (ends-exactly m .1 z) ∙ f) in
+    rw (messages-next i h, f) (goes-on i m rest (messagesOf rest) e (p .0) refl q P))
+
+parted-in : (n : ℕ) (i : List ℕ) → length i ≤ n → Parted i (messagesOf i)
+parted-in zero i h = parted-none i (omega arith)
+parted-in (suc n) i h =
+    elim (ℕ-discrete (length i) 0) [
+      | yes e ↦ parted-none i e
+      | no q ↦
+          let o : 0 < length i = omega arith in
+          let p = piece-length i o in
+          let l = length-drop (length (pieceOf i)) i in
+          parted-next i o (parted-in n (drop (length (pieceOf i)) i) (omega (arith, p .0, l)))
+    ]
 
 -- ---- the loop
 
@@ -150,6 +205,8 @@ streamed D i b d r t L C = record {
   refused = C .refused;
   sized = C .sized (left-formed (messagesOf i) d L);
   undated = C .undated (left-formed (messagesOf i) d L);
+  ends = ends-exactly;
+  parted = parted-in (length i) i (omega arith);
   whole = subst (λ (x : List ℕ). Whole D (messagesOf i) x b (completeAnswer r) t) (L .draft) (C .whole (messagesOf i) L);
 }
 

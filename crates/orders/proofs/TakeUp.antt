@@ -8,7 +8,7 @@ use native.Mathlib.Decide.{decLt, ℕ-discrete}
 use native.Mathlib.Nat.{div-eq-of-lt}
 use native.Mathlib.Numerals.{add-one}
 use native.Mathlib.Omega.{arith}
-use borrow.Author.Tests.{leb-true, le-leb, lt-ltb, le-ltb, ltb-true, eq-eqb, ne-eqb, eqb-true, not-true, not-false}
+use borrow.Author.Tests.{leb-true, le-leb, lt-ltb, le-ltb, ltb-true, eq-eqb, ne-eqb, not-true, not-false}
 use mir.Syntax.{w32}
 use mir.Val.{Fits}
 use lib.Dec.{eqb, ltb, leb}
@@ -20,7 +20,7 @@ use Rattle.texts.proofs.Bools.{both, and2}
 use Rattle.texts.specs.Buffers.{put, putAt}
 use Rattle.texts.proofs.Puts.{put-fits}
 use Rattle.texts.proofs.Refusals.{no-success, succeeds, unchanged}
-use Rattle.sheets.specs.Sheet.{fields, slots, slotCount, sheetSize, textMax, slotOf, fieldIn, cell, cellOf, cellText, cellOk, slotOk, textOf, given, wellFormed}
+use Rattle.sheets.specs.Sheet.{slots, slotCount, sheetSize, textMax, slotOf, fieldIn, cell, cellOf, cellText, cellOk, slotOk, textOf, given, wellFormed}
 use Rattle.sheets.specs.Dates.{statusTexts}
 use Rattle.sheets.specs.declared.dates.Dates.{Dates}
 use Rattle.sheets.specs.declared.sheet.Field.{Field}
@@ -34,12 +34,11 @@ use Rattle.drafts.specs.declared.revision.Revision.{Revision}
 use Rattle.drafts.proofs.Messages.{message-of}
 use Rattle.drafts.proofs.Slots.{cell-ok, length-slot, slot-cell, Formed, formed-means, formed-by}
 use Rattle.drafts.proofs.DraftSheets.{length-sheet, sheet-cell, sheet-made}
-use Rattle.drafts.proofs.EndSlots.{stored-one, one-posted}
-use Rattle.drafts.proofs.DraftPromises.{posted-more}
+use Rattle.drafts.proofs.EndSlots.{posted-more, stored-one, one-posted}
+use Rattle.drafts.proofs.Reaching.{field-of, field-slot}
 use Rattle.fillings.specs.Working.Places as at
 use Rattle.fillings.proofs.EveryFilling.{every-mem, entry-sized, choice-given}
 use Rattle.fillings.proofs.First.{found-first}
-use Rattle.fillings.proofs.Upto.{entry-in}
 use Rattle.fillings.specs.Fillings as of
 use Rattle.orders.specs.Fillings.{lists, listOf, toFill, Filling}
 use Rattle.orders.specs.Complete.{completing, completed}
@@ -102,13 +101,6 @@ pub took : (d t x e : List ℕ) (i : ℕ) (v : Revision) → v ≡ slotRevision 
 took d t x e i v ev ex q = q ∙ rw (ev, ex)
 
 -- ---- what they leave in each slot
-
-field-of : (i : ℕ) → i < slotCount → List·Memᴰ (fieldIn i) fields
-field-of i l = entry-in 0 fields i l
-
-field-slot : (i : ℕ) → i < slotCount → slotOf (fieldIn i) ≡ i
-unfolding every slotOf at.places
-field-slot i l = eqb-true _ _ (every-mem (λ (k : ℕ). eqb (slotOf (fieldIn k)) k) {l = at.places slotCount 0} refl (at-place slotCount i l))
 
 before : (n i : ℕ) → (i ≡ n → ⊥) → ltb i n ≡ ltb i (suc n)
 before n i q = elim (decLt i n) [

@@ -10,7 +10,7 @@ use lib.ListN.{length}
 use Rattle.texts.specs.Texts.{any}
 use Rattle.texts.specs.Answers.{success}
 use Rattle.texts.proofs.Refusals.{unchanged}
-use Rattle.sheets.specs.Sheet.{slotOf, cell, cellText, cellOf, textOf, sheetSize}
+use Rattle.sheets.specs.Sheet.{slotCount, slotOf, cell, cellText, cellOf, textOf, sheetSize}
 use Rattle.sheets.specs.declared.dates.Dates.{Dates}
 use Rattle.sheets.proofs.Frames.{text-cell}
 use Rattle.rules.specs.Rules.{keepsAll}
@@ -23,6 +23,7 @@ use Rattle.drafts.proofs.Messages.{small, text-short, party-known}
 use Rattle.drafts.proofs.Ranks.{by-below}
 use Rattle.drafts.proofs.Slots.{slot-cell, party-small, Formed, formed-means, formed-by}
 use Rattle.drafts.proofs.DraftSheets.{length-sheet, sheet-cell}
+use Rattle.drafts.proofs.Reaching.{messagesIn, reached}
 use Rattle.drafts.proofs.EndSlots.{named, ranked, posted-list, top-at, bound}
 use Rattle.fillings.specs.Fillings as of
 use Rattle.fillings.specs.Taken.{Taken}
@@ -116,5 +117,6 @@ completes-by D d b r t p q = record {
   sized = rw p (sized-by D d b);
   undated = rw p (undated-by D d b);
   whole = λ ms L. rw (p, q) (whole-law D ms d b L);
+  reached = λ B f. let L = reached d B f in (messagesIn d slotCount, L, rw (p, q) (whole-law D (messagesIn d slotCount) d b L));
   again = λ n set k e ms C c size. taken-up-completes D d b n set k ms (sym p ∙ e) (subst (λ (u : List ℕ). Choice D d u ms) q C) c size;
 }

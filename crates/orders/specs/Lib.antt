@@ -4,7 +4,10 @@ pub mod Again
 pub mod Whole
 pub mod Pretest
 pub mod Stream
+pub mod Origins
 pub mod R7
 pub mod Skipping
 pub mod TakeUp
+pub mod Entry
+pub mod EntryTable
 pub mod Working

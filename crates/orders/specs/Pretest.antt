@@ -6,6 +6,7 @@ use mathlib.Core.List.{List, [], _∷_, _++_}
 use Prim.Native.Nat.{ℕ}
 use lib.ListN.{length, getD}
 use Rattle.texts.specs.Texts.{every}
+use Rattle.texts.specs.declared.answers.Refusal.{Refusal}
 use Rattle.texts.specs.Answers.{Answer, success, refusal, numberOf, Test, _refuses_, answerBy}
 use Rattle.sheets.specs.Sheet.{Sheet, sheetSize}
 use Rattle.sheets.specs.declared.sheet.Field.{Field}
@@ -76,3 +77,8 @@ pub record Pretests (D : Dates) (d : List ℕ) (r : Pretested) : Type 0 where
   pub named : (f n : ℕ) → (n ≡ 0 → ⊥) → pretestAnswer r ≡ success (f ∷ n ∷ []) → Names D d (draftSheet d) f n
   -- a rule named is not 0: that there is none, it says with `Unnamed`
   pub numbered : (f : Field) (n : RuleNumber) → r ≡ Named f n → n .0 ≡ 0 → ⊥
+  -- each case by its constructor: a rule with its field, none, and what completion refuses with
+  pub holds : (f : Field) (n : RuleNumber) → r ≡ Named f n → Names D d (draftSheet d) (f .0) (n .0)
+  pub unnamed : r ≡ Unnamed → (g : List ℕ) → Filling D (draftSheet d) g → every (keeps D g) ahead ≡ true
+  pub broken : (f : Field) (n : RuleNumber) → r ≡ Broken f n → (b : List ℕ) → length b ≡ sheetSize → datesFit D ≡ true → completing D d b ≡ refusal 8 (f .0 ∷ n .0 ∷ [])
+  pub number : (n : Refusal) → r ≡ Refused n → (b : List ℕ) → length b ≡ sheetSize → datesFit D ≡ true → completing D d b ≡ refusal (n .0) []

@@ -6,6 +6,7 @@ use mathlib.Core.List.{List, [], _∷_, _++_}
 use Prim.Native.Nat.{ℕ}
 use lib.ListN.{length, getD}
 use Rattle.texts.specs.Texts.{every}
+use Rattle.texts.specs.Numbers.{Bytes}
 use Rattle.texts.specs.Answers.{Answer, success, refusal, numberOf}
 use Rattle.sheets.specs.Sheet.{sheetSize}
 use Rattle.sheets.specs.Dates.{datesFit}
@@ -75,6 +76,8 @@ pub record Completes (D : Dates) (d b : List ℕ) (r : Completed) (t : List ℕ)
   -- "the rest answer 12"
   pub undated : draftFormed d ≡ true → length b ≡ sheetSize → (numberOf (completeAnswer r) ≡ 12) ↔ (datesFit D ≡ false)
   pub whole : (ms : List (List ℕ)) → Postings ms d → Whole D ms d b (completeAnswer r) t
+  -- and so of every well-formed draft, wherever it came from: it is what the postings of some messages leave
+  pub reached : Bytes d → draftFormed d ≡ true → (ms : List (List ℕ)) × Postings ms d × Whole D ms d b (completeAnswer r) t
   -- R-9: where it returned a sheet, any choice of the proposed values may be posted, and the draft completed again
   pub again :
       (n set k : ℕ)

@@ -4,3 +4,4 @@ pub mod Quick
 pub mod Found
 pub mod Entering
 pub mod Upto
+pub mod Winners

@@ -1,20 +1,22 @@
 // Writing entries into the blank fields of a sheet, and the set of the fields that are filled.
 ghost use mathlib.Core.Path.{_≡_};
-ghost use mathlib.Core.Bool.{cond};
-ghost use mathlib.Core.List.{_∷_, []};
-ghost use Prim.Native.Nat.{_≤_};
-ghost use Rattle.texts.specs.Texts.{blank, every};
-ghost use Rattle.sheets.specs.Sheet.{textOf, given};
+ghost use mathlib.Core.Bool.{cond, true};
+ghost use mathlib.Core.List.{List, _∷_, []};
+ghost use Prim.Native.Nat.{ℕ, _≤_};
+ghost use lib.Dec.{eqb};
+ghost use lib.ListN.{length};
+ghost use Rattle.sheets.specs.Sheet.{sheetSize};
 ghost use Rattle.sheets.specs.Working.Entries.{filledAt};
-ghost use Rattle.orders.specs.Working.Entering.{rowCell, baseOf, pickedOf, varying};
+ghost use Rattle.orders.specs.Working.Entering.{rowCell, baseOf, pickedOf};
+ghost use Rattle.drafts.specs.Draft.{lengthIn, draftFormed, draftSheet};
 ghost use Rattle.sheets.specs.declared.dates.Dates.{Dates};
 ghost use Rattle.orders.specs.Fillings.{setOf};
 use crate::search::Pick;
+use drafts::draft::length_in;
 use sheets::dates::Dates;
 use sheets::entries::basis_row;
 use sheets::entries::status_row;
 use sheets::entries::zero_row;
-use sheets::facts::is_given;
 use sheets::sheet::CELL_SIZE;
 use sheets::sheet::SHEET_SIZE;
 use sheets::sheet::text;
@@ -64,46 +66,38 @@ pub(crate) fn fill_picked(sheet: &mut [u8], pick: Pick, dates: Dates)
     fill_slot(sheet, 14, zero_row(pick.day));
 }
 
-// None of 101, 106, 108 and 109 is blank.
-fn picks_nothing(sheet: &[u8]) -> bool
-    ensures { λ r. ⌜ r ≡ every (given (now (sheet .entry))) varying ⌝ }
+// The same, where the set of the filled slots is known: where it is empty, no list is looked into.
+pub(crate) fn fill_found(sheet: &mut [u8; SHEET_SIZE], pick: Pick, dates: Dates, set: u16)
+    ensures { λ _. ⌜ ((s : List ℕ) → length s ≡ sheetSize → set ≡ setOf dates s → now (sheet .entry) ≡ baseOf s → now (sheet .exit) ≡ pickedOf dates (now (sheet .entry)) (pick .status ∷ pick .basis ∷ pick .document ∷ pick .day ∷ [])) ⌝ }
 {
-    is_given(sheet, 6)
-        & (is_given(sheet, 11) & (is_given(sheet, 13) & (is_given(sheet, 14) & true)))
-}
-
-// The same, and no list is looked into where nothing is blank.
-pub(crate) fn fill_found(sheet: &mut [u8; SHEET_SIZE], pick: Pick, dates: Dates)
-    ensures { λ _. ⌜ now (sheet .exit) ≡ pickedOf dates (now (sheet .entry)) (pick .status ∷ pick .basis ∷ pick .document ∷ pick .day ∷ []) ⌝ }
-{
-    if picks_nothing(sheet) {
+    if set == 0 {
         return;
     }
     fill_picked(sheet, pick, dates);
 }
 
-// A slot's bit, if the slot is blank.
-fn bit_of(sheet: &[u8], slot: u8, bit: u16) -> u16
-    ensures { λ r. ⌜ (r ≡ cond (blank (textOf (now (sheet .entry)) slot)) bit 0) × (r ≤ bit) ⌝ }
+// A slot's bit, if the length of its text is 0.
+fn bit_of(draft: &[u8], slot: u8, bit: u16) -> u16
+    ensures { λ r. ⌜ (r ≡ cond (eqb (lengthIn (now (draft .entry)) slot) 0) bit 0) × (r ≤ bit) ⌝ }
 {
-    if text(sheet, slot).len() == 0 {
+    if length_in(draft, slot) == 0 {
         return bit;
     }
     0
 }
 
-// "A 16-bit set of the filled slots (bit i for slot i)": those that have a list and are blank.
-pub(crate) fn filled_set(sheet: &[u8]) -> u16
-    ensures { λ r. ⌜ ((D : Dates) → r ≡ setOf D (now (sheet .entry))) ⌝ }
+// "A 16-bit set of the filled slots (bit i for slot i)": those that have a list and are blank, of a draft that is well formed.
+pub(crate) fn filled_set(draft: &[u8]) -> u16
+    ensures { λ r. ⌜ ((D : Dates) → draftFormed (now (draft .entry)) ≡ true → r ≡ setOf D (draftSheet (now (draft .entry)))) ⌝ }
 {
-    bit_of(sheet, 3, 8)
-        + bit_of(sheet, 4, 16)
-        + bit_of(sheet, 6, 64)
-        + bit_of(sheet, 7, 128)
-        + bit_of(sheet, 9, 512)
-        + bit_of(sheet, 10, 1024)
-        + bit_of(sheet, 11, 2048)
-        + bit_of(sheet, 12, 4096)
-        + bit_of(sheet, 13, 8192)
-        + bit_of(sheet, 14, 16384)
+    bit_of(draft, 3, 8)
+        + bit_of(draft, 4, 16)
+        + bit_of(draft, 6, 64)
+        + bit_of(draft, 7, 128)
+        + bit_of(draft, 9, 512)
+        + bit_of(draft, 10, 1024)
+        + bit_of(draft, 11, 2048)
+        + bit_of(draft, 12, 4096)
+        + bit_of(draft, 13, 8192)
+        + bit_of(draft, 14, 16384)
 }

@@ -1,5 +1,7 @@
 pub mod complete;
+pub mod entry;
 pub mod fill;
+pub mod origins;
 pub mod pretest;
 pub mod quick;
 pub mod search;

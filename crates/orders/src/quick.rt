@@ -48,7 +48,6 @@ pub fn quick(draft: &[u8], sheet: &mut [u8], dates: Dates) -> Quickened
             skipped: 0,
         };
     }
-    let set = filled_set(&work);
     fill_zeros(&mut work);
     let f = facts_of(&work, dates);
     let broken = broken_basic(f);
@@ -70,12 +69,13 @@ pub fn quick(draft: &[u8], sheet: &mut [u8], dates: Dates) -> Quickened
             skipped: skipped,
         },
         Found::Place(count, pick, skipped) => {
+            let set = filled_set(draft);
             let success = Completed::Filled {
                 count: count,
                 set: set,
                 ones: u16::count_ones(set),
             };
-            fill_found(&mut work, pick, dates);
+            fill_found(&mut work, pick, dates, set);
             put(sheet, 0, &work);
             Quickened {
                 completed: success,

@@ -52,6 +52,11 @@ front-long [] s k h = absurd (omega arith)
 front-long (p ∷ ps) s zero h = s .0
 front-long (p ∷ ps) s (suc k) h = simp length-append (omega (arith, s .0, simp length-append at (front-long ps (s .1) k (omega arith))))
 
+sized-at : (ps : List Line) → Sized ps → (k : ℕ) → k < length ps → length (getD ps k ([], 0) .0) ≡ 12
+sized-at [] s k h = absurd (omega arith)
+sized-at (p ∷ ps) s zero h = s .0
+sized-at (p ∷ ps) s (suc k) h = sized-at ps (s .1) k (omega arith)
+
 -- the sum of line k, in the output and changed there
 module _ (o : List ℕ) (ps : List Line) (s : Sized ps) (k : ℕ) (h : k < length ps) where
   abbrev here : Line
@@ -73,6 +78,13 @@ module _ (o : List ℕ) (ps : List Line) (s : Sized ps) (k : ℕ) (h : k < lengt
 
   pub read-sum : here .1 < 2 ^ 64 → bigAt (put o 0 (linesBytes ps)) (k * 20 + 12) ≡ here .1
   read-sum b = cc (as-it-is, drop-at (front ps k) (bytesOf 8 (here .1) ++ back) (k * 20 + 12) (front-long ps s k h), big-bytes 8 (here .1) b)
+
+  pub read-inn : take 12 (drop (k * 20) (put o 0 (linesBytes ps))) ≡ here .0
+  read-inn =
+      let g = linesBytes (take k ps) in
+      let d = sized-at ps s k h in
+      let l : length g ≡ k * 20 = omega (arith, front-long ps s k h, length-append g (here .0)) in
+      cc (as-it-is, append-assoc g (here .0) (bytesOf 8 (here .1) ++ back), drop-at g (here .0 ++ (bytesOf 8 (here .1) ++ back)) (k * 20) l, take-at (here .0) (bytesOf 8 (here .1) ++ back) 12 d)
 
   pub put-sum : (n : ℕ) → put (put o 0 (linesBytes ps)) (k * 20 + 12) (bytesOf 8 n) ≡ put o 0 (linesBytes (set ps k (here .0, n)))
   unfolding put
@@ -100,7 +112,7 @@ pooled-sized (l ∷ ls) (suc i) e =
     let d = digits-12 (l .0) (both (inn12 (l .0)) (isAmount (l .1)) (p .0) .0) in
     rw (pooled-first l (take i ls)) (digits-sized (l .0) 12 true (sym d) refl, sized-others (l .0) (pooled (take i ls)) (pooled-sized ls i (p .1)))
 
-at-most : (ps : List Line) (j : ℕ) → j < length ps → getD ps j ([], 0) .1 ≤ totalOf ps
+pub at-most : (ps : List Line) (j : ℕ) → j < length ps → getD ps j ([], 0) .1 ≤ totalOf ps
 unfolding totalOf
 at-most [] j h = absurd (omega arith)
 at-most (p ∷ ps) zero h = omega arith

@@ -18,7 +18,7 @@ use Rattle.sheets.specs.Forms.{inn12}
 use Rattle.amounts.specs.Amount.{isAmount}
 use Rattle.amounts.proofs.Ranges.{amount-is, is-amount}
 use Rattle.registers.specs.Register.{Line, lineBytes, linesIn, linesOf, lineRight, linesRight, registerRight, orderRight, mostOrder, totalOf}
-use Rattle.registers.specs.Pool.{IsRegister}
+use Rattle.registers.specs.Pool.{HasLines, IsRegister}
 use Rattle.registers.specs.Working.Parts.{lineAt, bigAt}
 
 -- ---- the bytes of a line
@@ -103,6 +103,13 @@ module _ (t : List ℕ) where
       pub total-next : totalOf (take (i + 1) (linesOf t)) ≡ totalOf (take i (linesOf t)) + lineAt t i .1
       total-next = ap totalOf lines-next ∙ total-more (take i (linesOf t)) (lineAt t i)
 
+  -- the register's bytes are those of its lines
+  has-lines : HasLines t (linesOf t)
+  has-lines = record {
+    inns = λ i h. let k : i < length t / 20 = omega (arith, lines-length) in sym (take-take 12 20 (drop (i * 20) t) (omega arith)) ∙ ap (λ (l : Line). l .0) (sym (lines-at i k));
+    kopecks = λ i h. let k : i < length t / 20 = omega (arith, lines-length) in kopecks-part t i (omega arith) ∙ ap (λ (l : Line). l .1) (sym (lines-at i k));
+  }
+
 -- ---- a right register, taken apart
 
 pub right-at : (ls : List Line) → linesRight ls ≡ true → (i : ℕ) → i < length ls → (inn12 (getD ls i ([], 0) .0) ≡ true) × (isAmount (getD ls i ([], 0) .1) ≡ true)
@@ -146,6 +153,7 @@ module _ (t : List ℕ) where
         let l = lines-length t in
         let r = right-at (linesOf t) (w .3) in
         record {
+          lines = has-lines t;
           whole = omega arith;
           some = omega arith;
           most = omega arith;

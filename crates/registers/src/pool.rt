@@ -7,7 +7,7 @@ ghost use Rattle.texts.specs.Numbers.{bytesOf};
 ghost use Rattle.texts.specs.Buffers.{put};
 ghost use Rattle.registers.specs.Register.{lineSize, innSize, kopecksSize, mostLines, linesBytes, linesOf, registerRight, orderRight, pooled, mostOrder};
 ghost use Rattle.registers.specs.Pool.{outputSize, more, less, Pools};
-ghost use Rattle.registers.specs.Working.Parts.{bigAt, Finds};
+ghost use Rattle.registers.specs.Working.Parts.{bigAt, Finds, Hinted};
 use crate::lines::INN_SIZE;
 use crate::lines::LINE_SIZE;
 use crate::lines::inn_at;
@@ -35,6 +35,9 @@ const OUTPUT_SIZE: usize = 10_000;
 // "an order amount outside 1 to 10^15"
 const MOST_ORDER: u64 = 1_000_000_000_000_000;
 
+// How many remainders of an INN's number there are. Each has a hint: one more than the last place pooled with it, 0 where there is none.
+const HINTS: usize = 2048;
+
 fn is_order(amount: Kopecks) -> bool
     ensures { λ r. ⌜ r ≡ orderRight (amount .0) ⌝ }
 {
@@ -52,20 +55,19 @@ fn difference(total: Kopecks, amount: Kopecks) -> i64
     0 - (amount.0 - total.0) as i64
 }
 
-// A place of a number among the first count; count where it is not among them.
-fn find(numbers: &[usize; 500], count: usize, number: usize) -> usize
-    requires { ⌜ count ≤ mostLines ⌝ }
+// A place of a number among the first count; count where it is not among them. Looks from the hint of the number's remainder downwards: behind it no number has that remainder.
+fn find(numbers: &[usize; 500], hints: &[u16; HINTS], count: usize, number: usize) -> usize
+    requires { ⌜ (count ≤ mostLines) × Hinted (now numbers) (now hints) count ⌝ }
     ensures { λ r. ⌜ Finds (now (numbers .entry)) count number r ⌝ }
 {
-    let mut found = count;
-    let mut j = 0;
-    while j < count {
+    let mut j = hints[number % HINTS] as usize;
+    while 0 < j {
+        j -= 1;
         if numbers[j] == number {
-            found = j;
+            return j;
         }
-        j += 1;
     }
-    found
+    count
 }
 
 // Adds to the sum of a pooled line.
@@ -85,11 +87,12 @@ fn pool_lines(register: &[u8], output: &mut [u8]) -> usize
 {
     let lines = register.len() / LINE_SIZE;
     let mut numbers = [0usize; 500];
+    let mut hints = [0u16; HINTS];
     let mut count = 0;
     let mut i = 0;
     while i < lines {
         let number = number_12(inn_at(register, i));
-        let place = find(&numbers, count, number);
+        let place = find(&numbers, &hints, count, number);
         if place < count {
             add(output, place, kopecks_at(register, i));
         } else {
@@ -101,6 +104,7 @@ fn pool_lines(register: &[u8], output: &mut [u8]) -> usize
             );
             numbers[count] = number;
             count += 1;
+            hints[number % HINTS] = count as u16;
         }
         i += 1;
     }

@@ -33,6 +33,7 @@ use Rattle.orders.specs.Stream.{messagesOf}
 use Rattle.report.specs.Report.{messageLine, fieldLines, endLines, noSheet, ending, reportFrom, reportOf, reportFromBefore, reportBefore, reported, Reports}
 use Rattle.report.specs.Working.Told.{Told}
 use Rattle.report.proofs.Writing.{number-as}
+use Rattle.report.proofs.Decimals.{decimal-is}
 
 -- complete_draft
 pub at-program : (D : Dates) (d b : List ℕ) (r : Completed) (t : List ℕ) → D ≡ programDates → Completes D d b r t → Completes programDates d b r t
@@ -142,6 +143,7 @@ module _ (i b : List ℕ) where
     );
     whole = λ h l. t ∙ fitting h l;
     before = λ D. told-before D 1 freshDraft (messagesOf i);
+    numbers = decimal-is;
   }
 
   nothing : reported i b ≡ [] → Reports i b 0 b

@@ -3,7 +3,7 @@ use mathlib.Core.Path.{_≡_}
 use mathlib.Core.Logic.{_↔_}
 use mathlib.Core.Bool.{Bool, cond, _&&_}
 use mathlib.Core.List.{List, [], _∷_, _++_, map}
-use Prim.Native.Nat.{ℕ, suc, _<_, _≤_}
+use Prim.Native.Nat.{ℕ, suc, _^_, _<_, _≤_}
 use lib.Dec.{leb}
 use lib.ListN.{length, getD, take, replicate}
 use Rattle.texts.specs.Quoted.{Text, bytes}
@@ -17,7 +17,7 @@ use Rattle.drafts.specs.Draft.{freshDraft, postingOf, postedTo}
 use Rattle.orders.specs.Complete.{completing, completed}
 use Rattle.orders.specs.R7.{completingBefore, completedBefore}
 use Rattle.orders.specs.Stream.{messagesOf}
-use Rattle.report.specs.Lines.{decimal, line}
+use Rattle.report.specs.Lines.{decimal, IsDecimal, line}
 
 -- "newer, same, older or the refusal number"
 abbrev pub shown : Answer → Text
@@ -86,3 +86,5 @@ pub record Reports (i b : List ℕ) (r : ℕ) (e : List ℕ) : Type 0 where
   pub whole : length i ≤ 32768 → 46080 ≤ length b → take r e ≡ reportOf i
   -- "so its output is the same as before" (R-7)
   pub before : (D : Dates) → reportOf i ≡ reportBefore D i
+  -- each number in it, of a message, an answer or a count, is written in decimal
+  pub numbers : (n : ℕ) → n < 10 ^ 20 → IsDecimal n (decimal n)

@@ -106,7 +106,7 @@ module _ (D : Dates) (s : Sheet) where
       first-behind (keeps programDates s) (keepsBefore D s) 10 from11 upTo9 kept-alike ten-same
       (λ e. first-agree (keeps programDates s) (keepsBefore D s) from11 (behind-alike e))
 
-pub as-before : (D : Dates) (s : Sheet) → AsBefore D s
+pub as-before : (D : Dates) (s : Sheet) → AsBefore D s (checked programDates s)
 unfolding checked checkTests checkedBefore testsBefore keepsAll
 as-before D s =
     record {

@@ -127,7 +127,7 @@ module _ (D : Dates) (s : Sheet) where
   undated-still : datesFit D ≡ false → before D s ≡ checked D s
   undated-still w = let e : answerOf (firstNot (keeps D s) orderBefore) ≡ answerOf (firstNot (keeps D s) order) = rw w in before-is ∙ e ∙ sym now-is
 
-  moved-case : (b : Bool) → wellFormed s ≡ true → datesFit D ≡ true → caught D s ≡ b → Moved D s
+  moved-case : (b : Bool) → wellFormed s ≡ true → datesFit D ≡ true → caught D s ≡ b → Moved D s (checked D s)
   unfolding fieldOf rules broken
   moved-case false w t c =
       let q = before-is ∙ ap answerOf (first-exchanged (keeps D s) 21 22 from23 upTo20 (sym (caught-is D s) ∙ c)) ∙ sym now-is in
@@ -145,12 +145,12 @@ module _ (D : Dates) (s : Sheet) where
         stays = λ z. absurd (false≢true (sym z ∙ c));
       }
 
-pub moved-only : MovedOnly
+pub moved-only : (D : Dates) (s : Sheet) → MovedOnly D s (checked D s)
 unfolding keepsAll
-moved-only =
+moved-only D s =
     record {
-      moved = λ D s w t. moved-case D s (caught D s) w t refl;
-      malformed = malformed-still;
-      undated = undated-still;
-      kept = λ D s. every-exchanged (keeps D s) 21 22 from23 upTo20;
+      moved = λ w t. moved-case D s (caught D s) w t refl;
+      malformed = malformed-still D s;
+      undated = undated-still D s;
+      kept = every-exchanged (keeps D s) 21 22 from23 upTo20;
     }

@@ -17,11 +17,13 @@ use Rattle.texts.proofs.Every.{every-append, every-same}
 use Rattle.sheets.specs.Sheet.{slots, sheetSize, slotOk, wellFormed, fieldIn, slotOf, Sheet, given, _⟨_⟩}
 use Rattle.sheets.specs.Dates.{datesFit}
 use Rattle.sheets.specs.declared.dates.Dates.{Dates}
+use Rattle.sheets.proofs.InForce.{dated, in-force}
 use Rattle.rules.specs.Rules.{Rule, classA, classB, budget, testOf, keepsAll, firstBlank, rules, order, basic, ahead, fieldOf, keeps, firstNot, firstBroken, classOf}
 use Rattle.sheets.specs.Working.Facts.{accountOf, factsBy, factsOf, generalOf, standingOf, Read}
 use Rattle.rules.specs.Working.Tests.{ordinary, classOn, kept, holds, allTrue, generalOn, outcomesOn, judgedOn}
 use Rattle.rules.specs.Working.Groups.{fixedRules, statusRules, basisRules, documentRules, dayRules, grouped}
-use Rattle.rules.specs.Verdicts.{className, verdictAnswer, checkTests, checked, Checked}
+use Rattle.rules.specs.Verdicts.{className, verdictAnswer, checkTests, checked}
+use Rattle.rules.specs.Checked.{Checked}
 use Rattle.rules.specs.declared.class.Class.{Class}
 use Rattle.rules.specs.declared.class.Class.the-variants.{A, B, O}
 use Rattle.rules.specs.declared.rules.RuleNumber.{RuleNumber}
@@ -30,7 +32,10 @@ use Rattle.rules.specs.declared.check.Verdict.{Verdict}
 use Rattle.sheets.specs.declared.facts.Facts.{Facts}
 use Rattle.rules.proofs.On.{rules-counted, counted-at, budget-keeps, judged-keeps, class-on}
 use Rattle.rules.proofs.First.{all-held}
-use Rattle.rules.proofs.Means.{checked-by}
+use Rattle.rules.proofs.Means.{accepts, names, malforms, undates}
+use Rattle.rules.proofs.Requests.{still-accepted, accepted-before}
+use Rattle.rules.proofs.Exchanged.{moved-only}
+use Rattle.rules.proofs.Dated.{as-before}
 
 -- ---- first_blank: the answer for the whole is the answer for what is left from i
 
@@ -51,10 +56,11 @@ module _ (s : Sheet) (ks : List ℕ) (i : ℕ) where
 
 -- ---- the groups of rules
 
-pub kept-in : (f : Facts) (ks : List ℕ) (os : List Bool) (r : Bool) → os ≡ map (holds f) ks → r ≡ allTrue os → (D : Dates) (s : Sheet) → Read D f s → budget s ≡ true → r ≡ every (keeps D s) ks
-kept-in f ks os r e h D s o b =
-    h ∙ ap allTrue e ∙ all-held (holds f) ks ∙ ap (λ (g : Facts). every (holds g) ks) (o .facts)
-    ∙ ap (λ (p : ℕ → Bool). every p ks) (fun-ext (λ n. sym (budget-keeps D s n b)))
+pub kept-in : (f : Facts) (ks : List ℕ) (os : List Bool) (r : Bool) → os ≡ map (holds f) ks → r ≡ allTrue os
+    → ((D : Dates) (s : Sheet) → Read D f s → budget s ≡ true → r ≡ every (keeps D s) ks) × (r ≡ every (holds f) ks)
+kept-in f ks os r e h =
+    let a : r ≡ every (holds f) ks = h ∙ ap allTrue e ∙ all-held (holds f) ks in
+    (λ D s o b. a ∙ ap (λ (g : Facts). every (holds g) ks) (o .facts) ∙ ap (λ (p : ℕ → Bool). every p ks) (fun-ext (λ n. sym (budget-keeps D s n b))), a)
 
 -- the groups have the rules of the order but 1 to 4
 order-grouped : (p : ℕ → Bool) → every p order ≡ every p (1 ∷ 2 ∷ 3 ∷ 4 ∷ grouped)
@@ -79,21 +85,24 @@ all-grouped D u b h =
 
 -- ---- broken_basic, is_budget
 
-pub basic-first : (f : Facts) (os : List Bool) (r : RuleNumber) → os ≡ generalOn f → r .0 ≡ firstNot (kept os) basic → (D : Dates) (s : Sheet) → Read D f s → r .0 ≡ firstBroken D s basic
+pub basic-first : (f : Facts) (os : List Bool) (r : RuleNumber) → os ≡ generalOn f → r .0 ≡ firstNot (kept os) basic
+    → ((D : Dates) (s : Sheet) → Read D f s → r .0 ≡ firstBroken D s basic) × (r .0 ≡ firstNot (kept (generalOn f)) basic)
 unfolding kept keeps firstNot testOf rules factsBy generalOf accountOf standingOf slotOf _⟨_⟩
-basic-first f os r e h D s o = h ∙ ap (λ (bs : List Bool). firstNot (kept bs) basic) (e ∙ ap (λ (g : Facts). generalOn g) (o .facts))
+basic-first f os r e h =
+    let a : r .0 ≡ firstNot (kept (generalOn f)) basic = h ∙ ap (λ (bs : List Bool). firstNot (kept bs) basic) e in
+    (λ D s o. a ∙ ap (λ (g : Facts). firstNot (kept (generalOn g)) basic) (o .facts), a)
 
 -- the outcomes of the test ahead, at their numbers
 abbrev pub placeAhead : List Bool → List Bool → List Bool
 placeAhead x y =
     true ∷ true ∷ true ∷ true ∷ true ∷ getD x 0 false ∷ getD y 0 false ∷ getD x 1 false ∷ getD x 2 false ∷ getD x 3 false ∷ true ∷ getD x 4 false ∷ getD x 5 false ∷ getD x 6 false ∷ getD x 7 false ∷ true ∷ getD x 8 false ∷ true ∷ true ∷ true ∷ true ∷ true ∷ getD x 9 false ∷ true ∷ true ∷ true ∷ true ∷ true ∷ getD x 10 false ∷ []
 
-pub ahead-first : (f : Facts) (x y os : List Bool) (r : RuleNumber) → x ≡ map (holds f) fixedRules → y ≡ map (holds f) dayRules → os ≡ placeAhead x y → r .0 ≡ firstNot (kept os) ahead → (D : Dates) (s : Sheet) → Read D f s → budget s ≡ true → r .0 ≡ firstBroken D s ahead
+pub ahead-first : (f : Facts) (x y os : List Bool) (r : RuleNumber) → x ≡ map (holds f) fixedRules → y ≡ map (holds f) dayRules → os ≡ placeAhead x y → r .0 ≡ firstNot (kept os) ahead
+    → ((D : Dates) (s : Sheet) → Read D f s → budget s ≡ true → r .0 ≡ firstBroken D s ahead) × (r .0 ≡ firstNot (holds f) ahead)
 unfolding kept firstNot
-ahead-first f x y os r ex ey eo h D s o b =
-    h ∙ ap (λ (l : List Bool). firstNot (kept l) ahead) (eo ∙ (λ i. placeAhead (ex i) (ey i)))
-    ∙ ap (λ (g : Facts). firstNot (holds g) ahead) (o .facts)
-    ∙ ap (λ (p : ℕ → Bool). firstNot p ahead) (fun-ext (λ n. sym (budget-keeps D s n b)))
+ahead-first f x y os r ex ey eo h =
+    let a : r .0 ≡ firstNot (holds f) ahead = h ∙ ap (λ (l : List Bool). firstNot (kept l) ahead) (eo ∙ (λ i. placeAhead (ex i) (ey i))) in
+    (λ D s o b. a ∙ ap (λ (g : Facts). firstNot (holds g) ahead) (o .facts) ∙ ap (λ (p : ℕ → Bool). firstNot p ahead) (fun-ext (λ n. sym (budget-keeps D s n b))), a)
 
 pub class-a-is : (D : Dates) (f : Facts) (s : Sheet) → Read D f s → f .banking .account .a ≡ classA s
 unfolding factsBy accountOf slotOf _⟨_⟩
@@ -122,10 +131,11 @@ placed f g x t b d y eg ex et eb ed ey = λ i. place (eg i) (ex i) (et i) (eb i)
 
 -- ---- broken
 
-pub broken-judged : (f : Facts) (o b : Bool) (os : List Bool) (r : RuleNumber) → o ≡ ordinary f → o ≡ b → os ≡ cond b (generalOn f) (outcomesOn f) → r .0 ≡ firstNot (kept os) order → (D : Dates) (s : Sheet) → Read D f s → r .0 ≡ firstBroken D s order
-broken-judged f o b os r e t h i D s x =
+pub broken-judged : (f : Facts) (o b : Bool) (os : List Bool) (r : RuleNumber) → o ≡ ordinary f → o ≡ b → os ≡ cond b (generalOn f) (outcomesOn f) → r .0 ≡ firstNot (kept os) order
+    → ((D : Dates) (s : Sheet) → Read D f s → r .0 ≡ firstBroken D s order) × (r .0 ≡ firstNot (kept (judgedOn f)) order)
+broken-judged f o b os r e t h i =
     let j : r .0 ≡ firstNot (kept (judgedOn f)) order = cc in
-    j ∙ ap (λ (g : Facts). firstNot (kept (judgedOn g)) order) (x .facts) ∙ sym (ap (λ (p : ℕ → Bool). firstNot p order) (fun-ext (judged-keeps D s)))
+    (λ D s x. j ∙ ap (λ (g : Facts). firstNot (kept (judgedOn g)) order) (x .facts) ∙ sym (ap (λ (p : ℕ → Bool). firstNot p order) (fun-ext (judged-keeps D s))), j)
 
 -- ---- field_of: the table has the fields of the rules by their numbers, which go up by one
 
@@ -168,6 +178,23 @@ module _ (s : Sheet) where
       go true c e = absurd (false≢true (sym e))
       go false true e = absurd (false≢true (sym e))
       go false false e = refl
+
+-- the promise from its first clause
+checked-by : (D : Dates) (s : Sheet) (v : Verdict) → verdictAnswer v ≡ checked D s → Checked D s v
+checked-by D s v e =
+    record {
+      answer = e;
+      accepted = accepts D s v e;
+      named = names D s v e;
+      malformed = malforms D s v e;
+      undated = undates D s v e;
+      dated = dated D;
+      inForce = in-force D;
+      r2 = λ c h. e ∙ still-accepted D s c h;
+      r4 = λ c h. accepted-before D s c (sym e ∙ h);
+      r5 = rw e (moved-only D s);
+      r7 = λ z E. rw (e, z) (as-before E s);
+    }
 
 -- its ways out
 pub check-out : (k : ℕ) (D : Dates) (s : Sheet) (v : Verdict) → Way (className (classOf s)) [] [] (verdictAnswer v) [] (Checked D s v) k (checkTests D s)

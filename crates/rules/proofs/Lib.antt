@@ -2,6 +2,7 @@ pub mod On
 pub mod First
 pub mod Means
 pub mod Judging
+pub mod AllBroken
 pub mod Reading
 pub mod Requests
 pub mod Exchanged

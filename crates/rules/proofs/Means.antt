@@ -14,9 +14,8 @@ use Rattle.texts.proofs.Refusals.{none-of, succeeded, never}
 use Rattle.sheets.specs.Sheet.{wellFormed, Sheet}
 use Rattle.sheets.specs.Dates.{datesFit}
 use Rattle.sheets.specs.declared.dates.Dates.{Dates}
-use Rattle.sheets.proofs.InForce.{dated, in-force}
 use Rattle.rules.specs.Rules.{classOf, rules, order, fieldOf, keeps, keepsAll, firstBroken}
-use Rattle.rules.specs.Verdicts.{className, brokenRule, verdictAnswer, checkTests, checked, Checked}
+use Rattle.rules.specs.Verdicts.{className, brokenRule, verdictAnswer, checkTests, checked}
 use Rattle.rules.proofs.First.{numbered, none-kept, kept-none, split}
 use Rattle.rules.specs.declared.class.Class.the-variants.{A, B, O}
 use Rattle.rules.specs.declared.check.Verdict.{Verdict}
@@ -45,7 +44,7 @@ unfolding every
 order-numbered = refl
 
 module _ (D : Dates) (s : Sheet) (v : Verdict) (e : verdictAnswer v ≡ checked D s) where
-  accepts : wellFormed s ≡ true → datesFit D ≡ true → (v ≡ Accepted (classOf s)) ↔ (keepsAll D s ≡ true)
+  pub accepts : wellFormed s ≡ true → datesFit D ≡ true → (v ≡ Accepted (classOf s)) ↔ (keepsAll D s ≡ true)
   unfolding checked checkTests keepsAll verdictAnswer
   accepts w d = (
     (λ a.
@@ -54,7 +53,7 @@ module _ (D : Dates) (s : Sheet) (v : Verdict) (e : verdictAnswer v ≡ checked 
     (λ k. same-verdict v (Accepted (classOf s)) (e ∙ rw (w, d, kept-none (keeps D s) order k))),
   )
 
-  names : wellFormed s ≡ true → datesFit D ≡ true → (keepsAll D s ≡ true → ⊥)
+  pub names : wellFormed s ≡ true → datesFit D ≡ true → (keepsAll D s ≡ true → ⊥)
       → (before : List ℕ) × (n : ℕ) × (after : List ℕ)
       × (order ≡ before ++ (n ∷ after))
       × (every (keeps D s) before ≡ true)
@@ -66,7 +65,7 @@ module _ (D : Dates) (s : Sheet) (v : Verdict) (e : verdictAnswer v ≡ checked 
       let z : n ≡ 0 → ⊥ = λ q. f (none-kept (keeps D s) order order-numbered (i ∙ q)) in
       (b, n, a, o, p, k, same-verdict v (Broken (record { 0 = fieldOf rules n s }) (record { 0 = n })) (e ∙ rw (w, d, i, ne-eqb n 0 z)))
 
-  malforms : (v ≡ Malformed) ↔ (wellFormed s ≡ false)
+  pub malforms : (v ≡ Malformed) ↔ (wellFormed s ≡ false)
   unfolding verdictAnswer checked checkTests
   malforms = (
     (λ a. go (wellFormed s) refl (sym e ∙ ap verdictAnswer a)),
@@ -81,7 +80,7 @@ module _ (D : Dates) (s : Sheet) (v : Verdict) (e : verdictAnswer v ≡ checked 
           ((not (datesFit D) refuses 12) ∷ brokenRule rules (firstBroken D s order) s ∷ [])
           (λ z. omega arith) refl (ap numberOf (rw w at h)))
 
-  undates : wellFormed s ≡ true → (v ≡ Undated) ↔ (datesFit D ≡ false)
+  pub undates : wellFormed s ≡ true → (v ≡ Undated) ↔ (datesFit D ≡ false)
   unfolding verdictAnswer checked checkTests
   undates w = (
     (λ a. go (datesFit D) refl (sym e ∙ ap verdictAnswer a)),
@@ -95,6 +94,3 @@ module _ (D : Dates) (s : Sheet) (v : Verdict) (e : verdictAnswer v ≡ checked 
           (never 12 (className (classOf s))
           (brokenRule rules (firstBroken D s order) s ∷ [])
           (λ z. omega arith) refl (ap numberOf (rw (w, d) at h)))
-
-  pub checked-by : Checked D s v
-  checked-by = record { answer = e; accepted = accepts; named = names; malformed = malforms; undated = undates; dated = dated D; inForce = in-force D }

@@ -120,7 +120,7 @@ verdictsBy b f = generalOn f ++ map (λ (o : Bool). b ⇒ o) (specialOn f)
 abbrev pub verdictsOn : Facts → List Bool
 verdictsOn f = verdictsBy (not (ordinary f)) f
 
-tests-on : (D : Dates) (s : Sheet) → true ∷ testsOf D s rules ≡ verdictsOn (factsOf D s)
+pub tests-on : (D : Dates) (s : Sheet) → true ∷ testsOf D s rules ≡ verdictsOn (factsOf D s)
 unfolding testsOf rules factsBy generalOf accountOf codeOf payerOf formOf groupsOf standingOf basisOf documentOf dayOf slotOf _⟨_⟩
 tests-on D s =
     let f = factsOf D s in

@@ -17,7 +17,7 @@ use Rattle.sheets.proofs.Kpps.{kpp-wider}
 use Rattle.sheets.specs.Dates.{datesFit}
 use Rattle.sheets.specs.declared.dates.Dates.{Dates}
 use Rattle.rules.specs.Rules.{Rule, budget, rules, order, status, testOf, rule8, rule9, rule11, rule12, rule23, rule24, rule25, classOf}
-use Rattle.rules.specs.Verdicts.{className}
+use Rattle.rules.specs.Verdicts.{className, checked}
 use Rattle.rules.specs.Before.{testsBy, checkedBy, now}
 use Rattle.rules.specs.R2 as r2
 use Rattle.rules.specs.R4 as r4
@@ -83,7 +83,7 @@ implied-before D s n e =
     set-implies (testsOf D s rules) 10 _ (b ⇒ rule11 s) (if-implied b (r2.rule11Before s) _ (or-implied (s ⟨ 102 ⟩ is "0") _ _ (kpp-wider (s ⟨ 102 ⟩)))) n
     (set-implies with11 11 (b ⇒ r2.rule12Before s) (b ⇒ rule12 s) (if-implied b _ _ (kpp-wider (s ⟨ 103 ⟩))) n e)
 
-pub still-accepted : r2.StillAccepted
+pub still-accepted : (D : Dates) (s : Sheet) → r2.StillAccepted D s (checked D s)
 unfolding testOf rules r2.rulesBefore
 still-accepted D s c e = sym (now D s) ∙ accepted-too r2.rulesBefore rules refl refl D s refl (implied-before D s) c e
 
@@ -130,6 +130,6 @@ plain-implied D s n e =
     (set-implies with25 23 (b ⇒ rule24 s) (b ⇒ r4.rule24Before s) (if-implied b _ _ (rule24-plain s)) n
     (set-implies (testsOf D s rules) 24 (b ⇒ rule25 s) (b ⇒ r4.rule25Before s) (if-implied b _ _ (rule25-plain s)) n e))))
 
-pub accepted-before : r4.AcceptedBefore
+pub accepted-before : (D : Dates) (s : Sheet) → r4.AcceptedBefore D s (checked D s)
 unfolding testOf rules r4.rulesBefore
 accepted-before D s c e = accepted-too rules r4.rulesBefore refl refl D s refl (plain-implied D s) c (now D s ∙ e)

@@ -1,5 +1,6 @@
 pub mod Rules
 pub mod Verdicts
+pub mod AllBroken
 pub mod Examples
 pub mod Pinned
 pub mod Before
@@ -8,4 +9,6 @@ pub mod R2
 pub mod R4
 pub mod R5
 pub mod R7
+pub mod Checked
+pub mod AllBrokenTable
 pub mod Working

@@ -1,4 +1,4 @@
--- R-4: check digits of the INN. What was accepted before, as a statement (proofs/Requests.antt proves it); and the answers that change, with
+-- R-4: check digits of the INN. What was accepted before, as a statement that `Checked` makes of every answer; and the answers that change, with
 -- their neighbours, shown true of the definitions by one computation. Assumes nothing.
 use mathlib.Core.Path.{_≡_, refl}
 use mathlib.Core.Bool.{Bool, _&&_, _||_}
@@ -14,7 +14,6 @@ use Rattle.sheets.specs.Lists.{personalGroup, wantInn, wantTen, wantTwelve, wan
 use Rattle.rules.specs.Rules.{Rule, general, special, forBudget, order, status}
 use Rattle.sheets.specs.Dates.{programDates}
 use Rattle.sheets.specs.declared.dates.Dates.{Dates}
-use Rattle.rules.specs.Verdicts.{checked}
 use Rattle.rules.specs.Before.{replaced, testsBy, checkedBy}
 use Rattle.rules.specs.Examples.{Change, _≔_, accepted, broken, sheetWith, answer, Right, varied}
 
@@ -54,9 +53,9 @@ rulesBefore =
     (map (replaced 8 rule8Before)
     (map (replaced 9 rule9Before) (map (replaced 23 rule23Before) (map (replaced 24 rule24Before) (map (replaced 25 rule25Before) special)))))
 
--- every sheet accepted now was accepted before, with the same class
-abbrev pub AcceptedBefore : Type 0
-AcceptedBefore = (D : Dates) (s : Sheet) (c : List ℕ) → checked D s ≡ success c → checkedBy rulesBefore order D s ≡ success c
+-- every sheet accepted now, with the answer a, was accepted before, with the same class
+abbrev pub AcceptedBefore : Dates → Sheet → Answer → Type 0
+AcceptedBefore D s a = (c : List ℕ) → a ≡ success c → checkedBy rulesBefore order D s ≡ success c
 
 -- ---- the table: S with each text of a line in 60 (in 61), and S of status 17 with each in 60
 

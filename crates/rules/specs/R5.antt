@@ -1,4 +1,4 @@
--- R-5: rule 22 is tested ahead of rule 21. The answers that change, exactly, as a statement (proofs/Exchanged.antt proves it); and a table of
+-- R-5: rule 22 is tested ahead of rule 21. The answers that change, exactly, as a statement that `Checked` makes of every answer; and a table of
 -- them and their neighbours, shown true of the definitions by one computation. Assumes nothing.
 use mathlib.Core.Path.{_≡_, refl}
 use mathlib.Core.Logic.{_↔_}
@@ -13,7 +13,6 @@ use Rattle.sheets.specs.Lists.{account03212, courtsGroup}
 use Rattle.rules.specs.Rules.{rules, status, keeps, keepsAll}
 use Rattle.sheets.specs.Dates.{datesFit, programDates}
 use Rattle.sheets.specs.declared.dates.Dates.{Dates}
-use Rattle.rules.specs.Verdicts.{checked}
 use Rattle.rules.specs.Before.{testsBy, checkedBy}
 use Rattle.rules.specs.Examples.{Change, _≔_, accepted, broken, sheetWith, answer}
 
@@ -35,19 +34,19 @@ abbrev pub before : Dates → Sheet → Answer
 before D s = checkedBy rules orderBefore D s
 
 -- "The answers that change are exactly these ..": of a well-formed sheet, "They were field 22, rule 21, and become field 22, rule 22.
--- Nothing else moves, acceptance included"
-pub record Moved (D : Dates) (s : Sheet) : Type 0 where
-  pub exactly : (before D s ≡ checked D s → ⊥) ↔ (caught D s ≡ true)
+-- Nothing else moves, acceptance included". a is the answer now.
+pub record Moved (D : Dates) (s : Sheet) (a : Answer) : Type 0 where
+  pub exactly : (before D s ≡ a → ⊥) ↔ (caught D s ≡ true)
   pub was : caught D s ≡ true → before D s ≡ broken 22 21
-  pub becomes : caught D s ≡ true → checked D s ≡ broken 22 22
-  pub stays : caught D s ≡ false → before D s ≡ checked D s
+  pub becomes : caught D s ≡ true → a ≡ broken 22 22
+  pub stays : caught D s ≡ false → before D s ≡ a
 
-pub record MovedOnly : Type 0 where
-  pub moved : (D : Dates) (s : Sheet) → wellFormed s ≡ true → datesFit D ≡ true → Moved D s
-  pub malformed : (D : Dates) (s : Sheet) → wellFormed s ≡ false → before D s ≡ checked D s
-  pub undated : (D : Dates) (s : Sheet) → datesFit D ≡ false → before D s ≡ checked D s
+pub record MovedOnly (D : Dates) (s : Sheet) (a : Answer) : Type 0 where
+  pub moved : wellFormed s ≡ true → datesFit D ≡ true → Moved D s a
+  pub malformed : wellFormed s ≡ false → before D s ≡ a
+  pub undated : datesFit D ≡ false → before D s ≡ a
   -- so completion, which asks whether a filling keeps all rules
-  pub kept : (D : Dates) (s : Sheet) → every (keeps D s) orderBefore ≡ keepsAll D s
+  pub kept : every (keeps D s) orderBefore ≡ keepsAll D s
 
 -- ---- the table: differences from S, what was answered before, what is answered now
 

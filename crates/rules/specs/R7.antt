@@ -1,4 +1,4 @@
--- R-7: the order's date chooses the rules. What stays at the program's dates, as a statement (proofs/Dated.antt proves it); and a table of
+-- R-7: the order's date chooses the rules. What stays at the program's dates, as a statement that `Checked` makes; and a table of
 -- answers at dates on both sides of each end, shown true of the definitions by one computation. Assumes nothing.
 use mathlib.Core.Path.{_≡_, refl}
 use mathlib.Core.Bool.{Bool, not, _&&_}
@@ -45,9 +45,10 @@ unfoldable pub checkedBefore : Dates → Sheet → Answer
 checkedBefore D s = answerBy (testsBefore D s) (className (classOf s))
 
 -- "The program uses the order date 20240101 and the three dates given here, so its output is the same as before": at these dates every sheet
--- is checked as before, whatever dates D the rules before are given, and keeps all rules exactly if it kept them before
-pub record AsBefore (D : Dates) (s : Sheet) : Type 0 where
-  pub answer : checked programDates s ≡ checkedBefore D s
+-- is checked as before, whatever dates D the rules before are given, and keeps all rules exactly if it kept them before; a is the answer
+-- at the program's dates
+pub record AsBefore (D : Dates) (s : Sheet) (a : Answer) : Type 0 where
+  pub answer : a ≡ checkedBefore D s
   pub kept : keepsAll programDates s ≡ every (keepsBefore D s) order
 
 -- what was accepted before and what was not

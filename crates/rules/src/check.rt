@@ -6,8 +6,8 @@ ghost use Rattle.sheets.specs.Sheet.{Sheet};
 ghost use Rattle.sheets.specs.Working.Facts.{Read};
 ghost use Rattle.sheets.specs.declared.dates.Dates.{Dates};
 ghost use Rattle.rules.specs.Rules.{budget, order, basic, ahead, firstNot, firstBroken};
-ghost use Rattle.rules.specs.Working.Tests.{kept, outcomesOn};
-ghost use Rattle.rules.specs.Verdicts.{Checked};
+ghost use Rattle.rules.specs.Working.Tests.{kept, holds, generalOn, outcomesOn, judgedOn};
+ghost use Rattle.rules.specs.Checked.{Checked};
 use crate::class::Class;
 use crate::class::class_of;
 use crate::class::is_ordinary;
@@ -107,9 +107,10 @@ fn first_broken(outcomes: &[bool], order: &[u8]) -> RuleNumber
     RuleNumber(0)
 }
 
-// What completion asks of a sheet's facts, in words of the sheet: the first broken one of rules 1 to 3.
+// What completion asks of a sheet's facts, in words of the sheet: the first broken one of rules 1 to 3. Here and below the answer is said of
+// all facts, too, whether or not they were read of a sheet.
 pub fn broken_basic(f: Facts) -> RuleNumber
-    ensures { λ r. ⌜ ((D : Dates) (s : Sheet) → Read D f s → r .0 ≡ firstBroken D s basic) ⌝ }
+    ensures { λ r. ⌜ ((D : Dates) (s : Sheet) → Read D f s → r .0 ≡ firstBroken D s basic) × (r .0 ≡ firstNot (kept (generalOn f)) basic) ⌝ }
 {
     first_broken(&general_outcomes(f), &BASIC)
 }
@@ -167,7 +168,7 @@ fn outcomes(f: Facts) -> [bool; 36]
 // What a test ahead of completion asks of a budget payment's facts, in words of the sheet: the first broken one of its rules. It makes no
 // other outcome.
 pub fn broken_ahead(f: Facts) -> RuleNumber
-    ensures { λ r. ⌜ ((D : Dates) (s : Sheet) → Read D f s → budget s ≡ true → r .0 ≡ firstBroken D s ahead) ⌝ }
+    ensures { λ r. ⌜ ((D : Dates) (s : Sheet) → Read D f s → budget s ≡ true → r .0 ≡ firstBroken D s ahead) × (r .0 ≡ firstNot (holds f) ahead) ⌝ }
 {
     let always = fixed_outcomes(f);
     let given = day_outcomes(f);
@@ -207,7 +208,7 @@ pub fn broken_ahead(f: Facts) -> RuleNumber
 
 // What check and a writer of MT103 lines ask of a sheet's facts, in words of the sheet: the first broken rule.
 pub fn broken(f: Facts) -> RuleNumber
-    ensures { λ r. ⌜ ((D : Dates) (s : Sheet) → Read D f s → r .0 ≡ firstBroken D s order) ⌝ }
+    ensures { λ r. ⌜ ((D : Dates) (s : Sheet) → Read D f s → r .0 ≡ firstBroken D s order) × (r .0 ≡ firstNot (kept (judgedOn f)) order) ⌝ }
 {
     if is_ordinary(f) {
         return first_broken(&general_outcomes(f), &ORDER);

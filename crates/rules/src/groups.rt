@@ -119,38 +119,38 @@ fn lines_outcomes(f: Facts) -> [bool; 8]
 }
 
 pub fn kept_lines(f: Facts) -> bool
-    ensures { λ r. ⌜ ((D : Dates) (s : Sheet) → Read D f s → budget s ≡ true → r ≡ every (keeps D s) ofLines) ⌝ }
+    ensures { λ r. ⌜ ((D : Dates) (s : Sheet) → Read D f s → budget s ≡ true → r ≡ every (keeps D s) ofLines) × (r ≡ every (holds f) ofLines) ⌝ }
 {
     all_true(&lines_outcomes(f))
 }
 
 // Each group, as completion tests it.
 pub fn kept_fixed(f: Facts) -> bool
-    ensures { λ r. ⌜ ((D : Dates) (s : Sheet) → Read D f s → budget s ≡ true → r ≡ every (keeps D s) fixedRules) ⌝ }
+    ensures { λ r. ⌜ ((D : Dates) (s : Sheet) → Read D f s → budget s ≡ true → r ≡ every (keeps D s) fixedRules) × (r ≡ every (holds f) fixedRules) ⌝ }
 {
     all_true(&fixed_outcomes(f))
 }
 
 pub fn kept_status(f: Facts) -> bool
-    ensures { λ r. ⌜ ((D : Dates) (s : Sheet) → Read D f s → budget s ≡ true → r ≡ every (keeps D s) statusRules) ⌝ }
+    ensures { λ r. ⌜ ((D : Dates) (s : Sheet) → Read D f s → budget s ≡ true → r ≡ every (keeps D s) statusRules) × (r ≡ every (holds f) statusRules) ⌝ }
 {
     all_true(&status_outcomes(f))
 }
 
 pub fn kept_basis(f: Facts) -> bool
-    ensures { λ r. ⌜ ((D : Dates) (s : Sheet) → Read D f s → budget s ≡ true → r ≡ every (keeps D s) basisRules) ⌝ }
+    ensures { λ r. ⌜ ((D : Dates) (s : Sheet) → Read D f s → budget s ≡ true → r ≡ every (keeps D s) basisRules) × (r ≡ every (holds f) basisRules) ⌝ }
 {
     all_true(&basis_outcomes(f))
 }
 
 pub fn kept_document(f: Facts) -> bool
-    ensures { λ r. ⌜ ((D : Dates) (s : Sheet) → Read D f s → budget s ≡ true → r ≡ every (keeps D s) documentRules) ⌝ }
+    ensures { λ r. ⌜ ((D : Dates) (s : Sheet) → Read D f s → budget s ≡ true → r ≡ every (keeps D s) documentRules) × (r ≡ every (holds f) documentRules) ⌝ }
 {
     all_true(&document_outcomes(f))
 }
 
 pub fn kept_day(f: Facts) -> bool
-    ensures { λ r. ⌜ ((D : Dates) (s : Sheet) → Read D f s → budget s ≡ true → r ≡ every (keeps D s) dayRules) ⌝ }
+    ensures { λ r. ⌜ ((D : Dates) (s : Sheet) → Read D f s → budget s ≡ true → r ≡ every (keeps D s) dayRules) × (r ≡ every (holds f) dayRules) ⌝ }
 {
     all_true(&day_outcomes(f))
 }

@@ -78,11 +78,11 @@ pub status-at-blank : (f : Facts) (k : ℕ) (r : Standing) → f .status .blank 
 status-at-blank f k r b e = e ∙ ap (λ (x : Bool). cond x (standingOf (f .force) (getD (textsIn (f .force)) k [])) (f .status)) (sym b)
 
 -- status_count
-pub status-count : (f : Facts) (n : ℕ) → n ≡ countIn (f .force) → ((D : Dates) (s : Sheet) → Read D f s → n ≡ statusCount D) × ((20 ≤ n) × (n ≤ 23))
+pub status-count : (f : Facts) (n : ℕ) → n ≡ countIn (f .force) → ((D : Dates) (s : Sheet) → Read D f s → n ≡ statusCount D) × ((20 ≤ n) × ((n ≤ 23) × (n ≡ countIn (f .force))))
 unfolding factsBy
 status-count f n e = (
   λ D s o. e ∙ count-is (f .force) ∙ ap (λ (g : Facts). length (textsIn (g .force))) (o .facts),
-  (omega (arith, count-bounds (f .force) .0), omega (arith, count-bounds (f .force) .1)),
+  (omega (arith, count-bounds (f .force) .0), (omega (arith, count-bounds (f .force) .1), e)),
 )
 
 -- and past its end

@@ -8,7 +8,7 @@ use native.Mathlib.Decide.{ℕ-discrete, decLt}
 use native.Mathlib.Omega.{arith}
 use borrow.Author.Tests.{eqb-true, eq-eqb, ne-eqb, lt-ltb, le-ltb, le-leb, lt-leb, not-true, not-false}
 use lib.Dec.{eqb, leb, ltb}
-use lib.ListN.{length, getD}
+use lib.ListN.{length, getD, replicate}
 use Rattle.texts.specs.Quoted.{Text}
 use Rattle.texts.specs.Texts.{every, any, are, among, between, same, startsWith, digits, valueOf, value, number, weighted, _is_, _begins_}
 use Rattle.texts.proofs.Bools.{both}
@@ -17,7 +17,7 @@ use Rattle.texts.proofs.Arms.{AnyOf, arm, outside}
 use Rattle.sheets.specs.Sheet.{sheetSize, textOf}
 use Rattle.sheets.specs.Forms.{weights10, checkDigit, inn10, digits10, digitOrCapital, kpp, document, snilsBound, snilsCheck, snils, pension, leap, monthDays, gregorian, date}
 use Rattle.sheets.specs.Lists.{customsGroup, treasuryGroup, courtsGroup, personalGroup, banksB, numbersOf, zeroTexts}
-use Rattle.sheets.specs.Working.Facts.{isB, inSet, allowedBy, groupsBy, groupsOf, standingBy, standingOf, wantedBy, basisOf, documentOf, dayOf, factsBy, factsOf, Read}
+use Rattle.sheets.specs.Working.Facts.{isB, inSet, allowedBy, groupsBy, groupsOf, standingBy, standingOf, wantedBy, basisOf, documentOf, dayOf, factsBy, factsOf, factsIn, Read}
 use Rattle.sheets.specs.declared.forms.Wanted.the-variants.{Any, Ten}
 use Rattle.sheets.specs.Dates.{dayNumber, datesFit, forceOf, textsIn, listed}
 use Rattle.sheets.specs.declared.dates.Dates.{Dates}
@@ -169,20 +169,28 @@ pub document-zero : (t : Text) (b : Bool) (r : Document) → b ≡ same t (48 �
 document-zero t b r e h er = er ∙ ap documentOf (sym (same-true t (48 ∷ []) (sym e ∙ h)))
 
 -- facts_of
-pub facts-other : (D : Dates) (s : List ℕ) (r : Facts) → (length s ≡ sheetSize → ⊥) → length s ≡ sheetSize → Read D r s
-facts-other D s r l e = absurd (l e)
+pub facts-empty : (D : Dates) (r : Facts) → (length (replicate {A = ℕ} sheetSize 0) ≡ sheetSize → Read D r (replicate sheetSize 0)) → r ≡ factsOf D (replicate sheetSize 0)
+facts-empty D r h = h refl .facts
+
+pub facts-other : (D : Dates) (s : List ℕ) (r : Facts) → (length s ≡ sheetSize → ⊥) → r ≡ factsOf D (replicate sheetSize 0) → (length s ≡ sheetSize → Read D r s) × (r ≡ factsIn D s)
+unfolding factsIn
+facts-other D s r l h = (λ e. absurd (l e), h ∙ rw (ne-eqb (length s) sheetSize l))
 
 pub facts-is : (D : Dates) (s : List ℕ) (h : Banking) (d : Parties) (r : Classifiers) (F : Force) (a : Standing) (b : Basis) (c : Document) (y : Day) (t u v w : Text)
     → ((E : Dates) → h ≡ factsOf E s .banking) → ((E : Dates) → d ≡ factsOf E s .parties) → ((E : Dates) → r ≡ factsOf E s .classifiers) → F ≡ forceOf D → t ≡ textOf s 6 → a ≡ standingOf F t → u ≡ textOf s 11 → b ≡ basisOf u
     → v ≡ textOf s 13 → c ≡ documentOf v → w ≡ textOf s 14 → y ≡ dayOf w
-    → length s ≡ sheetSize → Read D (record { banking = h; parties = d; classifiers = r; force = F; status = a; basis = b; document = c; day = y }) s
-unfolding factsBy
+    → length s ≡ sheetSize
+    → (length s ≡ sheetSize → Read D (record { banking = h; parties = d; classifiers = r; force = F; status = a; basis = b; document = c; day = y }) s)
+    × (record { banking = h; parties = d; classifiers = r; force = F; status = a; basis = b; document = c; day = y } ≡ factsIn D s)
+unfolding factsBy factsIn
 facts-is D s h d r F a b c y t u v w eh ed er eF et ea eu eb ev ec ew ey l =
     let fa : a ≡ standingOf (forceOf D) (textOf s 6) = ea ∙ (λ i. standingOf (eF i) (et i)) in
     let fb : b ≡ basisOf (textOf s 11) = eb ∙ ap basisOf eu in
     let fc : c ≡ documentOf (textOf s 13) = ec ∙ ap documentOf ev in
     let fy : y ≡ dayOf (textOf s 14) = ey ∙ ap dayOf ew in
-    record { size = l; facts = λ i. record { banking = eh D i; parties = ed D i; classifiers = er D i; force = eF i; status = fa i; basis = fb i; document = fc i; day = fy i } }
+    let e : record { banking = h; parties = d; classifiers = r; force = F; status = a; basis = b; document = c; day = y } ≡ factsOf D s =
+    λ i. record { banking = eh D i; parties = ed D i; classifiers = er D i; force = eF i; status = fa i; basis = fb i; document = fc i; day = fy i } in
+    (λ z. record { size = l; facts = e }, e ∙ rw (eq-eqb (length s) sheetSize l))
 
 -- has_ten
 pub inn-ten : (t : Text) (b : Bool) → b ≡ inn10 t → b ≡ true → true ≡ digits10 t

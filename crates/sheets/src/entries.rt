@@ -10,7 +10,7 @@ ghost use Rattle.sheets.specs.Working.Facts.{standingOf, basisOf, docume
 ghost use Rattle.sheets.specs.Lists.{basisTexts, zeroTexts};
 ghost use Rattle.sheets.specs.Dates.{textsIn, statusTexts, statusCount};
 ghost use Rattle.sheets.specs.declared.dates.Dates.{Dates};
-ghost use Rattle.sheets.specs.Working.Entries.{rowOf, filledAt, countIn, statusAt, basisAt, documentAt, dayAt};
+ghost use Rattle.sheets.specs.Working.Entries.{rowOf, filledAt, countIn, statusAt, basisAt, documentAt, dayAt, withStatus, withBasis, withDocument, withDay};
 use crate::dates::Dates;
 use crate::dates::Force;
 use crate::dates::force_of;
@@ -173,39 +173,40 @@ fn day_at(f: Facts, k: usize) -> Day
 }
 
 // What a crate above needs of facts, in words of sheets: whether a field that can vary is blank, and the facts of the sheet with
-// entry k of its list put in; of a sheet g that has in that field what f has.
+// entry k of its list put in; of a sheet g that has in that field what f has. Beside this each answer is said of all facts, whether or not
+// they were read of a sheet.
 pub fn status_count(f: Facts) -> usize
-    ensures { λ r. ⌜ ((D : Dates) (s : Sheet) → Read D f s → r ≡ statusCount D) × ((20 ≤ r) × (r ≤ 23)) ⌝ }
+    ensures { λ r. ⌜ ((D : Dates) (s : Sheet) → Read D f s → r ≡ statusCount D) × ((20 ≤ r) × ((r ≤ 23) × (r ≡ countIn (f .force)))) ⌝ }
 {
     count_in(f.force)
 }
 
 pub fn blank_status(f: Facts) -> bool
-    ensures { λ r. ⌜ ((D : Dates) (s : Sheet) → Read D f s → r ≡ blank (textOf s 6)) ⌝ }
+    ensures { λ r. ⌜ ((D : Dates) (s : Sheet) → Read D f s → r ≡ blank (textOf s 6)) × (r ≡ f .status .blank) ⌝ }
 {
     f.status.blank
 }
 
 pub fn blank_basis(f: Facts) -> bool
-    ensures { λ r. ⌜ ((D : Dates) (s : Sheet) → Read D f s → r ≡ blank (textOf s 11)) ⌝ }
+    ensures { λ r. ⌜ ((D : Dates) (s : Sheet) → Read D f s → r ≡ blank (textOf s 11)) × (r ≡ f .basis .blank) ⌝ }
 {
     f.basis.blank
 }
 
 pub fn blank_document(f: Facts) -> bool
-    ensures { λ r. ⌜ ((D : Dates) (s : Sheet) → Read D f s → r ≡ blank (textOf s 13)) ⌝ }
+    ensures { λ r. ⌜ ((D : Dates) (s : Sheet) → Read D f s → r ≡ blank (textOf s 13)) × (r ≡ f .document .blank) ⌝ }
 {
     f.document.blank
 }
 
 pub fn blank_day(f: Facts) -> bool
-    ensures { λ r. ⌜ ((D : Dates) (s : Sheet) → Read D f s → r ≡ blank (textOf s 14)) ⌝ }
+    ensures { λ r. ⌜ ((D : Dates) (s : Sheet) → Read D f s → r ≡ blank (textOf s 14)) × (r ≡ f .day .blank) ⌝ }
 {
     f.day.blank
 }
 
 pub fn fill_status(f: Facts, k: usize) -> Facts
-    ensures { λ r. ⌜ ((D : Dates) (s : Sheet) → Read D f s → Read D r (filledAt s 6 (cell (getD (statusTexts D) k [])))) ⌝ }
+    ensures { λ r. ⌜ ((D : Dates) (s : Sheet) → Read D f s → Read D r (filledAt s 6 (cell (getD (statusTexts D) k [])))) × (r ≡ withStatus f f k) ⌝ }
 {
     let x = status_at(f, k);
     let mut h = f;
@@ -214,7 +215,7 @@ pub fn fill_status(f: Facts, k: usize) -> Facts
 }
 
 pub fn fill_basis(g: Facts, f: Facts, k: usize) -> Facts
-    ensures { λ r. ⌜ ((D : Dates) (s t : Sheet) → Read D f s → Read D g t → textOf t 11 ≡ textOf s 11 → Read D r (filledAt t 11 (cell (getD basisTexts k [])))) ⌝ }
+    ensures { λ r. ⌜ ((D : Dates) (s t : Sheet) → Read D f s → Read D g t → textOf t 11 ≡ textOf s 11 → Read D r (filledAt t 11 (cell (getD basisTexts k [])))) × (r ≡ withBasis g f k) ⌝ }
 {
     let x = basis_at(f, k);
     let mut h = g;
@@ -223,7 +224,7 @@ pub fn fill_basis(g: Facts, f: Facts, k: usize) -> Facts
 }
 
 pub fn fill_document(g: Facts, f: Facts, k: usize) -> Facts
-    ensures { λ r. ⌜ ((D : Dates) (s t : Sheet) → Read D f s → Read D g t → textOf t 13 ≡ textOf s 13 → Read D r (filledAt t 13 (cell (getD zeroTexts k [])))) ⌝ }
+    ensures { λ r. ⌜ ((D : Dates) (s t : Sheet) → Read D f s → Read D g t → textOf t 13 ≡ textOf s 13 → Read D r (filledAt t 13 (cell (getD zeroTexts k [])))) × (r ≡ withDocument g f k) ⌝ }
 {
     let x = document_at(f, k);
     let mut h = g;
@@ -232,7 +233,7 @@ pub fn fill_document(g: Facts, f: Facts, k: usize) -> Facts
 }
 
 pub fn fill_day(g: Facts, f: Facts, k: usize) -> Facts
-    ensures { λ r. ⌜ ((D : Dates) (s t : Sheet) → Read D f s → Read D g t → textOf t 14 ≡ textOf s 14 → Read D r (filledAt t 14 (cell (getD zeroTexts k [])))) ⌝ }
+    ensures { λ r. ⌜ ((D : Dates) (s t : Sheet) → Read D f s → Read D g t → textOf t 14 ≡ textOf s 14 → Read D r (filledAt t 14 (cell (getD zeroTexts k [])))) × (r ≡ withDay g f k) ⌝ }
 {
     let x = day_at(f, k);
     let mut h = g;

@@ -2,11 +2,11 @@
 ghost use mathlib.Core.Path.{_≡_};
 ghost use mathlib.Core.Bool.{not};
 ghost use Prim.Native.Nat.{ℕ};
-ghost use lib.ListN.{length};
+ghost use lib.ListN.{length, replicate};
 ghost use Rattle.texts.specs.Texts.{every, between, blank, number, _is_};
 ghost use Rattle.sheets.specs.Sheet.{sheetSize, given, textOf};
 ghost use Rattle.sheets.specs.Forms.{inn10, digits10};
-ghost use Rattle.sheets.specs.Working.Facts.{generalOf, isA, isB, accountOf, codeOf, payerOf, formOf, inSet, groupsBy, allowedBy, standingBy, standingOf, basisOf, documentOf, dayOf, fixed, factsOf, Read};
+ghost use Rattle.sheets.specs.Working.Facts.{generalOf, isA, isB, accountOf, codeOf, payerOf, formOf, inSet, groupsBy, allowedBy, standingBy, standingOf, basisOf, documentOf, dayOf, fixed, factsOf, factsIn, Read};
 ghost use Rattle.sheets.specs.declared.dates.Dates.{Dates};
 use crate::dates::Dates;
 use crate::dates::Force;
@@ -467,14 +467,15 @@ fn classifiers_of(sheet: &[u8]) -> Classifiers
 }
 
 // A function of its own: the compiler makes an array at the head of the function that has it.
-fn empty_facts(dates: Dates) -> Facts {
+fn empty_facts(dates: Dates) -> Facts
+    ensures { λ r. ⌜ r ≡ factsOf dates (replicate sheetSize 0) ⌝ }
+{
     facts_of(&[0u8; SHEET_SIZE], dates)
 }
 
-// The test of the size tells the compiler where every field stands. Of a sheet that has another size nothing is promised: the
-// facts are those of an empty one.
+// The test of the size tells the compiler where every field stands. What has another size has the facts of an empty sheet.
 pub fn facts_of(sheet: &[u8], dates: Dates) -> Facts
-    ensures { λ r. ⌜ (length (now (sheet .entry)) ≡ sheetSize → Read dates r (now (sheet .entry))) ⌝ }
+    ensures { λ r. ⌜ (length (now (sheet .entry)) ≡ sheetSize → Read dates r (now (sheet .entry))) × (r ≡ factsIn dates (now (sheet .entry))) ⌝ }
 {
     if sheet.len() != SHEET_SIZE {
         return empty_facts(dates);

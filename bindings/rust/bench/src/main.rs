@@ -77,12 +77,12 @@ fn measure_all() -> Report {
     rows.push(shares(inputs::shares(&mut inputs::random())));
     rows.push(pool(
         "pool, 60 lines of 20 INNs",
-        NO_SLOWER,
+        Goal::OfSecond(0.7),
         inputs::registers(&mut inputs::random(), 60, 20),
     ));
     rows.push(pool(
         "pool, 500 lines of 500 INNs",
-        Goal::NotSet,
+        Goal::OfSecond(0.8),
         inputs::registers(&mut inputs::random(), 500, 500),
     ));
     rows.push(leave(inputs::payments(&mut inputs::random())));
@@ -101,7 +101,7 @@ fn measure_all() -> Report {
 
 /// The rows of checks.
 fn checks(sheets: &[(&str, Vec<Sheet>)], dated: Dated) -> Vec<Row> {
-    let row = |(name, sheets): &(&str, Vec<Sheet>)| check(name, 0.7, sheets, dated);
+    let row = |(name, sheets): &(&str, Vec<Sheet>)| check(name, 0.5, sheets, dated);
     sheets.iter().map(row).collect()
 }
 
@@ -121,7 +121,7 @@ fn completions(drafts: &Drafts, dated: Dated) -> Vec<Row> {
         let name = format!("quick, {what}{}", dated.name);
         [completed, quick(name, NO_SLOWER, drafts, dated)]
     };
-    let full = both("nothing blank", NO_SLOWER, &drafts.full);
+    let full = both("nothing blank", Goal::OfSecond(0.45), &drafts.full);
     let as_full = Goal::OfOwn {
         part: 1.2,
         name: "nothing blank",

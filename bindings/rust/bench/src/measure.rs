@@ -29,8 +29,6 @@ pub enum Goal {
         /// The library in the other row.
         library: f64,
     },
-    /// No goal was set.
-    NotSet,
 }
 
 /// The goal of most rows: the library is no slower.
@@ -39,9 +37,8 @@ pub const NO_SLOWER: Goal = Goal::OfSecond(1.0);
 impl fmt::Display for Goal {
     fn fmt(&self, f: &mut fmt::Formatter<'_>) -> fmt::Result {
         match self {
-            Self::OfSecond(part) => write!(f, "{part:.1}"),
-            Self::OfOwn { part, name, .. } => write!(f, "{part:.1} of {name}"),
-            Self::NotSet => write!(f, "not set"),
+            Self::OfSecond(part) => write!(f, "{part:?}"),
+            Self::OfOwn { part, name, .. } => write!(f, "{part:?} of {name}"),
         }
     }
 }
@@ -99,7 +96,7 @@ impl Row {
     /// is of one.
     pub fn own_ratio(&self) -> Option<f64> {
         match self.goal {
-            Goal::OfSecond(_) | Goal::NotSet => None,
+            Goal::OfSecond(_) => None,
             Goal::OfOwn { library, .. } => Some(self.library / library),
         }
     }
@@ -109,7 +106,6 @@ impl Row {
         let reached = match self.goal {
             Goal::OfSecond(part) => self.ratio() <= part,
             Goal::OfOwn { part, library, .. } => self.library <= part * library,
-            Goal::NotSet => return "measured",
         };
         if reached {
             "reached"

@@ -7,6 +7,7 @@ use cases::{Charge, Dates, Parting, Pooling, Queue, Sharing, FIELDS};
 use cases::{DRAFT_SLOT_SIZE, PAYMENT_PLACES, SHARE_PLACES};
 use kieselbrot::{Class, Completed, Message, Posted, Quickened, Refusal};
 
+use crate::broken::fits_check;
 use crate::library::{Library, Reference};
 use crate::pretest::{fits_completion, Tested};
 use crate::reached::Reached;
@@ -161,7 +162,33 @@ impl<'a, L: Library> Comparison<'a, L> {
         let answer = self.library.check(sheet, dates);
         same("check", answer, Reference.check(sheet, dates), input)?;
         self.reached.check(sheet, dates, answer);
+        self.broken_rules(sheet, dates, answer)?;
         Ok(answer)
+    }
+
+    /// Asks for all broken rules of a sheet, of which a check at these dates answered this.
+    fn broken_rules(
+        &mut self,
+        sheet: &[u8],
+        dates: Dates,
+        checked: Result<Class, Refusal>,
+    ) -> Outcome<()> {
+        let input = || format!("sheet {}, {dates:?}", shown_sheet(sheet));
+        let answer = self.library.broken_rules(sheet, dates);
+        let expected = Reference.broken_rules(sheet, dates);
+        same("broken_rules", answer, expected, input)?;
+        fits_check(checked, answer, input)?;
+        self.reached.broken_rules(answer);
+        Ok(())
+    }
+
+    /// Asks which message of an input each slot holds.
+    pub fn origins(&mut self, input: &[u8]) -> Outcome<()> {
+        let shown = || format!("input {}", hex(input));
+        let answer = self.library.origins(input);
+        same("origins", answer, Reference.origins(input), shown)?;
+        self.reached.origins(input, &answer);
+        Ok(())
     }
 
     /// Reads a message; its text must be the same part of it, by place and length.
@@ -239,6 +266,16 @@ impl<'a, L: Library> Comparison<'a, L> {
         })?;
         self.reached.answer("pretest", answer);
         Ok(answer)
+    }
+
+    /// Asks for an entry of a field's list at these dates.
+    pub fn entry(&mut self, field: u8, place: usize, dates: Dates) -> Outcome<()> {
+        let input = || format!("field {field}, place {place}, {dates:?}");
+        let answer = self.library.entry(field, place, dates);
+        let expected = Reference.entry(field, place, dates);
+        same("entry", answer.clone(), expected, input)?;
+        self.reached.answer("entry", answer);
+        Ok(())
     }
 
     /// Tests a draft and completes it at these dates, also quickly; the sheet is given

@@ -324,6 +324,25 @@ pub fn dates<L: Library>(comparison: &mut Comparison<'_, L>, random: &mut Random
     Ok(())
 }
 
+/// Entries of lists: every field number and the places up to past the longest list's end,
+/// with each of the eight lists, on both sides of each end of the given record, and at dates
+/// that are refused, of which each number that matters is one.
+pub fn entries<L: Library>(comparison: &mut Comparison<'_, L>) -> Outcome {
+    let lists = LISTS.map(|list| Dates::PROGRAM.allowing(list));
+    let ends = NUMBERS.map(Dates::given);
+    let records = NUMBERS
+        .into_iter()
+        .flat_map(|number| [0, 1, 2].map(|entry| Dates::PROGRAM.with_entry(entry, number)));
+    for dates in lists.into_iter().chain(ends).chain(records) {
+        for field in 0..=u8::MAX {
+            for place in (0..=30).chain([usize::MAX]) {
+                comparison.entry(field, place, dates)?;
+            }
+        }
+    }
+    Ok(())
+}
+
 fn complete<L: Library>(
     comparison: &mut Comparison<'_, L>,
     texts: &Texts,

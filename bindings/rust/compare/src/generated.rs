@@ -19,7 +19,7 @@ type Outcome = Result<(), Difference>;
 
 /// One case: mostly one call, sometimes a list of them.
 pub fn case<L: Library>(comparison: &mut Comparison<'_, L>, random: &mut Random) -> Outcome {
-    match random.below(268) {
+    match random.below(282) {
         0..80 => check(comparison, random),
         80..100 => read(comparison, random),
         100..120 => write(comparison, random),
@@ -53,7 +53,10 @@ pub fn case<L: Library>(comparison: &mut Comparison<'_, L>, random: &mut Random)
         248..252 => take_up_proposed(comparison, random),
         252..256 => take_up(comparison, random),
         256..262 => write_lines(comparison, random),
-        _ => read_lines(comparison, random),
+        262..268 => read_lines(comparison, random),
+        268..272 => origins(comparison, random),
+        272..278 => broken_rules(comparison, random),
+        _ => entry(comparison, random),
     }
 }
 
@@ -125,6 +128,49 @@ fn check<L: Library>(comparison: &mut Comparison<'_, L>, random: &mut Random) ->
         _ => comparison.check(&sheet, dates),
     }
     .map(drop)
+}
+
+/// An order with many texts changed, of which all broken rules are asked for.
+fn broken_rules<L: Library>(comparison: &mut Comparison<'_, L>, random: &mut Random) -> Outcome {
+    let dates = fit_dates(random);
+    let mut texts = accepted_at(random, dates);
+    for _ in 0..2 + random.below(12) {
+        disturb_at(random, &mut texts, dates);
+    }
+    comparison.check(&texts.sheet(), dates).map(drop)
+}
+
+/// Messages end to end: few or many, on few fields, some unreadable, sometimes cut off.
+fn origins<L: Library>(comparison: &mut Comparison<'_, L>, random: &mut Random) -> Outcome {
+    let fields = [random.pick(&FIELDS), random.pick(&FIELDS)];
+    let size = random.pick(&[0, 1, 2, 3, 5, 8, 20]);
+    let mut input = Vec::new();
+    for _ in 0..size {
+        let message = match random.below(10) {
+            0 => any_message(random),
+            1 => message_of_wrong_parts(random),
+            _ => {
+                let (field, revision) = (random.pick(&fields), 1 + random.below(3) as u32);
+                let text = random.pick(&[&b"0"[..], b"00", b""]);
+                message_of_any(random, field, revision, text)
+            }
+        };
+        input.extend(message);
+    }
+    if random.percent(20) {
+        input.truncate(random.below(input.len() + 1));
+    }
+    comparison.origins(&input)
+}
+
+/// An entry of a list: mostly within the longest, or at any place.
+fn entry<L: Library>(comparison: &mut Comparison<'_, L>, random: &mut Random) -> Outcome {
+    let field = any_field(random);
+    let place = match random.percent(95) {
+        true => random.below(26),
+        false => random.number() as usize,
+    };
+    comparison.entry(field, place, any_dates(random))
 }
 
 /// The bytes cut to a size near the right one, or lengthened with zeros.

@@ -8,6 +8,7 @@
 #![warn(missing_docs)]
 
 mod blocks;
+mod broken;
 mod charges;
 mod comparison;
 mod dates;
@@ -17,6 +18,7 @@ mod fillings;
 mod generated;
 mod library;
 mod lines;
+mod origins;
 mod parties;
 mod parts;
 mod planted;

@@ -2,15 +2,18 @@
 
 use cases::{Dates, Queue};
 use kieselbrot::{Broken, Class, Completed, Message, Paid, Part, Posted, Quickened, Refusal};
-use kieselbrot::{Party, Version};
+use kieselbrot::{BrokenRules, Party, Version, FIELDS};
 use kieselbrot::{PAYMENT_PLACES, SHARE_PLACES};
 
-/// The seven functions of document 01, the test ahead of completion, completing quickly,
+/// The seven functions of document 01, all broken rules, the origins of an input's slots, the
+/// test ahead of completion, an entry of a list, completing quickly,
 /// taking up part of a proposal, MT103 lines, the bank's charge, part of a year, pooling a
 /// register, and which payments leave first.
 pub trait Library: Sync {
     /// Checks a sheet at these dates.
     fn check(&self, sheet: &[u8], dates: Dates) -> Result<Class, Refusal>;
+    /// All rules that a sheet breaks at these dates.
+    fn broken_rules(&self, sheet: &[u8], dates: Dates) -> Result<BrokenRules, Refusal>;
     /// Reads a message.
     fn read<'a>(&self, message: &'a [u8]) -> Result<Message<'a>, Refusal>;
     /// Writes a message; its version, party, field, revision and text may be any.
@@ -19,10 +22,14 @@ pub trait Library: Sync {
     fn fresh(&self, draft: &mut [u8]) -> Result<(), Refusal>;
     /// Posts a message.
     fn post(&self, draft: &mut [u8], message: &[u8]) -> Result<Posted, Refusal>;
+    /// Which message of an input each slot holds.
+    fn origins(&self, input: &[u8]) -> [u64; FIELDS.len()];
     /// Copies a draft to a sheet.
     fn copy(&self, draft: &[u8], sheet: &mut [u8]) -> Result<(), Refusal>;
     /// Tests a draft ahead of completion.
     fn pretest(&self, draft: &[u8]) -> Result<Option<Broken>, Refusal>;
+    /// An entry of a field's list at these dates.
+    fn entry(&self, field: u8, place: usize, dates: Dates) -> Result<Option<Vec<u8>>, Refusal>;
     /// Completes a draft at these dates.
     fn complete(&self, draft: &[u8], sheet: &mut [u8], dates: Dates) -> Result<Completed, Refusal>;
     /// Completes a draft quickly at these dates.
@@ -60,6 +67,11 @@ impl Library for Linked {
         kieselbrot::check(sheet, date, record)
     }
 
+    fn broken_rules(&self, sheet: &[u8], dates: Dates) -> Result<BrokenRules, Refusal> {
+        let (date, record) = library_dates(dates);
+        kieselbrot::broken_rules(sheet, date, record)
+    }
+
     fn read<'a>(&self, message: &'a [u8]) -> Result<Message<'a>, Refusal> {
         kieselbrot::read(message)
     }
@@ -83,12 +95,22 @@ impl Library for Linked {
         kieselbrot::post(draft, message)
     }
 
+    fn origins(&self, input: &[u8]) -> [u64; FIELDS.len()] {
+        kieselbrot::origins(input)
+    }
+
     fn copy(&self, draft: &[u8], sheet: &mut [u8]) -> Result<(), Refusal> {
         kieselbrot::copy(draft, sheet)
     }
 
     fn pretest(&self, draft: &[u8]) -> Result<Option<Broken>, Refusal> {
         kieselbrot::pretest(draft)
+    }
+
+    fn entry(&self, field: u8, place: usize, dates: Dates) -> Result<Option<Vec<u8>>, Refusal> {
+        let (date, record) = library_dates(dates);
+        let entry = kieselbrot::entry(field, place, date, record)?;
+        Ok(entry.map(|entry| entry.to_vec()))
     }
 
     fn complete(&self, draft: &[u8], sheet: &mut [u8], dates: Dates) -> Result<Completed, Refusal> {
@@ -157,6 +179,12 @@ impl Library for Reference {
         checked.map(class).map_err(refusal)
     }
 
+    fn broken_rules(&self, sheet: &[u8], dates: Dates) -> Result<BrokenRules, Refusal> {
+        let (date, record) = reference_dates(dates);
+        let bits = reference::broken_rules(sheet, date, record).map_err(refusal)?;
+        BrokenRules::new(bits).ok_or(Refusal::Unknown { number: 0 })
+    }
+
     fn read<'a>(&self, message: &'a [u8]) -> Result<Message<'a>, Refusal> {
         let reference::Message {
             version,
@@ -193,6 +221,10 @@ impl Library for Reference {
         reference::post(draft, message).map(posted).map_err(refusal)
     }
 
+    fn origins(&self, input: &[u8]) -> [u64; FIELDS.len()] {
+        reference::origins(input)
+    }
+
     fn copy(&self, draft: &[u8], sheet: &mut [u8]) -> Result<(), Refusal> {
         reference::copy(draft, sheet).map_err(refusal)
     }
@@ -200,6 +232,12 @@ impl Library for Reference {
     fn pretest(&self, draft: &[u8]) -> Result<Option<Broken>, Refusal> {
         let named = reference::pretest(draft).map_err(refusal)?;
         Ok(named.map(broken))
+    }
+
+    fn entry(&self, field: u8, place: usize, dates: Dates) -> Result<Option<Vec<u8>>, Refusal> {
+        let (date, record) = reference_dates(dates);
+        let entry = reference::entry(field, place, date, record).map_err(refusal)?;
+        Ok(entry.map(<[u8]>::to_vec))
     }
 
     fn complete(&self, draft: &[u8], sheet: &mut [u8], dates: Dates) -> Result<Completed, Refusal> {

@@ -6,9 +6,10 @@ use cases::{set_slot, slot_mut, ADVISER, DRAFT_SIZE, DRAFT_SLOT_SIZE, LENGTH_PLA
 use cases::{Line, Payment, Pooling, Queue};
 use cases::{KOPECKS_MAX, LINE_SIZE, POOL_SIZE, RATE_MAX, YEARS};
 use kieselbrot::{Broken, Class, Completed, Message, Paid, Part, Posted, Quickened, Refusal};
-use kieselbrot::{PAYMENT_PLACES, SHARE_PLACES};
+use kieselbrot::{BrokenRules, PAYMENT_PLACES, SHARE_PLACES};
 
 mod lines;
+mod origins;
 
 use crate::library::{Library, Reference};
 use crate::planted_parties::{as_the_clients, revision_zero};
@@ -105,6 +106,14 @@ pub enum Planted {
     Named27,
     /// The pretest names rule 6 without its field.
     Fieldless6,
+    /// The entry after the one at this place of a list is told.
+    NextEntry,
+    /// In the lists of 106, 108 and 109 "00" stands before "0".
+    DoubleZeroFirst,
+    /// Asked for an entry, 4 is tested before 12.
+    FieldBefore12,
+    /// The statuses that are not in force are told among those of 101.
+    EveryStatus,
     /// 32 is not allowed on its first date.
     First32,
     /// 33 is not allowed on its first date.
@@ -279,10 +288,30 @@ pub enum Planted {
     PlacePastLast,
     /// With 19 the places are cleared.
     ClearedBy19,
+    /// Of all broken rules, bit n - 1 stands for rule n.
+    BitBelow,
+    /// Of all broken rules only the first is told.
+    FirstBrokenOnly,
+    /// Rule 35 is left out of all broken rules.
+    Without35,
+    /// Asked for all broken rules, 12 is tested before 1.
+    BrokenUndatedFirst,
+    /// Behind a broken one of rules 1 to 3 no other rule is told.
+    BasicBrokenOnly,
+    /// A slot's origin is the last among equals.
+    LastOfEquals,
+    /// A message of revision 0 is an origin.
+    RefusedOrigin,
+    /// Messages are numbered from 0.
+    OriginsFrom0,
+    /// A refused message has no number.
+    RefusedUncounted,
+    /// Origins are looked for behind a 2.
+    BehindA2,
 }
 
 /// All of them.
-pub const PLANTS: [Planted; 130] = [
+pub const PLANTS: [Planted; 144] = [
     Planted::Century,
     Planted::Status01,
     Planted::Without03252,
@@ -326,6 +355,10 @@ pub const PLANTS: [Planted; 130] = [
     Planted::LastNamed,
     Planted::Named27,
     Planted::Fieldless6,
+    Planted::NextEntry,
+    Planted::DoubleZeroFirst,
+    Planted::FieldBefore12,
+    Planted::EveryStatus,
     Planted::First32,
     Planted::First33,
     Planted::Last02,
@@ -413,6 +446,16 @@ pub const PLANTS: [Planted; 130] = [
     Planted::Shortest,
     Planted::PlacePastLast,
     Planted::ClearedBy19,
+    Planted::BitBelow,
+    Planted::FirstBrokenOnly,
+    Planted::Without35,
+    Planted::BrokenUndatedFirst,
+    Planted::BasicBrokenOnly,
+    Planted::LastOfEquals,
+    Planted::RefusedOrigin,
+    Planted::OriginsFrom0,
+    Planted::RefusedUncounted,
+    Planted::BehindA2,
 ];
 
 impl Planted {
@@ -813,6 +856,34 @@ impl Library for Planted {
         }
     }
 
+    fn broken_rules(&self, sheet: &[u8], dates: Dates) -> Result<BrokenRules, Refusal> {
+        let answer = Reference.broken_rules(sheet, dates);
+        let rules = match answer {
+            Err(Refusal::Malformed) if *self == Self::BrokenUndatedFirst && !dates.fit() => {
+                return Err(Refusal::Undated);
+            }
+            Err(_) => return answer,
+            Ok(rules) => rules,
+        };
+        let bits = rules.bits();
+        let changed = match self {
+            // Bit 0 is no rule's.
+            Self::BitBelow => bits >> 2 << 1,
+            Self::FirstBrokenOnly => match Reference.check(sheet, dates) {
+                Err(Refusal::Broken { rule, .. }) => 1 << rule,
+                _ => bits,
+            },
+            Self::Without35 => bits & !(1 << 35),
+            Self::BasicBrokenOnly if bits & 0b1110 != 0 => bits & 0b1110,
+            _ => bits,
+        };
+        BrokenRules::new(changed).ok_or(Refusal::Unknown { number: 0 })
+    }
+
+    fn origins(&self, input: &[u8]) -> [u64; FIELDS.len()] {
+        self.changed_origins(input)
+    }
+
     fn read<'a>(&self, message: &'a [u8]) -> Result<Message<'a>, Refusal> {
         match self.changed_reading(message, Reference.read(message)) {
             Err(Refusal::UnknownField)
@@ -876,6 +947,21 @@ impl Library for Planted {
                 Ok(Some(Broken { field, rule }))
             }
             _ => answer,
+        }
+    }
+
+    fn entry(&self, field: u8, place: usize, dates: Dates) -> Result<Option<Vec<u8>>, Refusal> {
+        let dates = self.seen_dates(dates);
+        match (self, field, place) {
+            (Self::NextEntry, ..) => Reference.entry(field, place.saturating_add(1), dates),
+            (Self::DoubleZeroFirst, 106 | 108 | 109, 0 | 1) => {
+                Reference.entry(field, 1 - place, dates)
+            }
+            (Self::FieldBefore12, ..) if !FIELDS.contains(&field) => Err(Refusal::UnknownField),
+            (Self::EveryStatus, 101, _) if dates.fit() => {
+                Reference.entry(101, place, Dates::PROGRAM.allowing([true; 3]))
+            }
+            _ => Reference.entry(field, place, dates),
         }
     }
 

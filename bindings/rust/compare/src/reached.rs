@@ -4,13 +4,15 @@ use std::collections::BTreeMap;
 use std::fmt;
 
 use cases::{Charge, Dates, Parting, Pooling, Queue, Sharing};
-use cases::{Given, DRAFT_SLOT_SIZE, PARTY_PLACE};
+use cases::{Given, DRAFT_SLOT_SIZE, FIELDS, PARTY_PLACE};
 use cases::{ALL_STATUSES, BASES, CLASS_A, CLASS_B, PAYMENT_PLACES, SHARE_PLACES};
-use kieselbrot::{Class, Completed, Message, Paid, Part, Posted, Quickened, Refusal};
+use kieselbrot::{BrokenRules, Class, Completed, Message, Paid, Part, Posted, Quickened, Refusal};
 
+use crate::broken::{self, Broke};
 use crate::charges::{self, Charged};
 use crate::dates::{self, Dated};
 use crate::lines::{self, Lined};
+use crate::origins::{self, Origin};
 use crate::parties::{self, Holder, Partied};
 use crate::parts::{self, Parted};
 use crate::pools::{self, Pooled};
@@ -50,6 +52,8 @@ pub struct Reached {
     queues: BTreeMap<Queued, u64>,
     parties: BTreeMap<Partied, u64>,
     party_bytes: BTreeMap<(Holder, u8), u64>,
+    broken: BTreeMap<Broke, u64>,
+    origins: BTreeMap<Origin, u64>,
 }
 
 /// What the first nine of a pension number's eleven digits are to rule 35.
@@ -144,14 +148,16 @@ enum Accepted {
 }
 
 /// The numbers that each function returns.
-const ANSWERS: [(&str, &[u8]); 17] = [
+const ANSWERS: [(&str, &[u8]); 19] = [
     ("check", &[0, 1, 12, 8]),
+    ("broken_rules", &[0, 1, 12]),
     ("read", &[0, 2, 3, 13, 4, 5]),
     ("write", &[0, 2, 3, 13, 4, 5, 7]),
     ("fresh", &[0, 1]),
     ("post", &[0, 1, 2, 3, 13, 4, 5, 6]),
     ("copy", &[0, 1, 7]),
     ("pretest", &[0, 1, 8, 9]),
+    ("entry", &[0, 12, 4]),
     ("complete", &[0, 1, 7, 12, 8, 9, 10]),
     ("quick", &[0, 1, 7, 12, 8, 9, 10]),
     ("take_up", &[0, 1, 7, 20]),
@@ -214,6 +220,22 @@ impl Reached {
         self.accept(class, Accepted::Class);
         if class != Class::O {
             self.accept_texts(class, sheet);
+        }
+    }
+
+    /// All broken rules.
+    pub fn broken_rules(&mut self, answer: Result<BrokenRules, Refusal>) {
+        self.answer("broken_rules", answer);
+        for what in broken::reached(answer) {
+            *self.broken.entry(what).or_default() += 1;
+        }
+    }
+
+    /// Which message of an input each slot holds.
+    pub fn origins(&mut self, input: &[u8], answer: &[u64; FIELDS.len()]) {
+        self.calls += 1;
+        for what in origins::reached(input, answer) {
+            *self.origins.entry(what).or_default() += 1;
         }
     }
 
@@ -592,6 +614,8 @@ impl Reached {
         add(&mut self.queues, &other.queues);
         add(&mut self.parties, &other.parties);
         add(&mut self.party_bytes, &other.party_bytes);
+        add(&mut self.broken, &other.broken);
+        add(&mut self.origins, &other.origins);
         for (sum, more) in self.standings.iter_mut().zip(other.standings) {
             *sum += more;
         }
@@ -669,6 +693,12 @@ impl Reached {
         }
         for what in pools::all() {
             list.push((format!("pooling: {what}"), get(&self.pools, what)));
+        }
+        for what in broken::all() {
+            list.push((format!("broken: {what}"), get(&self.broken, what)));
+        }
+        for what in origins::all() {
+            list.push((format!("origins: {what}"), get(&self.origins, what)));
         }
         for what in queues::all() {
             list.push((format!("payments: {what}"), get(&self.queues, what)));

@@ -12,7 +12,7 @@ use cases::Random;
 use crate::comparison::{Comparison, Difference};
 use crate::library::Library;
 use crate::reached::Reached;
-use crate::{blocks, exhaustive, exhaustive_messages, generated, streams};
+use crate::{blocks, broken, exhaustive, exhaustive_messages, generated, origins, streams};
 
 /// The seed, unless `SEED` gives another.
 pub const SEED: u64 = 107;
@@ -104,8 +104,10 @@ enum Piece {
     Table,
     Sizes,
     Places,
+    BrokenPairs,
     Messages,
     Dates,
+    Entries,
     TakeUps,
     Lines,
     Charges,
@@ -167,6 +169,7 @@ impl Run {
             pieces.extend([Piece::Table, Piece::Sizes, Piece::Places, Piece::Messages]);
             pieces.extend([Piece::Charges, Piece::Parts, Piece::Shares, Piece::Pools]);
             pieces.extend([Piece::Queues, Piece::TakeUps, Piece::Lines]);
+            pieces.extend([Piece::BrokenPairs, Piece::Entries]);
             pieces.extend([Piece::Dates, Piece::Arrangements]);
             pieces.extend(generated.by_ref().take(10));
             pieces.extend((0..exhaustive::BLANK_PARTS).map(Piece::Blanks));
@@ -186,8 +189,10 @@ impl Run {
             Piece::Table => exhaustive::table(comparison),
             Piece::Sizes => exhaustive::sizes(comparison),
             Piece::Places => exhaustive::places(comparison),
+            Piece::BrokenPairs => broken::pairs(comparison, &mut random(12)),
             Piece::Messages => exhaustive_messages::all(comparison),
             Piece::Dates => exhaustive::dates(comparison, &mut random(0)),
+            Piece::Entries => exhaustive::entries(comparison),
             Piece::TakeUps => exhaustive::take_ups(comparison, &mut random(10)),
             Piece::Lines => blocks::every(comparison, &mut random(11)),
             Piece::Charges => exhaustive::charges(comparison),
@@ -197,7 +202,8 @@ impl Run {
             Piece::Queues => exhaustive::queues(comparison),
             Piece::Arrangements => (1..=6)
                 .try_for_each(|size| streams::arrangements(comparison, &mut random(size), size))
-                .and_then(|()| streams::every_list(comparison)),
+                .and_then(|()| streams::every_list(comparison))
+                .and_then(|()| origins::every_list(comparison)),
             Piece::Blanks(part) => exhaustive::blanks(comparison, &mut random(100 + part), part),
             Piece::Forms(part) => exhaustive::forms(comparison, &mut random(200 + part), part),
             Piece::Generated(portion) => return self.generated(comparison, portion),

@@ -3,6 +3,8 @@
 use cases::{draft_after, message_2, message_of, messages_at, Dates, Draft, Given, Random, FIELDS};
 use cases::{DRAFT_SIZE, DRAFT_SLOT_SIZE, PARTIES};
 
+use kieselbrot::Refusal;
+
 use crate::comparison::{hex, same, Comparison, Difference, Lent};
 use crate::library::Library;
 
@@ -88,7 +90,30 @@ fn post_list<L: Library>(comparison: &mut Comparison<'_, L>, list: &[Vec<u8>]) -
     let expected = outcome(comparison, list)?;
     same_end(&draft, &expected, list)?;
     one_party(comparison, list, &draft)?;
+    comparison.origins(&list.concat())?;
+    origins_hold(comparison, list, &draft)?;
     Ok(draft)
+}
+
+/// Of a list whose messages all end where their lengths say, each slot of the draft holds
+/// what its origin, posted alone, leaves there.
+fn origins_hold<L: Library>(
+    comparison: &mut Comparison<'_, L>,
+    list: &[Vec<u8>],
+    draft: &Lent,
+) -> Outcome<()> {
+    let is_framed = |bytes: &Vec<u8>| comparison.library().read(bytes) != Err(Refusal::Length);
+    if !list.iter().all(is_framed) {
+        return Ok(());
+    }
+    let origins = comparison.library().origins(&list.concat());
+    for (slot, origin) in origins.into_iter().enumerate() {
+        let own = origin.checked_sub(1).map(|place| &list[place as usize]);
+        let alone = post_all(comparison, own)?;
+        let input = || format!("slot {slot} with origin {origin}, {}", shown(list));
+        same("origins", held(draft, slot), held(&alone, slot), input)?;
+    }
+    Ok(())
 }
 
 /// The field and the party of a readable message.

@@ -1,10 +1,11 @@
 //! The answers, as enums of Rust's own.
 
 use std::fmt;
+use std::ops::Deref;
 
 use crate::PAYMENT_PLACES;
 use crate::{ffi, BALANCE_MAX, FIELDS, KOPECKS_MAX, LINES_BLOCK_MAX, LINES_MAX};
-use crate::{Party, Version, TEXT_MAX};
+use crate::{BrokenRules, Party, Version, TEXT_MAX};
 
 /// The class of an accepted sheet.
 #[derive(Clone, Copy, Debug, PartialEq, Eq, Hash, PartialOrd, Ord)]
@@ -15,6 +16,26 @@ pub enum Class {
     B,
     /// An ordinary payment.
     O,
+}
+
+/// An entry of a field's list in completion: a text of one or two bytes.
+#[derive(Clone, Copy, Debug, PartialEq, Eq, Hash)]
+pub enum Entry {
+    /// One byte: "0".
+    One([u8; 1]),
+    /// Two bytes: "00", a status, or a pair of letters.
+    Two([u8; 2]),
+}
+
+impl Deref for Entry {
+    type Target = [u8];
+
+    fn deref(&self) -> &[u8] {
+        match self {
+            Self::One(text) => text,
+            Self::Two(text) => text,
+        }
+    }
 }
 
 /// A message as read.
@@ -158,7 +179,7 @@ pub enum Refusal {
     /// 11: for [`write_lines`](crate::write_lines), an accepted sheet of class B or O; for
     /// [`read_lines`](crate::read_lines), a block that is none of these lines.
     NoLines,
-    /// 12: for [`check`](crate::check), [`complete`](crate::complete),
+    /// 12: for [`check`](crate::check), [`entry`](crate::entry), [`complete`](crate::complete),
     /// [`quick`](crate::quick) and [`write_lines`](crate::write_lines), the order's date or
     /// an entry of the record is no Gregorian date of the years 1900 to 2099, or the order's
     /// date is before 20230925; tested just before 8.
@@ -298,6 +319,35 @@ impl From<ffi::Check> for Result<Class, Refusal> {
             (0, 0, 0, b'O') => Ok(Class::O),
             (8, field, rule, 0) => Err(Refusal::Broken { field, rule }),
             (number, 0, 0, 0) => Err(Refusal::plain(number)),
+            _ => Err(Refusal::Unknown { number }),
+        }
+    }
+}
+
+impl From<ffi::AllBroken> for Result<BrokenRules, Refusal> {
+    fn from(answer: ffi::AllBroken) -> Self {
+        let ffi::AllBroken { number, rules } = answer;
+        match (number, rules) {
+            (0, rules) => BrokenRules::new(rules).ok_or(Refusal::Unknown { number }),
+            (number, 0) => Err(Refusal::plain(number)),
+            _ => Err(Refusal::Unknown { number }),
+        }
+    }
+}
+
+impl From<ffi::Entry> for Result<Option<Entry>, Refusal> {
+    fn from(answer: ffi::Entry) -> Self {
+        let ffi::Entry {
+            number,
+            length,
+            first,
+            second,
+        } = answer;
+        match (number, length, first, second) {
+            (0, 0, 0, 0) => Ok(None),
+            (0, 1, first, 0) => Ok(Some(Entry::One([first]))),
+            (0, 2, first, second) => Ok(Some(Entry::Two([first, second]))),
+            (1.., 0, 0, 0) => Err(Refusal::plain(number)),
             _ => Err(Refusal::Unknown { number }),
         }
     }
@@ -915,6 +965,34 @@ mod tests {
                 leave(number, paid, sum, left),
                 Err(Refusal::Unknown { number })
             );
+        }
+    }
+
+    #[test]
+    fn entries_of_one_or_two_bytes_or_none() {
+        let entry = |number, length, first, second| {
+            Result::<Option<Entry>, Refusal>::from(ffi::Entry {
+                number,
+                length,
+                first,
+                second,
+            })
+        };
+        assert_eq!(entry(0, 0, 0, 0), Ok(None));
+        assert_eq!(entry(0, 1, b'0', 0), Ok(Some(Entry::One(*b"0"))));
+        assert_eq!(entry(0, 2, b'0', b'1'), Ok(Some(Entry::Two(*b"01"))));
+        assert_eq!(entry(12, 0, 0, 0), Err(Refusal::Undated));
+        assert_eq!(entry(4, 0, 0, 0), Err(Refusal::UnknownField));
+        for (number, length, first, second) in [
+            (0, 0, b'0', 0),
+            (0, 0, 0, b'0'),
+            (0, 1, b'0', b'0'),
+            (0, 3, b'0', b'0'),
+            (4, 1, 0, 0),
+            (12, 0, b'0', 0),
+        ] {
+            let expected = Err(Refusal::Unknown { number });
+            assert_eq!(entry(number, length, first, second), expected);
         }
     }
 

@@ -28,26 +28,4 @@ impl Record {
         first33: Date(20240101),
         last02: Date(20231231),
     };
-
-    /// Whether a date allows a status that some date allows.
-    fn allows(&self, date: Date, status: &str) -> bool {
-        match status {
-            "02" => date <= self.last02,
-            "32" => self.first32 <= date,
-            "33" => self.first33 <= date,
-            _ => true,
-        }
-    }
-
-    /// The statuses that a date allows, in ascending order: rule 10's list.
-    pub(crate) fn statuses(&self, date: Date) -> Vec<&'static str> {
-        let allowed = |status: &&str| self.allows(date, status);
-        STATUSES.into_iter().filter(allowed).collect()
-    }
 }
-
-/// The statuses that some date allows, in ascending order.
-const STATUSES: [&str; 23] = [
-    "01", "02", "03", "04", "05", "06", "07", "08", "13", "15", "16", "17", "19", "20", "23", "24",
-    "27", "28", "29", "30", "31", "32", "33",
-];

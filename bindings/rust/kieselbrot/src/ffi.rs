@@ -5,7 +5,7 @@
 
 use std::mem::offset_of;
 
-use crate::{Date, Party, Record, Version, PAYMENT_PLACES, SHARE_PLACES};
+use crate::{Date, Party, Record, Version, FIELDS, PAYMENT_PLACES, SHARE_PLACES};
 
 /// The answer of a check.
 #[repr(C)]
@@ -15,6 +15,24 @@ pub struct Check {
     pub field: u8,
     pub rule: u8,
     pub class: u8,
+}
+
+/// The answer of asking for all broken rules.
+#[repr(C)]
+#[derive(Clone, Copy)]
+pub struct AllBroken {
+    pub number: u8,
+    pub rules: u64,
+}
+
+/// The answer of asking for an entry of a list.
+#[repr(C)]
+#[derive(Clone, Copy)]
+pub struct Entry {
+    pub number: u8,
+    pub length: u8,
+    pub first: u8,
+    pub second: u8,
 }
 
 /// The answer of reading a message; the text is `length` bytes from place `text`
@@ -135,12 +153,14 @@ const _: () = assert!(size_of::<Date>() == 4);
 const _: () = assert!(size_of::<Record>() == 12);
 const _: () = assert!(size_of::<Version>() == 1 && size_of::<Party>() == 1);
 const _: () = assert!(size_of::<Check>() == 4);
+const _: () = assert!(size_of::<AllBroken>() == 16);
+const _: () = assert!(size_of::<Entry>() == 4);
 const _: () = assert!(size_of::<Read>() == 24);
 const _: () = assert!(size_of::<Write>() == 16);
 const _: () = assert!(size_of::<Post>() == 2);
 const _: () = assert!(size_of::<Pretest>() == 3);
 const _: () = assert!(size_of::<Complete>() == 24);
-const _: () = assert!(size_of::<Quick>() == 32 && offset_of!(Quick, skipped) == 24);
+const _: () = assert!(size_of::<Quick>() == 32);
 const _: () = assert!(size_of::<TakeUp>() == 2);
 const _: () = assert!(size_of::<Lines>() == 16);
 const _: () = assert!(size_of::<Charge>() == 16);
@@ -148,8 +168,38 @@ const _: () = assert!(size_of::<Part>() == 16);
 const _: () = assert!(size_of::<Pool>() == 24);
 const _: () = assert!(size_of::<Leave>() == 32);
 
+/// Where the fields of a struct stand.
+macro_rules! at {
+    ($name:ident: $($field:ident $place:literal),*) => {
+        const _: () = assert!($(offset_of!($name, $field) == $place)&&*);
+    };
+}
+
+// The places that bindings/c/example.c asks of bindings/c/kieselbrot.h.
+at!(Record: first32 0, first33 4, last02 8);
+at!(Check: number 0, field 1, rule 2, class 3);
+at!(Read: number 0, version 1, party 2, field 3, revision 4, text 8, length 16);
+at!(Write: number 0, length 8);
+at!(Post: number 0, standing 1);
+at!(Pretest: number 0, field 1, rule 2);
+at!(Complete: number 0, field 1, rule 2, set 4, ones 8, count 16);
+at!(Quick: complete 0, skipped 24);
+at!(TakeUp: number 0, field 1);
+at!(Lines: number 0, field 1, rule 2, length 8);
+at!(Charge: number 0, kopecks 8);
+at!(Part: number 0, remainder 4, kopecks 8);
+at!(Pool: number 0, lines 8, difference 16);
+at!(Leave: number 0, paid 8, sum 16, left 24);
+
 extern "C" {
     fn kieselbrot_check(sheet: *const u8, sheet_len: usize, date: Date, record: Record) -> Check;
+    fn kieselbrot_broken_rules(
+        sheet: *const u8,
+        sheet_len: usize,
+        date: Date,
+        record: Record,
+    ) -> AllBroken;
+    fn kieselbrot_entry(field: u8, place: usize, date: Date, record: Record) -> Entry;
     fn kieselbrot_read(message: *const u8, message_len: usize) -> Read;
     fn kieselbrot_write(
         version: Version,
@@ -168,6 +218,7 @@ extern "C" {
         message: *const u8,
         message_len: usize,
     ) -> Post;
+    fn kieselbrot_origins(input: *const u8, input_len: usize, places: *mut [u64; FIELDS.len()]);
     fn kieselbrot_copy(draft: *const u8, draft_len: usize, sheet: *mut u8, sheet_len: usize) -> u8;
     fn kieselbrot_pretest(draft: *const u8, draft_len: usize) -> Pretest;
     fn kieselbrot_complete(
@@ -230,11 +281,19 @@ extern "C" {
 // SAFETY, for each call below: pointer and length come from one slice, which is
 // valid for as long as the call lasts; what is written through is borrowed
 // mutably, so that no other argument overlaps it; the library keeps no pointer. The
-// places for shares, and those for arrival numbers, are an array of as many as the
-// library writes. A number may be any.
+// places for shares, those for arrival numbers, and those for the numbers of messages, are
+// an array of as many as the library writes. A number may be any.
 
 pub fn check(sheet: &[u8], date: Date, record: Record) -> Check {
     unsafe { kieselbrot_check(sheet.as_ptr(), sheet.len(), date, record) }
+}
+
+pub fn broken_rules(sheet: &[u8], date: Date, record: Record) -> AllBroken {
+    unsafe { kieselbrot_broken_rules(sheet.as_ptr(), sheet.len(), date, record) }
+}
+
+pub fn entry(field: u8, place: usize, date: Date, record: Record) -> Entry {
+    unsafe { kieselbrot_entry(field, place, date, record) }
 }
 
 pub fn read(message: &[u8]) -> Read {
@@ -276,6 +335,10 @@ pub fn post(draft: &mut [u8], message: &[u8]) -> Post {
             message.len(),
         )
     }
+}
+
+pub fn origins(input: &[u8], places: &mut [u64; FIELDS.len()]) {
+    unsafe { kieselbrot_origins(input.as_ptr(), input.len(), places) }
 }
 
 pub fn copy(draft: &[u8], sheet: &mut [u8]) -> u8 {

@@ -79,18 +79,24 @@
 #![deny(unsafe_code)]
 #![warn(missing_docs)]
 
+mod all_broken;
 mod answers;
+mod causes;
 mod dates;
 #[allow(unsafe_code)]
 mod ffi;
-mod fillings;
 mod parties;
+mod slots;
+mod stream;
+pub mod windows1251;
 pub mod words;
 
-pub use answers::{Broken, Class, Completed, Leaving, Message, Paid, Part, Payment, Posted};
+pub use all_broken::BrokenRules;
+pub use answers::{Broken, Class, Completed, Entry, Leaving, Message, Paid, Part, Payment, Posted};
 pub use answers::{Quickened, Refusal};
 pub use dates::{Date, Record};
 pub use parties::{Party, Version};
+pub use stream::{Gathered, Posting};
 
 /// The numbers of the fifteen fields, in the order of their slots.
 pub const FIELDS: [u8; 15] = [
@@ -199,6 +205,69 @@ pub fn check(sheet: &[u8], date: Date, record: Record) -> Result<Class, Refusal>
     ffi::check(sheet, date, record).into()
 }
 
+/// Tells all rules that the sheet of an order with this date breaks, where [`check`] names
+/// the first of them.
+///
+/// The set is empty exactly if [`check`] accepts the sheet; else the first of it in the
+/// order of testing, in which 22 stands ahead of 21, is the rule that [`check`] names. A
+/// rule is judged by itself, whatever the others say of the texts that it reads. For an
+/// ordinary payment only rules 1 to 4 are.
+///
+/// # Errors
+///
+/// In this order: [`Refusal::Malformed`], [`Refusal::Undated`].
+///
+/// # Examples
+///
+/// A blank sheet is no budget payment; 14 and 17 want digits, and 15 may be blank:
+///
+/// ```
+/// use kieselbrot::{broken_rules, Date, Record, SHEET_SIZE};
+///
+/// let rules = broken_rules(&[0; SHEET_SIZE], Date(20240101), Record::GIVEN).unwrap();
+/// assert_eq!(rules.bits(), 0b1010);
+/// assert!(rules.iter().eq([1, 3]));
+/// ```
+#[inline]
+pub fn broken_rules(sheet: &[u8], date: Date, record: Record) -> Result<BrokenRules, Refusal> {
+    ffi::broken_rules(sheet, date, record).into()
+}
+
+/// Tells an entry of a field's list in completion: what a blank field is filled with, by its
+/// place from 0, or `None` where the list has none.
+///
+/// The list of 101 is the statuses that the date allows, as in [`check`], in ascending order;
+/// that of 106 "0", "00" and the ten pairs of letters in rule 15's order; those of 108 and 109
+/// are "0" and "00"; those of 22, 60, 102, 104, 105 and 107 "0". The other fields have none.
+///
+/// # Errors
+///
+/// In this order: [`Refusal::Undated`], [`Refusal::UnknownField`].
+///
+/// # Examples
+///
+/// ```
+/// use kieselbrot::{entry, Date, Record, Refusal};
+///
+/// let text = |field, place| {
+///     let entry = entry(field, place, Date(20240101), Record::GIVEN)?;
+///     Ok(entry.map(|entry| entry.to_vec()))
+/// };
+/// assert_eq!(text(101, 1), Ok(Some(b"03".to_vec())));
+/// assert_eq!(text(108, 1), Ok(Some(b"00".to_vec())));
+/// assert_eq!((text(108, 2), text(61, 0)), (Ok(None), Ok(None)));
+/// assert_eq!(text(16, 0), Err(Refusal::UnknownField));
+/// ```
+#[inline]
+pub fn entry(
+    field: u8,
+    place: usize,
+    date: Date,
+    record: Record,
+) -> Result<Option<Entry>, Refusal> {
+    ffi::entry(field, place, date, record).into()
+}
+
 /// Reads a message of version 1 or 2. Its text is a part of the bytes that were lent.
 /// Version 1 counts as the adviser's.
 ///
@@ -272,6 +341,37 @@ pub fn fresh(draft: &mut [u8]) -> Result<(), Refusal> {
 #[inline]
 pub fn post(draft: &mut [u8], message: &[u8]) -> Result<Posted, Refusal> {
     ffi::post(draft, message).into()
+}
+
+/// Tells of an input of messages, end to end, which message each slot holds after all of
+/// them were posted to a fresh draft: for each slot its number, from 1, or 0 if none names
+/// the slot's field.
+///
+/// The input is cut as the program `budgetorder` does it: each message has 2 + L bytes, or
+/// what is left if that is less, and after one that is refused with [`Refusal::Length`]
+/// nothing is read. Messages that are refused, or that change nothing, are counted, too.
+///
+/// # Examples
+///
+/// ```
+/// use kieselbrot::{origins, write, Party, Version, MESSAGE_MAX};
+///
+/// let mut input = Vec::new();
+/// for revision in [1, 3, 2, 3] {
+///     let mut message = [0; MESSAGE_MAX];
+///     let (version, party) = (Version::ONE, Party::ADVISER);
+///     let length = write(version, party, 108, revision, b"17", &mut message).unwrap();
+///     input.extend_from_slice(&message[..length]);
+/// }
+/// // Field 108 has slot 13.
+/// assert_eq!(origins(&input), [0, 0, 0, 0, 0, 0, 0, 0, 0, 0, 0, 0, 0, 2, 0]);
+/// ```
+#[inline]
+#[must_use]
+pub fn origins(input: &[u8]) -> [u64; FIELDS.len()] {
+    let mut places = [0; FIELDS.len()];
+    ffi::origins(input, &mut places);
+    places
 }
 
 /// Copies a draft's texts to a sheet, whatever that held, and drops the

@@ -2,17 +2,11 @@
 
 use std::collections::BTreeSet;
 
-use cases::{sheets, Dates, Texts, ALL_STATUSES, BASES, BLANKS, FILLABLE, LISTS, STATUSES};
+use cases::{sheets, Dates, Texts, ALL_STATUSES, BASES, BLANKS, CLASS_A, FILLABLE, LISTS};
 use cases::{LENGTH_PLACE, PARTY_PLACE};
 use kieselbrot::words::{self, explanation};
 use kieselbrot::{check, complete, pretest, Broken, Class, Date, Record, Refusal};
-use kieselbrot::{FIELDS, SHEET_SIZE};
-
-/// The order of testing: rule 22 ahead of rule 21.
-const ORDER: [u8; 35] = [
-    1, 2, 3, 4, 5, 6, 7, 8, 9, 10, 11, 12, 13, 14, 15, 16, 17, 18, 19, 20, 22, 21, 23, 24, 25, 26,
-    27, 28, 29, 30, 31, 32, 33, 34, 35,
-];
+use kieselbrot::{windows1251, FIELDS, SHEET_SIZE};
 
 fn draft(texts: &Texts) -> cases::Draft {
     texts.draft(|text| u32::from(!text.is_empty()))
@@ -51,15 +45,12 @@ fn rule(number: u8) -> String {
 
 /// Sheet S with these fields blank, and these changes.
 fn order(blanks: &[u8], changes: &[(u8, &str)]) -> Texts {
-    let with = |texts: Texts, &(field, text): &(u8, &str)| texts.with(field, text.as_bytes());
+    let with = |texts: Texts, &(field, text): &(u8, &str)| {
+        let mut bytes = [0; 25];
+        let length = windows1251::encode(text, &mut bytes).expect("Windows-1251");
+        texts.with(field, &bytes[..length])
+    };
     changes.iter().fold(Texts::s().without(blanks), with)
-}
-
-/// The words of a broken rule.
-fn broken_words(Broken { field, rule }: Broken, dates: Dates) -> String {
-    let name = words::field(field).expect("a listed field");
-    let text = rule_at(rule, dates).expect("a rule");
-    format!("rule {rule} in field {field} ({name}): {text}.")
 }
 
 /// What the check of a sheet names.
@@ -214,58 +205,114 @@ fn dates_that_are_refused() {
     }
 }
 
+/// All of rules 1 to 3 that are broken, with what is given.
 #[test]
 fn rules_1_to_3() {
-    let expected =
-        "This order can't be completed yet: rule 1 is broken in field 14 (BIK): the BIK \
-                    (14) must be nine digits.";
-    assert_eq!(explained(&order(&[], &[(14, "0045")])), expected);
-    assert_eq!(explained(&Texts::BLANK), expected);
-    let account = explained(&order(&[17], &[]));
-    assert!(account.contains("rule 3 is broken in field 17 (recipient account): "));
+    let head = "This order can't be completed yet: 14, 15 and 17 tell whether it is a budget \
+                payment.";
+    let bik = "- Rule 1 is broken in field 14 (BIK): the BIK (14) must be nine digits. ";
+    let account = "- Rule 3 is broken in field 17 (recipient account): the recipient account (17) \
+                   must be 20 digits. ";
+    assert_eq!(
+        explained(&order(&[], &[(14, "0045")])),
+        format!("{head}\n{bik}Given: \"0045\" (4 characters, not 9).")
+    );
+    assert_eq!(
+        explained(&Texts::BLANK),
+        format!("{head}\n{bik}It is blank.\n{account}It is blank.")
+    );
+    let bank = explained(&order(&[], &[(15, "4010281084537000000O")]));
+    assert!(bank.ends_with(
+        "must be blank or 20 digits. Given: \"4010281084537000000O\" (the Latin letter O in \
+         place 20, not a zero)."
+    ));
 }
 
 #[test]
 fn an_ordinary_order() {
-    let expected = "This is an ordinary order, not a budget payment: nothing is proposed.";
-    assert_eq!(explained(&order(&[15, 101], &[])), expected);
-    assert_eq!(explained(&order(&[15], &[])), expected);
+    let head =
+        "This is an ordinary order, not a budget payment: nothing is proposed.\nIt is so by \
+                14 (BIK) \"004525987\", 15 (bank account) blank and 17 (recipient account) \
+                \"03100643000000014800\". A budget payment has a bank account (15) that begins \
+                40102 and ";
+    let accepted = explained(&order(&[15, 101], &[]));
+    assert!(accepted.starts_with(head), "{accepted}");
+    assert!(accepted.ends_with("\nChecked as an ordinary order, it is accepted."));
+    let refused = explained(&order(&[15], &[]));
+    assert!(refused.starts_with(head), "{refused}");
+    let rule_4 = "\nChecked as an ordinary order, it is refused.\n- Rule 4 is broken in field 101 \
+                  (status): the status (101) of an ordinary payment must be blank. Given: \"01\".";
+    assert!(refused.ends_with(rule_4), "{refused}");
+    for begin in CLASS_A.iter().chain(&["40204", "40503", "40603", "40703"]) {
+        assert!(refused.contains(begin), "{begin}");
+    }
 }
 
 #[test]
 fn completed_orders() {
     let first = "This order can be completed: filling 1 of its 1,056 is the first that keeps the \
-                 rules.\nIt fills 7 fields: 22 (code), 101 (status), 105 (OKTMO), 106 (basis), 107 \
-                 (customs office), 108 (document), 109 (date).";
+                 rules.\nIt fills 7 fields. These are proposed, not given:\n\
+                 - 22 (code): \"0\"; nothing else is tried.\n\
+                 - 101 (status): \"01\" is the first of nine that would do; the others: 04 05 08 13 \
+                 15 23 27 29.\n\
+                 - 105 (OKTMO): \"0\"; nothing else is tried.\n\
+                 - 106 (basis): \"0\", the only one of the twelve tried that would do.\n\
+                 - 107 (customs office): \"0\"; nothing else is tried.\n\
+                 - 108 (document): \"0\" is the first of two that would do; the other: 00.\n\
+                 - 109 (date): \"0\", the only one of the two tried that would do.";
     assert_eq!(explained(&order(&BLANKS, &[])), first);
     let open = order(&BLANKS, &[(60, "0"), (102, "0")]);
     let later = explained(&open);
     assert!(later.starts_with("This order can be completed: filling 97 of its 1,056 is "));
     let back = explained_at(&open, Dates::given(20230930));
     assert!(back.starts_with("This order can be completed: filling 49 of its 1,008 is "));
-    let one = "This order can be completed: its only filling keeps the rules.\nIt fills 1 field: \
-               22 (code).";
+    let one = "This order can be completed: its only filling keeps the rules.\nIt fills 1 field. \
+               This is proposed, not given:\n- 22 (code): \"0\"; nothing else is tried.";
     assert_eq!(explained(&order(&[22], &[])), one);
-    let complete = "This order can be completed: its only filling keeps the rules.\nIt fills no \
-                    field.";
+    let complete = "This order can be completed: its only filling keeps the rules.\nNothing is \
+                    proposed: it is complete as it is given.";
     assert_eq!(explained(&Texts::s()), complete);
+}
+
+/// A field without a list, "0" that breaks a rule, and a text that is given: all at once.
+#[test]
+fn three_causes_at_once() {
+    let words = explained(&order(
+        &[61, 104],
+        &[(102, "7703О1001"), (103, "772801001 ")],
+    ));
+    let expected = format!(
+        "This order can't be completed: its only filling breaks the rules.\nIn the way:\n\
+         - 61 (recipient's INN) must be given: it is blank, and nothing is ever proposed for it; \
+         rules 6 and 9: {}.\n\
+         - 104 (KBK) is blank, and only \"0\" is tried for it; rule 28: {}. Given: 17 (recipient \
+         account) \"03100643000000014800\".\n\
+         - 102 (payer's KPP) is given as \"7703О1001\" (the Cyrillic letter О in place 5, not a \
+         zero); rule 11: {}.\n\
+         - 103 (recipient's KPP) is given as \"772801001␠\" (a blank at the end, 10 characters, \
+         not 9); rule 12: {}.\n\
+         \"0\" is all that is tried for 22, 60, 102, 104, 105 and 107.",
+        rule(9),
+        rule(28),
+        rule(11),
+        rule(12)
+    );
+    assert_eq!(words, expected);
 }
 
 #[test]
 fn all_fillings_break_one_rule() {
-    let rule_28 = "breaks rule 28 in field 104 (KBK): if the recipient account (17) begins 03100, \
-                   the KBK (104) must not be \"0\".";
-    let many = format!(
-        "This order can't be completed: none of its 1,056 fillings keeps the rules.\nEvery one \
-         {rule_28}"
+    let words = explained(&order(&BLANKS, &[(104, "0")]));
+    let every = format!(
+        "This order can't be completed: none of its 1,056 fillings keeps the rules.\nIn the way of \
+         every status:\n- 104 (KBK) is given as \"0\" and 17 (recipient account) as \
+         \"03100643000000014800\"; rule 28: {}.\nIn the way of some statuses:\n- with ",
+        rule(28)
     );
-    assert_eq!(explained(&order(&BLANKS, &[(104, "0")])), many);
-    let one =
-        format!("This order can't be completed: its only filling breaks the rules.\nIt {rule_28}");
-    assert_eq!(explained(&order(&[104], &[])), one);
-    assert_eq!(explained(&order(&[], &[(104, "0")])), one);
-    let blank = explained(&order(&[103], &[]));
-    assert!(blank.contains("\nIt breaks rule 6 in field 103 (recipient's KPP): "));
+    assert!(words.starts_with(&every), "{words}");
+    let least =
+        "\nLeast is in the way of status 01, 04, 05, 08, 13, 15, 23, 27 and 29 (rule 28).\n";
+    assert!(words.contains(least), "{words}");
 }
 
 #[test]
@@ -275,91 +322,65 @@ fn status_by_status() {
         order(&[22, 102, 105, 106, 107, 108, 109], &changes)
     };
     let all = explained(&order_of(""));
-    let lines: Vec<&str> = all.lines().collect();
-    assert_eq!(lines.len(), 2 + STATUSES.len());
-    assert_eq!(
-        lines[..2],
-        [
-            "This order can't be completed: none of its 1,056 fillings keeps the rules.",
-            "The rule that stops each status, in the filling that gets furthest:",
-        ]
+    assert!(!all.contains("every status"), "{all}");
+    let rule_27 = format!(
+        "102 (payer's KPP) is blank, and only \"0\" is tried for it; rule 27: {}. Given: 60 \
+         (payer's INN) \"7701569743\"",
+        rule(27)
     );
-    for (line, status) in lines[2..].iter().zip(STATUSES) {
-        assert!(line.starts_with(&format!("Status {status}: rule ")));
-    }
-    let line = |status| lines.iter().find(|line| line.starts_with(status)).copied();
-    let rule_27 = rule(27);
-    let status_08 = format!("Status 08: rule 27 in field 102 (payer's KPP): {rule_27}.");
-    assert_eq!(line("Status 08"), Some(status_08.as_str()));
+    assert!(all.contains(&format!("\n- with all but 01: {rule_27}.\n")));
+    let least =
+        "\nLeast is in the way of status 01 (rule 19); 05, 08, 15, 23, 27 and 29 (rule 27).\n";
+    assert!(all.contains(least), "{all}");
 
-    let given =
-        "This order can't be completed: none of its 48 fillings keeps the rules.\nThe rule \
-                 that stops the filling that gets furthest:\n";
-    assert_eq!(explained(&order_of("08")), format!("{given}{status_08}"));
-    let rule_10 = rule(10);
-    let wrong = format!("The status given: rule 10 in field 101 (status): {rule_10}.");
-    assert_eq!(explained(&order_of("02")), format!("{given}{wrong}"));
-    assert_eq!(explained(&order_of("\n")), format!("{given}{wrong}"));
-    let one = format!(
-        "This order can't be completed: its only filling breaks the rules.\nThe rule that stops \
-         it:\n{status_08}"
+    // With a status that is given, what it reads is quoted.
+    let head = "This order can't be completed: none of its 48 fillings keeps the rules.\nIn the \
+                way:\n- ";
+    let given = explained(&order_of("08"));
+    let expected = format!(
+        "{head}{rule_27} and 101 (status) \"08\".\n\"0\" is all that is tried for 22, 60, 102, \
+         104, 105 and 107."
     );
-    assert_eq!(explained(&order(&[], &[(101, "08"), (102, "0")])), one);
+    assert_eq!(given, expected);
+    let out_of_force = explained(&order_of("02"));
+    let rule_10 = format!("101 (status) is given as \"02\"; rule 10: {}.", rule(10));
+    assert!(out_of_force.contains(&rule_10), "{out_of_force}");
+    let unseen = explained(&order_of("\n"));
+    assert!(unseen.contains("is given as \"␊\" (a character that can't be seen in place 1, "));
 
-    // At a date that allows 02 it has a line, and rule 19 names it.
+    // At a date that allows 02 it has causes of its own, and rule 19 names it.
     let back = Dates::given(20231015);
     let lines = explained_at(&order_of(""), back);
     let rule_19 = rule_at(19, back).expect("a rule");
-    let status_02 = format!("Status 02: rule 19 in field 17 (recipient account): {rule_19}.");
-    assert_eq!(lines.lines().nth(3), Some(status_02.as_str()));
-    assert_eq!(
-        explained_at(&order_of("02"), back),
-        format!("{given}{status_02}")
+    let status_02 = format!(
+        "- with 01, 02, 04, 06, 07, 13, 16, 17, 28, 30 and 32: 17 (recipient account) is given as \
+         \"03222643000000014800\"; rule 19: {rule_19}."
     );
+    assert!(lines.lines().any(|line| line == status_02), "{lines}");
 }
 
+/// Where each filling breaks another rule, each entry has one.
 #[test]
-fn the_filling_that_gets_furthest() {
+fn fillings_with_different_rules() {
     let customs = |blank, changes: [(u8, &str); 2]| {
         let texts = order(&[blank], &[(101, "06"), (107, "10000000")]);
         let with = |texts: Texts, (field, text): (u8, &str)| texts.with(field, text.as_bytes());
         explained(&changes.into_iter().fold(texts, with))
     };
-    // Of two fillings the first is stopped by rule 33; of twelve the second.
-    for words in [
-        customs(108, [(106, "00"), (109, "0")]),
-        customs(106, [(108, "5"), (109, "00")]),
-    ] {
-        assert!(words.contains("\nStatus 06: rule 34 in field 109 (date): "));
-    }
+    let bases = customs(106, [(108, "5"), (109, "00")]);
+    let expected = "\n- where 106 is \"00\": 108 (document) is given as \"5\"; rule 33: ";
+    assert!(bases.contains(expected), "{bases}");
+    let expected =
+        "\n- where 106 is \"0\", \"УВ\", \"ИЛ\", \"ПБ\", \"ТГ\", \"ТБ\", \"ТД\", \"ПВ\", \
+                    \"ИН\", \"ПК\" or \"КЭ\": 109 (date) is given as \"00\"; rule 34: ";
+    assert!(bases.contains(expected), "{bases}");
+    let documents = customs(108, [(106, "00"), (109, "0")]);
+    let expected =
+        "In the way:\n- 109 (date) is given as \"0\" and 106 (basis) as \"00\"; rule 34: ";
+    assert!(documents.contains(expected), "{documents}");
 }
 
-/// The lines that explain status by status, from an explicit list of fillings.
-fn lines_by_status(given: &Texts, dates: Dates) -> Vec<String> {
-    let mut lines: Vec<(Vec<u8>, Broken)> = Vec::new();
-    let place = |broken: Broken| ORDER.iter().position(|&rule| rule == broken.rule);
-    for filling in cases::fillings_at(given, dates) {
-        let status = filling.get(101).to_vec();
-        let broken = broken_at(&filling, dates).expect("a broken rule");
-        match lines.last_mut() {
-            Some((last, furthest)) if *last == status => {
-                if place(broken) > place(*furthest) {
-                    *furthest = broken;
-                }
-            }
-            _ => lines.push((status, broken)),
-        }
-    }
-    let line = |(status, broken): (Vec<u8>, Broken)| match String::from_utf8(status) {
-        Ok(status) if dates.statuses().contains(&status.as_str()) => {
-            format!("Status {status}: {}", broken_words(broken, dates))
-        }
-        _ => format!("The status given: {}", broken_words(broken, dates)),
-    };
-    lines.into_iter().map(line).collect()
-}
-
-/// The explanation of an order says what completion, pretest and the fillings answer.
+/// The explanation of an order says what completion answers.
 fn hold_explanation(given: &Texts, dates: Dates) {
     let draft = draft(given);
     let (date, record) = asked(dates);
@@ -368,20 +389,21 @@ fn hold_explanation(given: &Texts, dates: Dates) {
     match complete(&draft, &mut [0; SHEET_SIZE], date, record) {
         Ok(completed) => {
             assert!(lines[0].starts_with("This order can be completed: "));
-            let listed = lines[1].matches('(').count();
-            assert_eq!(listed, completed.set.count_ones() as usize);
+            assert_eq!(lines.len() - 2, completed.set.count_ones() as usize);
         }
-        Err(Refusal::NoFilling { .. }) => match pretest(&draft) {
-            Ok(Some(broken)) => {
-                assert_eq!(lines.len(), 2);
-                let broken = format!(" breaks {}", broken_words(broken, dates));
-                assert!(lines[1].ends_with(&broken));
+        Err(Refusal::NoFilling { .. }) => {
+            assert!(lines[0].starts_with("This order can't be completed: "));
+            // A rule that all fillings break is among the causes.
+            if let Ok(Some(Broken { rule, .. })) = pretest(&draft) {
+                let alone = format!("; rule {rule}: ");
+                let among = format!("; rules {rule} and ");
+                let is_named = |line: &&str| line.contains(&alone) || line.contains(&among);
+                let every = lines.iter().filter(|line| !line.starts_with("- with"));
+                assert!(every.copied().any(|line| is_named(&line)), "{words}");
             }
-            Ok(None) => assert_eq!(lines[2..], lines_by_status(given, dates)),
-            Err(refusal) => panic!("pretest refuses with {refusal}: {words}"),
-        },
+        }
         Err(Refusal::Broken { field, rule }) => {
-            let broken = format!("yet: rule {rule} is broken in field {field} (");
+            let broken = format!("\n- Rule {rule} is broken in field {field} (");
             assert!(words.contains(&broken));
         }
         Err(Refusal::Ordinary) => assert!(words.starts_with("This is an ordinary order")),
@@ -410,27 +432,83 @@ fn explanations_of_the_table() {
     }
 }
 
-/// For every rule but 4, which asks nothing of a budget payment, some order's
-/// explanation names it; the check of a sheet names rule 4.
+/// For every rule some order's explanation names it.
 #[test]
 fn every_rule_is_named() {
     let mut named = BTreeSet::new();
-    for case in sheets() {
-        let Some(broken) = broken(&case.texts) else {
+    let ordinary = order(&[15], &[]);
+    for texts in sheets().iter().map(|case| case.texts).chain([ordinary]) {
+        let Some(Broken { field, rule }) = broken(&texts) else {
             continue;
         };
-        let words = explained(&case.texts);
-        let Broken { field, rule } = broken;
-        let yet = format!("rule {rule} is broken in field {field} (");
-        let full = broken_words(broken, Dates::PROGRAM);
-        if words.ends_with(&full) || words.contains(&yet) {
+        let words = explained(&texts);
+        let name = words::field(field).expect("a listed field");
+        let text = self::rule(rule);
+        let yet = format!("- Rule {rule} is broken in field {field} ({name}): {text}. ");
+        let cause = format!("; rule {rule}: {text}.");
+        let missing = words.contains("; rules 6 and ") && rule == 6;
+        if words.contains(&yet) || words.contains(&cause) || missing {
             named.insert(rule);
         }
     }
-    assert_eq!(named, (1..=35).filter(|&rule| rule != 4).collect());
-    let ordinary = order(&[15], &[]);
-    assert_eq!(broken(&ordinary).map(|broken| broken.rule), Some(4));
+    assert_eq!(named, (1..=35).collect());
     let (date, record) = asked(Dates::PROGRAM);
     let accepted = check(&order(&[15, 101], &[]).sheet(), date, record);
     assert_eq!(accepted, Ok(Class::O));
+}
+
+/// The rules that a sheet breaks, each with what is given.
+#[test]
+fn broken_rules_of_a_sheet() {
+    let (date, record) = asked(Dates::PROGRAM);
+    let words = |texts: &Texts| -> Vec<String> {
+        let broken = words::broken(&texts.sheet(), date, record).into_iter();
+        broken.map(|(_, line)| line).collect()
+    };
+    assert_eq!(words(&Texts::s()), [""; 0]);
+    let two = words(&order(&[], &[(101, "08"), (102, "0"), (105, "")]));
+    let expected = [
+        format!(
+            "Rule 6 is broken in field 105 (OKTMO): {}. It is blank.",
+            rule(6)
+        ),
+        format!(
+            "Rule 14 is broken in field 105 (OKTMO): {}. It is blank.",
+            rule(14)
+        ),
+        format!(
+            "Rule 27 is broken in field 102 (payer's KPP): {}. Given: \"0\".",
+            rule(27)
+        ),
+    ];
+    assert_eq!(two, expected);
+    assert_eq!(words::broken(&[], date, record), []);
+}
+
+/// Of dates that are refused, rules 10 and 19 are told without a list.
+#[test]
+fn rules_at_refused_dates() {
+    let refused = Dates::given(0);
+    let text = rule_at(10, refused).expect("a rule");
+    assert!(
+        text.ends_with(" one of those that the date allows"),
+        "{text}"
+    );
+    let text = rule_at(19, refused).expect("a rule");
+    assert!(text.starts_with("with status 01, 02, 04, "), "{text}");
+}
+
+/// The first broken rule and its field are those that a check names.
+#[test]
+fn rules_name_the_fields_of_a_check() {
+    let (date, record) = asked(Dates::PROGRAM);
+    for case in sheets() {
+        let words = words::broken(&case.texts.sheet(), date, record);
+        let first = words.first().map(|(broken, _)| *broken);
+        assert_eq!(first, broken(&case.texts));
+        for (Broken { field, rule }, line) in words {
+            let head = format!("Rule {rule} is broken in field {field} (");
+            assert!(line.starts_with(&head), "{line}");
+        }
+    }
 }

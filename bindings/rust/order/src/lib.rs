@@ -11,14 +11,14 @@
 #![warn(missing_docs)]
 
 mod take;
-mod windows1251;
 
 use std::fmt;
 use std::path::Path;
 
-use kieselbrot::{words, Date, Party, Refusal, Version};
+use kieselbrot::{words, Date, Gathered, Party, Refusal, Version};
 use kieselbrot::{DRAFT_SIZE, FIELDS, MESSAGE_MAX, TEXT_MAX};
 
+pub use kieselbrot::windows1251;
 pub use take::{take_up, Line};
 
 /// As many bytes of messages as the program budgetorder reads.
@@ -128,61 +128,104 @@ pub fn field(item: &str) -> Result<u8, Mistake> {
 ///
 /// All wrong lines.
 pub fn messages(order: &[u8]) -> Result<Vec<u8>, Vec<WrongLine>> {
+    numbered_messages(order).map(|(messages, _)| messages)
+}
+
+/// The messages of an order, end to end, and the number of each one's line, from 1.
+///
+/// # Errors
+///
+/// All wrong lines.
+pub fn numbered_messages(order: &[u8]) -> Result<(Vec<u8>, Vec<usize>), Vec<WrongLine>> {
     let order = order.strip_prefix(b"\xEF\xBB\xBF").unwrap_or(order);
     let mut messages = Vec::new();
+    let mut lines = Vec::new();
     let mut wrong = Vec::new();
     for (number, line) in (1..).zip(order.split(|&byte| byte == b'\n')) {
         let line = line.strip_suffix(b"\r").unwrap_or(line);
-        if let Err(mistake) = add_line(line, &mut messages) {
-            wrong.push(WrongLine { number, mistake });
+        let before = messages.len();
+        match add_line(line, &mut messages) {
+            Ok(()) if messages.len() > before => lines.push(number),
+            Ok(()) => (),
+            Err(mistake) => wrong.push(WrongLine { number, mistake }),
         }
     }
     if wrong.is_empty() {
-        Ok(messages)
+        Ok((messages, lines))
     } else {
         Err(wrong)
     }
 }
 
-/// The version and party of a line, and the line without its party.
-fn party(line: &str) -> (Version, Party, &str) {
-    let (item, rest) = line.split_once(' ').unwrap_or((line, ""));
-    if Some(item) == words::party(Party::CLIENT) {
-        (Version::TWO, Party::CLIENT, rest)
-    } else {
-        (Version::ONE, Party::ADVISER, line)
+/// What stands before the first space of a line, and what stands behind it.
+fn item(line: &str) -> (&str, &str) {
+    // Items are short: a search that takes one byte after another is the fastest.
+    let space = line.bytes().position(|byte| byte == b' ');
+    match space {
+        Some(space) => (&line[..space], &line[space + 1..]),
+        None => (line, ""),
     }
 }
 
-/// Adds a line's message; a comment or blank line has none.
+/// The version and party of a line, the item behind its party, and the rest.
+fn party(line: &str) -> (Version, Party, &str, &str) {
+    let (first, rest) = item(line);
+    if Some(first) == words::party(Party::CLIENT) {
+        let (first, rest) = item(rest);
+        (Version::TWO, Party::CLIENT, first, rest)
+    } else {
+        (Version::ONE, Party::ADVISER, first, rest)
+    }
+}
+
+/// Whether a line is left out: it is blank or begins with `#`.
+#[must_use]
+pub fn is_left_out(line: &str) -> bool {
+    matches!(line.trim_start().chars().next(), None | Some('#'))
+}
+
+/// Adds a line's message; one that is left out has none.
 fn add_line(line: &[u8], messages: &mut Vec<u8>) -> Result<(), Mistake> {
     let line = str::from_utf8(line).map_err(|_| Mistake::NotUtf8)?;
-    if matches!(line.trim_start().chars().next(), None | Some('#')) {
+    if is_left_out(line) {
         return Ok(());
     }
-    let (version, party, line) = party(line);
-    let (field, rest) = line.split_once(' ').unwrap_or((line, ""));
-    let (revision, text) = rest.split_once(' ').unwrap_or((rest, ""));
-    let wrong_field = || Mistake::Field(field.to_owned());
-    let wrong_revision = || Mistake::Revision(revision.to_owned());
-    let number = number(field).and_then(|number| u8::try_from(number).ok());
-    let number = number.ok_or_else(wrong_field)?;
-    let given = self::number(revision).ok_or_else(wrong_revision)?;
-    let text = windows1251::bytes(text).map_err(Mistake::Character)?;
-
     let mut buffer = [0; MESSAGE_MAX];
-    let length = kieselbrot::write(version, party, number, given, &text, &mut buffer);
-    let length = length.map_err(|refusal| match refusal {
-        Refusal::Length => Mistake::Long(text.len()),
-        Refusal::UnknownField => wrong_field(),
-        Refusal::RevisionZero => wrong_revision(),
-        _ => Mistake::Refused(refusal),
-    })?;
+    let length = message(line, &mut buffer)?;
     if messages.len() + length > ORDER_MAX {
         return Err(Mistake::Order);
     }
     messages.extend(buffer.iter().take(length));
     Ok(())
+}
+
+/// Writes the message of a line that is not left out at the start of a buffer and tells
+/// its size.
+///
+/// # Errors
+///
+/// What is wrong with the line.
+#[inline]
+pub fn message(line: &str, buffer: &mut [u8; MESSAGE_MAX]) -> Result<usize, Mistake> {
+    let (version, party, field, rest) = party(line);
+    let (revision, text) = item(rest);
+    let wrong_field = || Mistake::Field(field.to_owned());
+    let wrong_revision = || Mistake::Revision(revision.to_owned());
+    let number = number(field).and_then(|number| u8::try_from(number).ok());
+    let number = number.ok_or_else(wrong_field)?;
+    let given = self::number(revision).ok_or_else(wrong_revision)?;
+    // One more byte than a text may have, for the library to refuse it.
+    let mut bytes = [0; TEXT_MAX + 1];
+    let length = windows1251::encode(text, &mut bytes).map_err(Mistake::Character)?;
+    let bytes = &bytes[..length.min(TEXT_MAX + 1)];
+
+    let written = kieselbrot::write(version, party, number, given, bytes, buffer);
+    written.map_err(|refusal| match refusal {
+        Refusal::Length => Mistake::Long(length),
+        Refusal::UnknownField => wrong_field(),
+        Refusal::RevisionZero => wrong_revision(),
+        _ => Mistake::Refused(refusal),
+    })
 }
 
 /// The number that digits alone write.
@@ -196,28 +239,7 @@ fn number(digits: &str) -> Option<u32> {
 /// length nothing more is read.
 #[must_use]
 pub fn draft(messages: &[u8]) -> [u8; DRAFT_SIZE] {
-    let mut draft = [0; DRAFT_SIZE];
-    let mut rest = messages;
-    while !rest.is_empty() {
-        let (message, behind) = rest.split_at(size(rest));
-        if kieselbrot::post(&mut draft, message) == Err(Refusal::Length) {
-            break;
-        }
-        rest = behind;
-    }
-    draft
-}
-
-/// How many bytes the first message has: 2 and as many as these two say, or all
-/// that are left.
-fn size(messages: &[u8]) -> usize {
-    match *messages {
-        [high, low, ..] => {
-            let length = usize::from(u16::from_be_bytes([high, low]));
-            messages.len().min(2 + length)
-        }
-        _ => messages.len(),
-    }
+    Gathered::new(messages).draft
 }
 
 #[cfg(test)]
@@ -244,6 +266,8 @@ mod tests {
         ];
         assert_eq!(messages(order.as_bytes()), Ok(expected.concat()));
         assert_eq!(messages(b""), Ok(vec![]));
+        let numbered = numbered_messages(order.as_bytes());
+        assert_eq!(numbered.map(|(_, lines)| lines), Ok(vec![3, 4, 5, 6, 7]));
         let marked = b"\xEF\xBB\xBF14 1";
         assert_eq!(messages(marked), Ok(b"\0\x06\x01\x0E\0\0\0\x01".to_vec()));
     }

@@ -137,6 +137,6 @@ mod tests {
         assert!(words.starts_with("This order can't be completed: none of its 1,056 "));
         assert!(words.contains("rule 28"));
         let words = lines("", &[101]).expect_err("a refusal");
-        assert!(words.starts_with("This order can't be completed yet: rule 1 "));
+        assert!(words.starts_with("This order can't be completed yet: "));
     }
 }

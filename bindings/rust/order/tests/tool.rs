@@ -21,19 +21,33 @@ fn order(path: impl AsRef<Path>) -> Output {
         .expect("the tool runs")
 }
 
-/// What `explain` writes of messages.
-fn explain(messages: &[u8]) -> String {
+/// What `explain` answers for messages on standard input.
+fn explained(messages: &[u8]) -> Output {
     let mut tool = Command::new(env!("CARGO_BIN_EXE_explain"))
         .stdin(Stdio::piped())
         .stdout(Stdio::piped())
+        .stderr(Stdio::piped())
         .spawn()
         .expect("the tool runs");
     let mut input = tool.stdin.take().expect("its input");
     input.write_all(messages).expect("it reads");
     drop(input);
-    let output = tool.wait_with_output().expect("it ends");
-    assert!(output.status.success());
+    tool.wait_with_output().expect("it ends")
+}
+
+/// What `explain` writes of messages.
+fn explain(messages: &[u8]) -> String {
+    let output = explained(messages);
+    assert!(output.status.success() && output.stderr.is_empty());
     String::from_utf8(output.stdout).expect("UTF-8")
+}
+
+/// What `explain` answers for an order file.
+fn explain_file(path: impl AsRef<Path>) -> Output {
+    Command::new(env!("CARGO_BIN_EXE_explain"))
+        .arg(path.as_ref())
+        .output()
+        .expect("the tool runs")
 }
 
 /// The messages of a sample.
@@ -79,13 +93,110 @@ fn two_samples_can_not_be_completed() {
     }
 }
 
+/// The samples, by name.
+fn samples(ending: &str) -> Vec<String> {
+    let files = fs::read_dir(sample("order", "txt").parent().expect("the samples"));
+    let files = files.expect("the samples").filter_map(Result::ok);
+    let paths = files.map(|file| file.path());
+    let with = paths.filter(|path| path.extension().is_some_and(|found| found == ending));
+    let mut names: Vec<String> = with
+        .filter_map(|path| Some(path.file_stem()?.to_str()?.to_owned()))
+        .collect();
+    names.sort_unstable();
+    names
+}
+
+/// The program's report, by the second implementation, and the words below it.
+fn hold_report(name: &str, messages: &[u8], words: &str) {
+    let stored = fs::read_to_string(sample(name, "report")).expect("a stored report");
+    let report = order::windows1251::text(&reference::report(messages));
+    assert_eq!(stored, format!("{report}\n{words}"), "{name}");
+}
+
 #[test]
-fn the_words_of_the_samples() {
-    for name in ["order", "hopeless", "status-by-status", "client"] {
-        let stored = fs::read_to_string(sample(name, "report")).expect("a stored report");
-        let (_, words) = stored.split_once("\n\n").expect("words below the report");
-        assert_eq!(explain(&messages(name)), words);
+fn the_reports_of_the_samples() {
+    let orders = samples("txt");
+    assert!(orders.len() >= 13, "{orders:?}");
+    for name in orders {
+        let output = explain_file(sample(&name, "txt"));
+        assert!(output.status.success() && output.stderr.is_empty());
+        let words = String::from_utf8(output.stdout).expect("UTF-8");
+        hold_report(&name, &messages(&name), &words);
     }
+    for name in samples("messages") {
+        let messages = fs::read(sample(&name, "messages")).expect("a sample");
+        hold_report(&name, &messages, &explain(&messages));
+    }
+}
+
+/// Two arrangements of the same messages, and the payer that stands in each.
+#[test]
+fn two_payers() {
+    let parts = |name: &str| {
+        let gathered = messages(name);
+        let gathered = kieselbrot::Gathered::new(&gathered);
+        let mut parts: Vec<Vec<u8>> = gathered
+            .postings
+            .iter()
+            .map(|posting| posting.bytes.to_vec())
+            .collect();
+        parts.sort_unstable();
+        parts
+    };
+    assert_eq!(parts("two-payers"), parts("two-payers-turned"));
+    assert_eq!(parts("two-payers").len(), 16);
+    for (name, stands, other) in [
+        ("two-payers", "7701569743", "7702070139"),
+        ("two-payers-turned", "7702070139", "7701569743"),
+    ] {
+        let words = fs::read_to_string(sample(name, "report")).expect("a report");
+        let clash =
+            format!(": \"{stands}\" stands, \"{other}\" does not count. Ask which is right.");
+        let (before, _) = words
+            .split_once("This order can be completed: ")
+            .expect("an answer");
+        assert!(before.contains(&clash), "{words}");
+    }
+}
+
+/// Messages alone have numbers and no lines.
+#[test]
+fn messages_have_no_lines() {
+    let words = explain(&messages("late"));
+    assert!(
+        words.starts_with("Message 16, revision 1, adviser, "),
+        "{words}"
+    );
+    assert!(!words.contains("line "), "{words}");
+}
+
+/// What is behind the bytes that budgetorder reads is left unread, and that is said.
+#[test]
+fn a_long_input() {
+    let blank = b"\0\x06\x01\x16\0\0\0\x01";
+    let full = blank.repeat(order::ORDER_MAX / blank.len());
+    assert!(explained(&full).stderr.is_empty());
+    let longer = [&full[..], b"\0"].concat();
+    let one = explained(&longer);
+    assert_eq!(one.stdout, explained(&full).stdout);
+    let error = String::from_utf8(one.stderr).expect("UTF-8");
+    let expected =
+        "standard input: 1 byte is left unread, behind the 32768 that budgetorder reads\n";
+    assert_eq!(error, expected);
+    let more = explained(&[&full[..], &full].concat());
+    assert!(more.status.success());
+    assert!(more
+        .stderr
+        .starts_with(b"standard input: 32768 bytes are left unread, "));
+}
+
+#[test]
+fn explain_names_wrong_lines() {
+    let wrong = Try::new("explained", b"14 1 004525987\n16 1 x\n");
+    let error = fails(explain_file(&wrong.0));
+    assert!(error.contains(":2: \"16\" is no field; "), "{error}");
+    let error = fails(explain_file("no such order.txt"));
+    assert!(error.starts_with("no such order.txt: "), "{error}");
 }
 
 #[test]

@@ -103,6 +103,29 @@ const fn list(field: Field) -> &'static [&'static [u8]] {
     }
 }
 
+/// An entry of the list of the field with this number, by its place from 0, or none.
+///
+/// The paper names no such function: the lists are those of "Completion", that of 101
+/// as R-7 has it.
+///
+/// # Errors
+///
+/// In this order: [`Refusal::Undated`], [`Refusal::UnknownField`].
+pub fn entry(
+    number: u8,
+    place: usize,
+    date: Date,
+    record: Record,
+) -> Result<Option<&'static [u8]>, Refusal> {
+    let dates = Dates::new(date, record)?;
+    let field = Field::from_number(number).ok_or(Refusal::UnknownField)?;
+    let mut entries = list(field)
+        .iter()
+        .copied()
+        .filter(|entry| field != Field::Status || dates.allow(entry));
+    Ok(entries.nth(place))
+}
+
 /// Whether a filling fills this field: a "blank field that has a list".
 pub(crate) fn is_open(given: &Sheet<'_>, field: Field) -> bool {
     given[field].is_empty() && !list(field).is_empty()

@@ -15,13 +15,15 @@
 //! (part of a year), R-12 (status 15 with its register), R-13 (which payments leave
 //! first) and R-14 (passing over a status whole).
 //! R-9 names no function; [`take_up`] and refusal 20 are added to it and stated
-//! where they stand.
+//! where they stand. [`broken_rules`], [`origins`] and [`entry`], which tells an entry of a list of
+//! "Completion", are asked for besides, and said where they stand.
 //!
 //! Every public function is total, and "Refusals change no buffer".
 
 #![forbid(unsafe_code)]
 #![warn(missing_docs)]
 
+mod all_broken;
 mod charge;
 mod completion;
 mod dates;
@@ -29,6 +31,7 @@ mod draft;
 mod field;
 mod leave;
 mod message;
+mod origins;
 mod part;
 mod party;
 mod pretest;
@@ -41,12 +44,14 @@ mod sheet;
 mod swift;
 mod take_up;
 
+pub use all_broken::broken_rules;
 pub use charge::charge;
-pub use completion::{complete, Completed};
+pub use completion::{complete, entry, Completed};
 pub use dates::{Date, Record};
 pub use draft::{copy, fresh, post, Posted, DRAFT_SIZE, SLOT_SIZE};
 pub use leave::{leave, Leaving, Payment};
 pub use message::{read, write, Message, MESSAGE_MAX};
+pub use origins::origins;
 pub use part::{part, shares, Part};
 pub use pretest::pretest;
 pub use program::report;

@@ -37,7 +37,7 @@ pub fn report(input: &[u8]) -> Vec<u8> {
 }
 
 /// "Messages end to end, each 2 + L bytes or what is left if that is less".
-fn messages(mut input: &[u8]) -> impl Iterator<Item = &[u8]> {
+pub(crate) fn messages(mut input: &[u8]) -> impl Iterator<Item = &[u8]> {
     std::iter::from_fn(move || {
         if input.is_empty() {
             return None;

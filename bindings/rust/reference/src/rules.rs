@@ -244,7 +244,7 @@ impl<'a> Document<'a> {
 
 /// "Two digits of 01 to 14, 22, 24, 25, 26, 28, 29, 30, then ";", then at least
 /// one byte."
-fn is_person_identifier(text: &[u8]) -> bool {
+pub(crate) fn is_person_identifier(text: &[u8]) -> bool {
     let &[first, second, b';', _, ..] = text else {
         return false;
     };
@@ -257,7 +257,7 @@ fn is_person_identifier(text: &[u8]) -> bool {
 /// Rule 35: "exactly 11 digits after the ";". Where the first nine digits read as
 /// a number above 1001998, the last two must equal the sum of the nine digits
 /// times 9, 8, down to 1, modulo 101, with 100 written 00".
-fn is_snils(text: &[u8]) -> bool {
+pub(crate) fn is_snils(text: &[u8]) -> bool {
     if !is_digits(text, 11) {
         return false;
     }
@@ -286,7 +286,7 @@ impl DocumentDate {
     }
 }
 
-fn is_date(text: &[u8]) -> bool {
+pub(crate) fn is_date(text: &[u8]) -> bool {
     let &[d1, d2, b'.', m1, m2, b'.', y1, y2, y3, y4] = text else {
         return false;
     };
@@ -301,17 +301,17 @@ fn is_date(text: &[u8]) -> bool {
 }
 
 /// A text of so many digits; "a digit is "0" to "9"".
-fn is_digits(text: &[u8], width: usize) -> bool {
+pub(crate) fn is_digits(text: &[u8], width: usize) -> bool {
     text.len() == width && text.iter().all(u8::is_ascii_digit)
 }
 
 /// ""All zero" means every digit is "0"."
-fn all_zero(digits: &[u8]) -> bool {
+pub(crate) fn all_zero(digits: &[u8]) -> bool {
     digits.iter().all(|&digit| digit == b'0')
 }
 
 /// So many digits not all zero.
-fn is_nonzero(text: &[u8], width: usize) -> bool {
+pub(crate) fn is_nonzero(text: &[u8], width: usize) -> bool {
     is_digits(text, width) && !all_zero(text)
 }
 
@@ -322,7 +322,7 @@ fn is_registered(text: &[u8], width: usize) -> bool {
 
 /// An INN of 10 digits not beginning 00. "Ten digits: weights 2 4 10 3 5 9 4 6 8
 /// over the first nine, sum modulo 11 modulo 10, is the tenth."
-fn is_inn10(text: &[u8]) -> bool {
+pub(crate) fn is_inn10(text: &[u8]) -> bool {
     is_registered(text, 10) && is_checked(text, &INN_TENTH_WEIGHTS)
 }
 
@@ -345,7 +345,7 @@ fn is_checked(digits: &[u8], weights: &[u32]) -> bool {
 
 /// A KPP: nine digits not beginning 00, but at places 5 and 6 rules 11 and 12
 /// "accept "A" to "Z" there besides digits, and digits alone elsewhere".
-fn is_kpp(text: &[u8]) -> bool {
+pub(crate) fn is_kpp(text: &[u8]) -> bool {
     if text.len() != 9 {
         return false;
     }
@@ -451,15 +451,15 @@ pub(crate) fn classify(sheet: &Sheet<'_>) -> Result<Class, Broken> {
     })
 }
 
-fn begins_with_any(text: &[u8], prefixes: &[&[u8]]) -> bool {
+pub(crate) fn begins_with_any(text: &[u8], prefixes: &[&[u8]]) -> bool {
     prefixes.iter().any(|prefix| text.starts_with(prefix))
 }
 
-fn is_class_a(bank: &[u8], account: &[u8]) -> bool {
+pub(crate) fn is_class_a(bank: &[u8], account: &[u8]) -> bool {
     bank.starts_with(CLASS_A_BANK) && begins_with_any(account, &CLASS_A_ACCOUNTS)
 }
 
-fn is_class_b(bik: &[u8], account: &[u8]) -> bool {
+pub(crate) fn is_class_b(bik: &[u8], account: &[u8]) -> bool {
     let marked = account.get(13) == Some(&b'4');
     matches!(bik.get(6..9), Some([b'0', b'0', b'0'..=b'5']))
         && (account.starts_with(CLASS_B_ACCOUNT)

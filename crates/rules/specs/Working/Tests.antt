@@ -14,8 +14,11 @@ use Rattle.sheets.specs.declared.facts.Facts.{Facts}
 
 -- ---- the rules' tests on facts
 
+abbrev pub budgetOn : Facts → Bool
+budgetOn f = f .banking .account .a || f .banking .account .b
+
 abbrev pub ordinary : Facts → Bool
-ordinary f = not (f .banking .account .a || f .banking .account .b)
+ordinary f = not (budgetOn f)
 
 abbrev pub classOn : Facts → Class
 classOn f = cond (f .banking .account .a) A (cond (f .banking .account .b) B O)

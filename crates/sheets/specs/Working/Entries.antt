@@ -50,5 +50,19 @@ documentAt f k = cond (f .document .blank) (documentOf (getD zeroTexts k [])) (f
 abbrev pub dayAt : Facts → ℕ → Day
 dayAt f k = cond (f .day .blank) (dayOf (getD zeroTexts k [])) (f .day)
 
+-- facts with those of the four fields that a filling can vary
 abbrev pub withAll : Facts → Standing → Basis → Document → Day → Facts
 withAll f a b c d = record { banking = f .banking; parties = f .parties; classifiers = f .classifiers; force = f .force; status = a; basis = b; document = c; day = d }
+
+-- the facts g with those of one field, as f has it with entry k
+abbrev pub withStatus : Facts → Facts → ℕ → Facts
+withStatus g f k = withAll g (statusAt f k) (g .basis) (g .document) (g .day)
+
+abbrev pub withBasis : Facts → Facts → ℕ → Facts
+withBasis g f k = withAll g (g .status) (basisAt f k) (g .document) (g .day)
+
+abbrev pub withDocument : Facts → Facts → ℕ → Facts
+withDocument g f k = withAll g (g .status) (g .basis) (documentAt f k) (g .day)
+
+abbrev pub withDay : Facts → Facts → ℕ → Facts
+withDay g f k = withAll g (g .status) (g .basis) (g .document) (dayAt f k)

@@ -5,7 +5,7 @@ use mathlib.Core.Bool.{Bool, not, cond, _&&_, _||_}
 use mathlib.Core.List.{List, [], _∷_}
 use Prim.Native.Nat.{ℕ, _/_, _%_, _^_}
 use lib.Dec.{eqb, ltb}
-use lib.ListN.{length}
+use lib.ListN.{length, replicate}
 use Rattle.texts.specs.Quoted.{Text, bytes}
 use Rattle.texts.specs.Texts.{every, among, blank, _is_, _isOneOf_, _begins_, number}
 use Rattle.sheets.specs.Sheet.{sheetSize, textOf, Sheet, given}
@@ -169,6 +169,10 @@ factsBy D T =
 
 abbrev pub factsOf : Dates → Sheet → Facts
 factsOf D s = factsBy D (textOf s)
+
+-- of any list of bytes: one that has another size than a sheet has the facts of the empty sheet
+unfoldable pub factsIn : Dates → List ℕ → Facts
+factsIn D s = cond (eqb (length s) sheetSize) (factsOf D s) (factsOf D (replicate sheetSize 0))
 
 -- f is what was read of the sheet s at the dates D. A crate above sees facts by this alone.
 pub record Read (D : Dates) (f : Facts) (s : Sheet) : Type 0 where

@@ -5,6 +5,7 @@ mod running;
 use std::collections::BTreeSet;
 use std::env;
 use std::fs;
+use std::io::Read;
 use std::process::{self, Command, Stdio};
 use std::sync::mpsc;
 use std::thread;
@@ -13,10 +14,7 @@ use std::time::Duration;
 use cases::{message, message_2, messages, Random, Texts, ADVISER, CLIENT};
 use reference::{read, report, Refusal};
 
-use running::{path, run, run_in_pieces, run_with, write};
-
-/// As many bytes as the program reads.
-const INPUT_MAX: usize = 32_768;
+use running::{path, run, run_in_pieces, run_with, write, INPUT_MAX};
 
 /// The program's report, after a comparison with the second implementation.
 #[track_caller]
@@ -313,18 +311,22 @@ fn input_in_pieces() {
     same(&run_in_pieces(&full, vec![1000; 33], pause), &full);
 }
 
-/// A full input is reported on at once, though its end hasn't come.
+/// A full input is reported on at once, though its end hasn't come. Then the program waits
+/// for the end, to say whether input was left unread.
 #[test]
 fn a_full_input_needs_no_end() {
     let input = filled(INPUT_MAX);
+    let report = run(&input);
     let mut child = Command::new(path())
         .stdin(Stdio::piped())
         .stdout(Stdio::piped())
         .spawn()
         .expect("the program runs");
     let mut stdin = child.stdin.take().expect("standard input is a pipe");
+    let mut stdout = child.stdout.take().expect("standard output is a pipe");
     let (ended, end) = mpsc::channel();
-    let output = thread::scope(|scope| {
+    let mut output = vec![0; report.len()];
+    thread::scope(|scope| {
         let input = &input;
         let in_time = scope.spawn(move || {
             write(&mut stdin, input);
@@ -332,12 +334,12 @@ fn a_full_input_needs_no_end() {
             drop(stdin);
             in_time
         });
-        let output = child.wait_with_output().expect("the program's output");
+        stdout.read_exact(&mut output).expect("the whole report");
         let _ = ended.send(());
         assert!(in_time.join().expect("a writer"), "it waits for the end");
-        output
     });
-    same(&output.stdout, &input);
+    assert!(child.wait().expect("it ends").success());
+    same(&output, &input);
 }
 
 /// Nothing can be written to `/dev/full`.
@@ -377,7 +379,8 @@ fn a_long_report_comes_in_few_writes() {
     command.args(["-f", "-e", "trace=write", "-o"]);
     command.arg(&trace).arg(path());
     let input = most_messages();
-    let output = run_with(command, |stdin| write(stdin, &input));
+    let (output, told) = run_with(command, |stdin| write(stdin, &input));
+    assert_eq!(told, "");
     let traced = fs::read_to_string(&trace).expect("the trace");
     fs::remove_file(&trace).expect("the trace is removed");
     same(&output, &input);

@@ -23,9 +23,18 @@ pub fn path() -> PathBuf {
     path
 }
 
-/// What the program writes to standard output for this input.
+/// What the program says on standard error where input follows that it does not read.
+const UNREAD: &str = "budgetorder: input past 32,768 bytes was not read\n";
+
+/// How many bytes the program reads.
+pub const INPUT_MAX: usize = 32_768;
+
+/// What the program writes to standard output for this input; it says whether some of it
+/// was not read.
 pub fn run(input: &[u8]) -> Vec<u8> {
-    run_with(Command::new(path()), |stdin| write(stdin, input))
+    let (output, told) = run_with(Command::new(path()), |stdin| write(stdin, input));
+    assert_eq!(told, if INPUT_MAX < input.len() { UNREAD } else { "" });
+    output
 }
 
 /// Long enough for the program to start, and to wait for its input.
@@ -38,7 +47,7 @@ pub fn run_in_pieces(
     sizes: impl IntoIterator<Item = usize> + Send,
     pause: Duration,
 ) -> Vec<u8> {
-    run_with(Command::new(path()), |stdin| {
+    let (output, told) = run_with(Command::new(path()), |stdin| {
         thread::sleep(START);
         let mut rest = input;
         for size in sizes {
@@ -48,13 +57,18 @@ pub fn run_in_pieces(
             rest = behind;
         }
         write(stdin, rest);
-    })
+    });
+    assert_eq!(told, "");
+    output
 }
 
-/// What a command that runs the program writes to standard output, with its
-/// standard input given by `give`, which ends it by returning. The command must
-/// succeed and write nothing to standard error.
-pub fn run_with(mut command: Command, give: impl FnOnce(&mut ChildStdin) + Send) -> Vec<u8> {
+/// What a command that runs the program writes to standard output and to standard error,
+/// with its standard input given by `give`, which ends it by returning. The command must
+/// succeed.
+pub fn run_with(
+    mut command: Command,
+    give: impl FnOnce(&mut ChildStdin) + Send,
+) -> (Vec<u8>, String) {
     let mut child: Child = command
         .stdin(Stdio::piped())
         .stdout(Stdio::piped())
@@ -67,8 +81,8 @@ pub fn run_with(mut command: Command, give: impl FnOnce(&mut ChildStdin) + Send)
         child.wait_with_output().expect("the program's output")
     });
     assert!(output.status.success(), "{}", output.status);
-    assert_eq!(output.stderr.escape_ascii().to_string(), "");
-    output.stdout
+    let told = String::from_utf8(output.stderr).expect("UTF-8");
+    (output.stdout, told)
 }
 
 /// Writes as much as the program reads: it may end before the input does.

@@ -1,7 +1,7 @@
 //! "The order's date chooses the rules."
 
 use cases::{filled_set, Random, Texts, BASES, STATUSES};
-use reference::{check, complete, pretest, report, statuses};
+use reference::{check, complete, entry, pretest, report, statuses};
 use reference::{Class, Completed, Date, Record, Refusal};
 
 use crate::fixture::{broken, class_b, class_o, of_status, open, s};
@@ -51,6 +51,34 @@ fn complete_at(
     record: Record,
 ) -> Result<Completed, Refusal> {
     complete(&draft_of(order, |_| 1), sheet, Date(date), record)
+}
+
+/// Entries of "Completion"'s lists, that of 101 at the date.
+#[test]
+fn entries_of_the_lists() {
+    let asked = |field, place, date| entry(field, place, Date(date), Record::GIVEN);
+    for (field, place, date, expected) in [
+        (101, 0, 20_240_101, Some(&b"01"[..])),
+        (101, 1, 20_240_101, Some(b"03")),
+        (101, 21, 20_240_101, Some(b"33")),
+        (101, 22, 20_240_101, None),
+        (101, 1, 20_231_231, Some(b"02")),
+        (101, 21, 20_231_231, Some(b"32")),
+        (101, 21, 20_230_930, None),
+        (106, 2, 20_240_101, Some(b"\xD3\xC2")),
+        (106, 11, 20_240_101, Some(b"\xCA\xDD")),
+        (106, 12, 20_240_101, None),
+        (108, 1, 20_240_101, Some(b"00")),
+        (109, 2, 20_240_101, None),
+        (22, 0, 20_240_101, Some(b"0")),
+        (22, 1, 20_240_101, None),
+        (61, 0, 20_240_101, None),
+    ] {
+        assert_eq!(asked(field, place, date), Ok(expected), "{field} {place}");
+    }
+    assert_eq!(asked(16, 0, 20_240_101), Err(Refusal::UnknownField));
+    assert_eq!(asked(16, 0, 0), Err(Refusal::Undated));
+    assert_eq!(asked(101, 0, 20_230_924), Err(Refusal::Undated));
 }
 
 /// Some statuses at some dates with the given record.

@@ -12,6 +12,6 @@ fillings-of-spec =
     (λ c. record { fits = omega (arith, most 0 _ _ _ (omega arith) (c .before .before .before .before .width-of .ensures .1) (c .before .before .width-of2 .ensures .1) (c .width-of3 .ensures .1) .0) })
     (λ c. record { fits = omega (arith, most 0 _ _ _ (omega arith) (c .before .before .before .before .width-of .ensures .1) (c .before .before .width-of2 .ensures .1) (c .width-of3 .ensures .1) .1) })
     (λ c. (
-      rest-counted _ _ _ _ (c .before .before .before .before .before .blank-basis .ensures) (c .before .before .before .blank-document .ensures) (c .before .blank-day .ensures) _ _ _ (c .before .before .before .before .width-of .ensures .0) (c .before .before .width-of2 .ensures .0) (c .width-of3 .ensures .0),
+      rest-counted _ _ _ _ (c .before .before .before .before .before .blank-basis .ensures .0) (c .before .before .before .blank-document .ensures .0) (c .before .blank-day .ensures .0) _ _ _ (c .before .before .before .before .width-of .ensures .0) (c .before .before .width-of2 .ensures .0) (c .width-of3 .ensures .0),
       most 0 _ _ _ (omega arith) (c .before .before .before .before .width-of .ensures .1) (c .before .before .width-of2 .ensures .1) (c .width-of3 .ensures .1) .1,
     )))

@@ -11,6 +11,6 @@ search-spec =
     tie.close
     (tie.spec (λ c κs. search needs) (λ c κs. search needs) (λ c κs. search needs)
     (λ c. record { fits = omega (arith, mul-le-mul (c .before .statuses-of .ensures .1) (c .fillings-of .ensures .1)) })
-    (λ c D s o. none-passes (c .before .before .before .kept-fixed .ensures) (c .before .before .if1 .taken) D s o _ _ _ refl (c .before .statuses-of .ensures .0 D s (o .read)) (c .fillings-of .ensures .0 D s (o .read)))
+    (λ c D s o. none-passes (c .before .before .before .kept-fixed .ensures .0) (c .before .before .if1 .taken) D s o _ _ _ refl (c .before .statuses-of .ensures .0 D s (o .read)) (c .fillings-of .ensures .0 D s (o .read)))
     (λ c κs. search needs)
     (λ c. c .walk .ensures))

@@ -11,6 +11,6 @@ statuses-of-spec =
     tie.close
     (tie.spec (λ c κs. search needs) (λ c κs. search needs) (λ c κs. omega (arith, c .status-count .ensures .1 .0))
     (λ c. (
-      λ D u o. c .width-of .ensures .0 ∙ (λ i. width (c .before .before .blank-status .ensures D u o i) (c .before .status-count .ensures .0 D u o i)),
-      within-all (c .width-of .ensures .1) (c .before .status-count .ensures .1 .1),
+      λ D u o. c .width-of .ensures .0 ∙ (λ i. width (c .before .before .blank-status .ensures .0 D u o i) (c .before .status-count .ensures .0 D u o i)),
+      within-all (c .width-of .ensures .1) (c .before .status-count .ensures .1 .1 .0),
     )))

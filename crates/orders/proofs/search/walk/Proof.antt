@@ -85,9 +85,9 @@ days-again c =
     let k = c .before .before .before .before .before .before .before .before .documents .c in
     let d = l .days .d in
     let ok =
-    passes-is _ _ _ _ _ a b k d _ _ _ _ _ (c .before .before .before .before .before .before .before .before .before .before .before .before .before .before .before .before .before .before .before .before .before .before .before .before .before .before .before .before .kept-fixed .ensures)
-    (c .before .before .before .before .before .before .before .before .before .before .before .before .before .before .before .before .before .fill-status .ensures) (c .before .before .before .before .before .before .before .before .before .before .before .before .before .before .before .before .kept-status .ensures) (c .before .before .before .before .before .before .before .before .before .before .fill-basis .ensures) (c .before .before .before .before .before .before .before .before .before .kept-basis .ensures)
-    (c .before .before .before .before .before .before .fill-document .ensures) (c .before .before .before .before .before .kept-document .ensures) (c .before .before .fill-day .ensures) (c .before .kept-day .ensures) in (
+    passes-is _ _ _ _ _ a b k d _ _ _ _ _ (c .before .before .before .before .before .before .before .before .before .before .before .before .before .before .before .before .before .before .before .before .before .before .before .before .before .before .before .before .kept-fixed .ensures .0)
+    (c .before .before .before .before .before .before .before .before .before .before .before .before .before .before .before .before .before .fill-status .ensures .0) (c .before .before .before .before .before .before .before .before .before .before .before .before .before .before .before .before .kept-status .ensures .0) (c .before .before .before .before .before .before .before .before .before .before .fill-basis .ensures .0) (c .before .before .before .before .before .before .before .before .before .kept-basis .ensures .0)
+    (c .before .before .before .before .before .before .fill-document .ensures .0) (c .before .before .before .before .before .kept-document .ensures .0) (c .before .before .fill-day .ensures .0) (c .before .kept-day .ensures .0) in (
       omega arith,
       omega (arith, l .days .inv .1),
       λ D u o. turn (l .days .inv .2 D u o) (c .before .before .before .days-test .taken) (one-passed (passesAt D u) (l .days .count) (a ∷ b ∷ k ∷ d ∷ []) (sym (ok D u o) ∙ c .if1 .left)),
@@ -133,15 +133,15 @@ statuses-again c =
           turn (v .inv .2 D u o) more
           (paced (λ (t : List ℕ). a ∷ t) _ _ _ _ (v .count) _ _ _ e
           (c .before .before .before .before .before .before .before .before .before .fillings-of .ensures .0 D u (o .read) ∙ ap length (rest-is u _ _ _
-          (c .before .before .before .before .before .before .before .before .before .before .before .before .before .before .width-of .ensures .0 ∙ ap (λ (x : Bool). width x basisCount) (c .before .before .before .before .before .before .before .before .before .before .before .before .before .before .before .blank-basis .ensures D u (o .read)))
-          (c .before .before .before .before .before .before .before .before .before .before .before .before .width-of2 .ensures .0 ∙ ap (λ (x : Bool). width x zeroCount) (c .before .before .before .before .before .before .before .before .before .before .before .before .before .blank-document .ensures D u (o .read)))
-          (c .before .before .before .before .before .before .before .before .before .before .width-of3 .ensures .0 ∙ ap (λ (x : Bool). width x zeroCount) (c .before .before .before .before .before .before .before .before .before .before .before .blank-day .ensures D u (o .read)))))
-          (none-passed a (c .before .before .before .before .before .before .before .before .before .before .before .before .before .before .before .before .before .kept-fixed .ensures) (c .before .before .before .before .before .before .fill-status .ensures) (c .before .before .before .before .before .kept-status .ensures) D u o)
+          (c .before .before .before .before .before .before .before .before .before .before .before .before .before .before .width-of .ensures .0 ∙ ap (λ (x : Bool). width x basisCount) (c .before .before .before .before .before .before .before .before .before .before .before .before .before .before .before .blank-basis .ensures .0 D u (o .read)))
+          (c .before .before .before .before .before .before .before .before .before .before .before .before .width-of2 .ensures .0 ∙ ap (λ (x : Bool). width x zeroCount) (c .before .before .before .before .before .before .before .before .before .before .before .before .before .blank-document .ensures .0 D u (o .read)))
+          (c .before .before .before .before .before .before .before .before .before .before .width-of3 .ensures .0 ∙ ap (λ (x : Bool). width x zeroCount) (c .before .before .before .before .before .before .before .before .before .before .before .blank-day .ensures .0 D u (o .read)))))
+          (none-passed a (c .before .before .before .before .before .before .before .before .before .before .before .before .before .before .before .before .before .kept-fixed .ensures .0) (c .before .before .before .before .before .before .fill-status .ensures .0) (c .before .before .before .before .before .kept-status .ensures .0) D u o)
           (all (i .inv .2 D u o) (c .bases-test .left))),
       i .inv .3,
       v .inv .4,
       omega (arith, v .inv .5, p .1),
-      λ D u o. tally-more (skips D u) a (v .skipped) _ _ (v .inv .6 D u o) (pace-counts _ _ _ _ e) (skips-is a (c .before .before .before .before .before .before .before .before .before .before .before .before .before .before .before .before .before .kept-fixed .ensures) (c .before .before .before .before .before .before .fill-status .ensures) (c .before .before .before .before .before .kept-status .ensures) D u o),
+      λ D u o. tally-more (skips D u) a (v .skipped) _ _ (v .inv .6 D u o) (pace-counts _ _ _ _ e) (skips-is a (c .before .before .before .before .before .before .before .before .before .before .before .before .before .before .before .before .before .kept-fixed .ensures .0) (c .before .before .before .before .before .before .fill-status .ensures .0) (c .before .before .before .before .before .kept-status .ensures .0) D u o),
     )
 
 -- where the loops have been left: at the end of the outermost, or by the label, through the four levels
@@ -155,9 +155,9 @@ outcome c D u o =
     let wide = c .before .before .before .before .before .before .before .before .before .statuses-of .ensures .0 D u (o .read) in
     let first =
     first-pick D u _ _ _ _ wide
-    (c .before .before .before .before .before .before .before .width-of .ensures .0 ∙ ap (λ (x : Bool). width x basisCount) (c .before .before .before .before .before .before .before .before .blank-basis .ensures D u (o .read)))
-    (c .before .before .before .before .before .width-of2 .ensures .0 ∙ ap (λ (x : Bool). width x zeroCount) (c .before .before .before .before .before .before .blank-document .ensures D u (o .read)))
-    (c .before .before .before .width-of3 .ensures .0 ∙ ap (λ (x : Bool). width x zeroCount) (c .before .before .before .before .blank-day .ensures D u (o .read))) in
+    (c .before .before .before .before .before .before .before .width-of .ensures .0 ∙ ap (λ (x : Bool). width x basisCount) (c .before .before .before .before .before .before .before .before .blank-basis .ensures .0 D u (o .read)))
+    (c .before .before .before .before .before .width-of2 .ensures .0 ∙ ap (λ (x : Bool). width x zeroCount) (c .before .before .before .before .before .before .blank-document .ensures .0 D u (o .read)))
+    (c .before .before .before .width-of3 .ensures .0 ∙ ap (λ (x : Bool). width x zeroCount) (c .before .before .before .before .blank-day .ensures .0 D u (o .read))) in
     ⊎-elim
     (λ q.
     let z : a ≡ width (blank (textOf u 6)) (statusCount D) = omega (arith, v .inv .0, q .0 .left, wide) in
@@ -165,15 +165,15 @@ outcome c D u o =
     ((λ i. Nothing (q .1 i) ((q .2 ∙ v .inv .6 D u o ∙ ap (λ (k : ℕ). tally (skips D u) (places k 0)) z) i))
     ∙ sym (ap (foundBy (skips D u) (width (blank (textOf u 6)) (statusCount D))) (first ∙ all (v .inv .2 D u o) (q .0 .left) .on []))))
     (λ q.
-    let fixed = c .before .before .before .before .before .before .before .before .before .before .kept-fixed .ensures in
+    let fixed = c .before .before .before .before .before .before .before .before .before .before .kept-fixed .ensures .0 in
     let r = pace-runs _ _ _ _ _ (q .3 .ensures) (q .7 .taken) in
     let ok =
     passes-is _ _ _ _ _ a (q .6 .b) (q .10 .c) (q .14 .d) _ _ _ _ _ fixed
-    (q .1 .ensures) (q .2 .ensures) (q .8 .ensures) (q .9 .ensures) (q .12 .ensures) (q .13 .ensures) (q .16 .ensures) (q .17 .ensures) D u o in
+    (q .1 .ensures .0) (q .2 .ensures .0) (q .8 .ensures .0) (q .9 .ensures .0) (q .12 .ensures .0) (q .13 .ensures .0) (q .16 .ensures .0) (q .17 .ensures .0) D u o in
     let hit4 = hit (q .14 .inv .2 D u o) (q .15 .taken) (one-hit (passesAt D u) (q .14 .count) (a ∷ q .6 .b ∷ q .10 .c ∷ q .14 .d ∷ []) (sym ok ∙ q .18 .taken)) in
     let hit2 = hit (q .6 .inv .2 D u o) (q .7 .taken) (hit (q .10 .inv .2 D u o) (q .11 .taken) hit4) in
     let hit1 = hit (v .inv .2 D u o) (q .0 .taken) (hit-paced (λ (t : List ℕ). a ∷ t) _ _ _ (v .count) _ _ (q .3 .result) (r .1) (r .3) hit2) in
-    let s = tally-more (skips D u) a (v .skipped) _ _ (v .inv .6 D u o) (pace-counts _ _ _ _ (q .3 .ensures)) (skips-is a fixed (q .1 .ensures) (q .2 .ensures) D u o) in
+    let s = tally-more (skips D u) a (v .skipped) _ _ (v .inv .6 D u o) (pace-counts _ _ _ _ (q .3 .ensures)) (skips-is a fixed (q .1 .ensures .0) (q .2 .ensures .0) D u o) in
     rw (q .22) ((λ i. Place (q .19 i) (q .21 i) ((q .20 ∙ s) i)) ∙ sym (ap (foundBy (skips D u) (width (blank (textOf u 6)) (statusCount D))) (first ∙ hit1 .ends []))))
     (c .statuses-test .came)
 

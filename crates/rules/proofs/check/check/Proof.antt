@@ -9,7 +9,7 @@ unfolding verdictAnswer checkTests
 returns-3 c =
     let rule = c .before .before .before in
     let formed = rule .before .before .before .before in
-    let e = first-is _ _ _ _ (formed .before .well-formed .ensures) (formed .if1 .left) (rule .before .facts-of .ensures) _ (rule .broken .ensures) in
+    let e = first-is _ _ _ _ (formed .before .well-formed .ensures) (formed .if1 .left) (rule .before .facts-of .ensures .0) _ (rule .broken .ensures .0) in
     search (checks, check-out 2)
 
 returns-4 : tie.Need-returns-4
@@ -17,8 +17,8 @@ unfolding verdictAnswer checkTests
 returns-4 c =
     let none = c .before .before .before in
     let sized = none .before .before .before .before in
-    let o = facts-read _ _ _ _ (sized .before .well-formed .ensures) (sized .if1 .left) (none .before .facts-of .ensures) in
-    let e = first-is _ _ _ _ (sized .before .well-formed .ensures) (sized .if1 .left) (none .before .facts-of .ensures) _ (none .broken .ensures) in
+    let o = facts-read _ _ _ _ (sized .before .well-formed .ensures) (sized .if1 .left) (none .before .facts-of .ensures .0) in
+    let e = first-is _ _ _ _ (sized .before .well-formed .ensures) (sized .if1 .left) (none .before .facts-of .ensures .0) _ (none .broken .ensures .0) in
     search (checks, check-out 3)
 
 pub check-spec : {M : Type 1} → statement M

@@ -10,7 +10,7 @@ use borrow.Fn.PlainCycle.{Measures, is, falls, and}
 use lib.Dec.{eqb}
 use lib.ListN.{length}
 use Rattle.sheets.specs.Sheet.{sheetSize}
-use Rattle.sheets.proofs.Ways.{facts-is, facts-other}
+use Rattle.sheets.proofs.Ways.{facts-is, facts-other, facts-empty}
 use Rattle.sheets.proofs.facts.empty_facts.Reads as empty-facts
 use Rattle.sheets.proofs.facts.empty_facts.Kinds as empty-facts-kinds
 use Rattle.sheets.proofs.facts.+empty_facts+facts_of.Lts-empty_facts as empty-facts-lts
@@ -62,7 +62,7 @@ pub +empty-facts+facts-of-spec : {M : Type 1} → statement M
     empty-facts-lts.spec (facts-of-below t, facts-of.Post) (empty-facts-at t) empty-facts.Post
     (λ c. search needs)
     (λ c κs. (search (needs, falls-to), tt))
-    (λ c. search needs))
+    (λ c. search (needs, facts-empty)))
     (λ t.
     facts-of-lts.spec (
       empty-facts-below t,
@@ -89,7 +89,7 @@ pub +empty-facts+facts-of-spec : {M : Type 1} → statement M
     (facts-of-at t)
     facts-of.Post
     (λ c κs. (search (needs, falls-once), tt))
-    (λ c. search (needs, facts-other))
+    (λ c. facts-other _ _ _ (c .before .if1 .taken) (c .empty-facts .ensures))
     (λ c κs. search needs)
     (λ c κs. search needs)
     (λ c κs. search needs)
@@ -102,4 +102,9 @@ pub +empty-facts+facts-of-spec : {M : Type 1} → statement M
     (λ c κs. search needs)
     (λ c κs. search needs)
     (λ c κs. search needs)
-    (λ c. search (needs, facts-is)))
+    (λ c.
+    let k = c .before .before .before .before in
+    let f = k .before .before .before .before in
+    facts-is _ _ _ _ _ _ _ _ _ _ _ _ _ _ (f .before .before .before .banking-of .ensures) (f .before .before .parties-of .ensures) (f .before .classifiers-of .ensures)
+    (f .force-of .ensures) (k .before .before .before .text .ensures) (k .before .before .standing-of .ensures) (k .before .text2 .ensures) (k .basis-of .ensures)
+    (c .before .before .before .text3 .ensures) (c .before .before .document-of .ensures) (c .before .text4 .ensures) (c .day-of .ensures) (f .before .before .before .before .if1 .left)))

@@ -11,7 +11,7 @@ unfolding writtenAnswer lineTests checkTests
 returns-3 c =
     let rule = c .before .before .before in
     let formed = rule .before .before .before .before in
-    let e = first-is _ _ _ _ (formed .before .well-formed .ensures) (formed .if1 .left) (rule .before .facts-of .ensures) _ (rule .broken .ensures) in
+    let e = first-is _ _ _ _ (formed .before .well-formed .ensures) (formed .if1 .left) (rule .before .facts-of .ensures .0) _ (rule .broken .ensures .0) in
     search (writing, write-out 2)
 
 returns-4 : tie.Need-returns-4
@@ -19,8 +19,8 @@ unfolding writtenAnswer lineTests checkTests
 returns-4 c =
     let rule = c .before .before .before .before in
     let formed = rule .before .before .before .before in
-    let e = first-is _ _ _ _ (formed .before .well-formed .ensures) (formed .if1 .left) (rule .before .facts-of .ensures) _ (rule .broken .ensures) in
-    let a = c .before .is-class-a .ensures _ _ (facts-read _ _ _ _ (formed .before .well-formed .ensures) (formed .if1 .left) (rule .before .facts-of .ensures)) in
+    let e = first-is _ _ _ _ (formed .before .well-formed .ensures) (formed .if1 .left) (rule .before .facts-of .ensures .0) _ (rule .broken .ensures .0) in
+    let a = c .before .is-class-a .ensures .0 _ _ (facts-read _ _ _ _ (formed .before .well-formed .ensures) (formed .if1 .left) (rule .before .facts-of .ensures .0)) in
     search (writing, write-out 3)
 
 returns-5 : tie.Need-returns-5
@@ -28,24 +28,24 @@ unfolding writtenAnswer lineTests checkTests
 returns-5 c =
     let rule = c .before .before .before .before .before .before in
     let formed = rule .before .before .before .before in
-    let e = first-is _ _ _ _ (formed .before .well-formed .ensures) (formed .if1 .left) (rule .before .facts-of .ensures) _ (rule .broken .ensures) in
-    let a = c .before .before .before .is-class-a .ensures _ _ (facts-read _ _ _ _ (formed .before .well-formed .ensures) (formed .if1 .left) (rule .before .facts-of .ensures)) in
+    let e = first-is _ _ _ _ (formed .before .well-formed .ensures) (formed .if1 .left) (rule .before .facts-of .ensures .0) _ (rule .broken .ensures .0) in
+    let a = c .before .before .before .is-class-a .ensures .0 _ _ (facts-read _ _ _ _ (formed .before .well-formed .ensures) (formed .if1 .left) (rule .before .facts-of .ensures .0)) in
     search (writing, write-out 4)
 
 put-lines-requires : tie.Need-put-lines-requires
 put-lines-requires c κs =
     let rule = c .before .before .before .before .before .before .before in
     let formed = rule .before .before .before .before in
-    let e = first-is _ _ _ _ (formed .before .well-formed .ensures) (formed .if1 .left) (rule .before .facts-of .ensures) _ (rule .broken .ensures) in
-    let a = c .before .before .before .before .is-class-a .ensures _ _ (facts-read _ _ _ _ (formed .before .well-formed .ensures) (formed .if1 .left) (rule .before .facts-of .ensures)) in
+    let e = first-is _ _ _ _ (formed .before .well-formed .ensures) (formed .if1 .left) (rule .before .facts-of .ensures .0) _ (rule .broken .ensures .0) in
+    let a = c .before .before .before .before .is-class-a .ensures .0 _ _ (facts-read _ _ _ _ (formed .before .well-formed .ensures) (formed .if1 .left) (rule .before .facts-of .ensures .0)) in
     room-for _ _ _ e (c .before .before .before .before .before .if3 .left) _ a (c .before .before .before .if4 .left) _ (c .before .before .text .ensures) (formed .before .before .before .before .args .buffer .now) (c .before .if5 .left)
 
 returns-6 : tie.Need-returns-6
 returns-6 c =
     let rule = c .before .before .before .before .before .before .before .before .before .before in
     let formed = rule .before .before .before .before in
-    let e = first-is _ _ _ _ (formed .before .well-formed .ensures) (formed .if1 .left) (rule .before .facts-of .ensures) _ (rule .broken .ensures) in
-    let a = c .before .before .before .before .before .before .before .is-class-a .ensures _ _ (facts-read _ _ _ _ (formed .before .well-formed .ensures) (formed .if1 .left) (rule .before .facts-of .ensures)) in
+    let e = first-is _ _ _ _ (formed .before .well-formed .ensures) (formed .if1 .left) (rule .before .facts-of .ensures .0) _ (rule .broken .ensures .0) in
+    let a = c .before .before .before .before .before .before .before .is-class-a .ensures .0 _ _ (facts-read _ _ _ _ (formed .before .well-formed .ensures) (formed .if1 .left) (rule .before .facts-of .ensures .0)) in
     let s = c .before .before .before .before .before .before .before .before in
     write-whole _ _ _ e (s .if3 .left) _ a (c .before .before .before .before .before .before .if4 .left) _ (c .before .before .before .before .before .text .ensures) _ _ _ (formed .before .well-formed .ensures) (formed .if1 .left) (rule .before .before .before .are-fit .ensures) (rule .before .before .if2 .left) (c .before .before .before .before .if5 .left) _ _ (c .before .before .put-lines .ensures)
 

@@ -6,6 +6,8 @@ use compare::{Library, Reference};
 use kieselbrot::{Completed, Quickened, Refusal};
 use reference::{read, report};
 
+use crate::{amounts, drafts};
+
 /// What an example asks for.
 #[derive(Clone, Copy, Debug, PartialEq, Eq)]
 pub enum Kind {
@@ -28,6 +30,26 @@ pub enum Kind {
     ReadLines,
     /// Read a message.
     Message,
+    /// Make a buffer a fresh draft.
+    Fresh,
+    /// Post a message to the draft before it.
+    Post,
+    /// Copy a draft to the sheet behind it.
+    Copy,
+    /// Write a message.
+    Write,
+    /// Test a draft ahead of completion.
+    Pretest,
+    /// The bank's charge.
+    Charge,
+    /// The part of a year.
+    Part,
+    /// Shares of a year.
+    Shares,
+    /// Pool a register.
+    Pool,
+    /// Which payments leave.
+    Leave,
     /// Report on an input of the program `budgetorder`.
     Report,
 }
@@ -44,6 +66,16 @@ impl Kind {
             Self::WriteShortAt => b's',
             Self::ReadLines => b'l',
             Self::Message => b'm',
+            Self::Fresh => b'f',
+            Self::Post => b'p',
+            Self::Copy => b'y',
+            Self::Write => b'v',
+            Self::Pretest => b'e',
+            Self::Charge => b'g',
+            Self::Part => b'a',
+            Self::Shares => b'h',
+            Self::Pool => b'n',
+            Self::Leave => b'x',
             Self::Report => b'r',
         }
     }
@@ -80,6 +112,16 @@ impl Kind {
             }
             Self::ReadLines => line(lines_read(bytes)),
             Self::Message => line(message_read(bytes)),
+            Self::Fresh => line(drafts::fresh_made(bytes)),
+            Self::Post => line(drafts::posted(bytes)),
+            Self::Copy => line(drafts::copied(bytes)),
+            Self::Write => line(drafts::written(bytes)),
+            Self::Pretest => line(drafts::pretested(bytes)),
+            Self::Charge => line(amounts::charged(bytes)),
+            Self::Part => line(amounts::parted(bytes)),
+            Self::Shares => line(amounts::shared(bytes)),
+            Self::Pool => line(amounts::pooled(bytes)),
+            Self::Leave => line(amounts::left(bytes)),
             Self::Report => report(bytes),
         }
     }
@@ -164,16 +206,19 @@ fn lines_written(sheet: &[u8], dates: Dates, size: usize) -> Vec<u8> {
 fn lines_read(block: &[u8]) -> Vec<u8> {
     let mut sheet: Sheet = [255; 390];
     match Reference.read_lines(block, &mut sheet) {
-        Ok(()) => {
-            let mut line = b"ok".to_vec();
-            for slot in sheet.chunks_exact(26) {
-                line.push(b' ');
-                line.extend(shown(&slot[1..][..usize::from(slot[0])]));
-            }
-            line
-        }
+        Ok(()) => [&b"ok"[..], &sheet_shown(&sheet)].concat(),
         Err(refusal) => refusal.to_string().into_bytes(),
     }
+}
+
+/// The fifteen texts of a sheet, a space before each.
+pub fn sheet_shown(sheet: &[u8]) -> Vec<u8> {
+    let mut texts = Vec::new();
+    for slot in sheet.chunks_exact(26) {
+        texts.push(b' ');
+        texts.extend(shown(&slot[1..][..usize::from(slot[0])]));
+    }
+    texts
 }
 
 /// The line of a completion, by the sheet afterwards.
@@ -209,7 +254,7 @@ fn posted(mut messages: &[u8]) -> Draft {
 }
 
 /// A text, with `-` for a blank.
-fn shown(text: &[u8]) -> &[u8] {
+pub fn shown(text: &[u8]) -> &[u8] {
     match text {
         [] => b"-",
         given => given,
@@ -299,6 +344,20 @@ mod tests {
         assert_eq!(letter(Kind::WriteLinesAt), [b'w', 0, 0]);
         assert_eq!(letter(Kind::WriteShortAt), [b's', 0, 0]);
         assert_eq!(letter(Kind::ReadLines), [b'l', 0, 0]);
+        for (kind, byte) in [
+            (Kind::Fresh, b'f'),
+            (Kind::Post, b'p'),
+            (Kind::Copy, b'y'),
+            (Kind::Write, b'v'),
+            (Kind::Pretest, b'e'),
+            (Kind::Charge, b'g'),
+            (Kind::Part, b'a'),
+            (Kind::Shares, b'h'),
+            (Kind::Pool, b'n'),
+            (Kind::Leave, b'x'),
+        ] {
+            assert_eq!(letter(kind), [byte, 0, 0]);
+        }
     }
 
     #[test]

@@ -3,14 +3,16 @@
 //! `write DIR` writes DIR/stdin and DIR/stdout, `check DIR` compares them with
 //! what they should be. Each case of the input is one kind byte, a two-byte
 //! big-endian length and that many bytes; its output, one line, the lines of a
-//! report or MT103 lines, comes from the second implementation.
+//! report, MT103 lines or pooled lines, comes from the second implementation.
 
 use std::env;
 use std::fs;
 use std::path::Path;
 use std::process::ExitCode;
 
+mod amounts;
 mod dates;
+mod drafts;
 mod example;
 mod lines;
 mod messages;
@@ -50,6 +52,8 @@ fn all() -> Vec<Example> {
         take_up::all(),
         lines::all(),
         parties::all(),
+        drafts::all(),
+        amounts::all(),
     ]
     .concat()
 }
