@@ -6,14 +6,14 @@ use crate::amount::{Kopecks, MOST_KOPECKS, is_amount};
 use texts::answers::Refusal;
 
 // In hundredths of a percent.
-#[derive(Drop)]
+#[derive(Clone, Copy)]
 pub struct Rate(pub u64);
 
 // "a rate of 0 to 10,000 hundredths of a percent"
 const MOST_RATE: u64 = 10_000;
 
 // The charge, or 14.
-#[derive(Drop)]
+#[derive(Clone, Copy)]
 pub enum Charged {
     Made(Kopecks),
     Refused(Refusal),

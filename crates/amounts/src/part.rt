@@ -5,15 +5,15 @@ ghost use Rattle.amounts.specs.Part.{is_year, partable, quotient_of, remainder_o
 use crate::amount::{Kopecks, is_amount};
 use texts::answers::Refusal;
 
-#[derive(Drop)]
+#[derive(Clone, Copy)]
 pub struct Days(pub u32);
 
 // What is left of a kopeck, in parts of which the year's length makes one.
-#[derive(Drop)]
+#[derive(Clone, Copy)]
 pub struct Remainder(pub u32);
 
 // The whole kopecks and the remainder, or 15.
-#[derive(Drop)]
+#[derive(Clone, Copy)]
 pub enum Parted {
     Made(Kopecks, Remainder),
     Refused(Refusal),

@@ -12,7 +12,7 @@ use texts::answers::Refusal;
 pub const PLACES: usize = 12;
 
 // The shares are in the places, or 15.
-#[derive(Drop)]
+#[derive(Clone, Copy)]
 pub enum Shared {
     Made,
     Refused(Refusal),

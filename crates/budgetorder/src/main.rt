@@ -1,4 +1,6 @@
 // Reads messages from standard input and writes the report (document 01, "Writer and program"). Assumes the contracts of libc's read and write.
+#![tactic(auto)]
+
 use libc::{STDERR_FILENO, STDIN_FILENO, STDOUT_FILENO};
 use report::{INPUT_SIZE, REPORT_SIZE, report};
 use texts::parts::part;

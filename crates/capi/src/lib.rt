@@ -1,4 +1,6 @@
 // The library for C and for what links like C. Each function forwards to a proved one, and gives document 01's numbers.
+#![tactic(auto)]
+
 ghost use Rattle.capi.specs.Promises.{CheckReturns, ReadReturns, WriteReturns, FreshReturns, PostReturns, CopyReturns, CompleteReturns, TakeUpReturns, PretestReturns, ChargeReturns, PartReturns, SharesReturns, PoolReturns, LeaveReturns, WriteLinesReturns, ReadLinesReturns};
 ghost use Rattle.capi.specs.AllBroken.{BrokenRulesReturns};
 ghost use Rattle.capi.specs.Origins.{OriginsReturns};
@@ -30,7 +32,7 @@ use swift::read::LinesRead;
 use swift::write::LinesWritten;
 
 #[repr(C)]
-#[derive(Drop)]
+#[derive(Clone, Copy)]
 pub struct Check {
     pub number: u8,
     pub field: u8,
@@ -39,14 +41,14 @@ pub struct Check {
 }
 
 #[repr(C)]
-#[derive(Drop)]
+#[derive(Clone, Copy)]
 pub struct AllBroken {
     pub number: u8,
     pub rules: u64,
 }
 
 #[repr(C)]
-#[derive(Drop)]
+#[derive(Clone, Copy)]
 pub struct Read {
     pub number: u8,
     pub version: u8,
@@ -58,21 +60,21 @@ pub struct Read {
 }
 
 #[repr(C)]
-#[derive(Drop)]
+#[derive(Clone, Copy)]
 pub struct Write {
     pub number: u8,
     pub length: usize,
 }
 
 #[repr(C)]
-#[derive(Drop)]
+#[derive(Clone, Copy)]
 pub struct Post {
     pub number: u8,
     pub standing: u8,
 }
 
 #[repr(C)]
-#[derive(Drop)]
+#[derive(Clone, Copy)]
 pub struct Complete {
     pub number: u8,
     pub field: u8,
@@ -84,7 +86,7 @@ pub struct Complete {
 }
 
 #[repr(C)]
-#[derive(Drop)]
+#[derive(Clone, Copy)]
 pub struct Lines {
     pub number: u8,
     pub field: u8,
@@ -93,14 +95,14 @@ pub struct Lines {
 }
 
 #[repr(C)]
-#[derive(Drop)]
+#[derive(Clone, Copy)]
 pub struct TakeUp {
     pub number: u8,
     pub field: u8,
 }
 
 #[repr(C)]
-#[derive(Drop)]
+#[derive(Clone, Copy)]
 pub struct Pretest {
     pub number: u8,
     pub field: u8,
@@ -108,7 +110,7 @@ pub struct Pretest {
 }
 
 #[repr(C)]
-#[derive(Drop)]
+#[derive(Clone, Copy)]
 pub struct Entry {
     pub number: u8,
     pub length: u8,
@@ -117,14 +119,14 @@ pub struct Entry {
 }
 
 #[repr(C)]
-#[derive(Drop)]
+#[derive(Clone, Copy)]
 pub struct Charge {
     pub number: u8,
     pub kopecks: u64,
 }
 
 #[repr(C)]
-#[derive(Drop)]
+#[derive(Clone, Copy)]
 pub struct Part {
     pub number: u8,
     pub remainder: u32,
@@ -132,7 +134,7 @@ pub struct Part {
 }
 
 #[repr(C)]
-#[derive(Drop)]
+#[derive(Clone, Copy)]
 pub struct Pool {
     pub number: u8,
     pub lines: usize,
@@ -140,7 +142,7 @@ pub struct Pool {
 }
 
 #[repr(C)]
-#[derive(Drop)]
+#[derive(Clone, Copy)]
 pub struct Leave {
     pub number: u8,
     pub paid: usize,
@@ -149,7 +151,7 @@ pub struct Leave {
 }
 
 #[repr(C)]
-#[derive(Drop)]
+#[derive(Clone, Copy)]
 pub struct LibraryVersion {
     pub major: u32,
     pub minor: u32,
@@ -158,7 +160,7 @@ pub struct LibraryVersion {
 
 // The record of three dates (R-7).
 #[repr(C)]
-#[derive(Drop)]
+#[derive(Clone, Copy)]
 pub struct Record {
     pub first32: u32,
     pub first33: u32,

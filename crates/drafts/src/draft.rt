@@ -30,13 +30,13 @@ const FIRST_CELL: u8 = CELL_PLACE as u8;
 
 const SLOT_STEP: u8 = SLOT_SIZE as u8;
 
-#[derive(Drop)]
+#[derive(Clone, Copy)]
 pub enum Begun {
     Made,
     Refused(Refusal),
 }
 
-#[derive(Drop)]
+#[derive(Clone, Copy)]
 pub enum Posted {
     Newer,
     Same,
@@ -44,7 +44,7 @@ pub enum Posted {
     Refused(Refusal),
 }
 
-#[derive(Drop)]
+#[derive(Clone, Copy)]
 pub enum Copied {
     Made,
     Refused(Refusal),

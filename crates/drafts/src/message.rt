@@ -35,7 +35,7 @@ const LEAST_L: usize = FIRST_BODY + TEXT_PLACE - 2;
 const MOST_L: usize = HEAD_MOST - 2 + TEXT_MAX;
 
 // The version of a message.
-#[derive(Drop)]
+#[derive(Clone, Copy)]
 pub struct Version(pub u8);
 
 impl Version {
@@ -81,13 +81,13 @@ impl Version {
     }
 }
 
-#[derive(Drop)]
+#[derive(Clone, Copy)]
 pub enum Reading {
     Message(Version, Field, Revision),
     Refused(Refusal),
 }
 
-#[derive(Drop)]
+#[derive(Clone, Copy)]
 pub enum Written {
     Bytes(usize),
     Refused(Refusal),

@@ -7,7 +7,7 @@ pub const CLIENT: u8 = 1;
 pub const ADVISER: u8 = 2;
 
 // The party that gave a revision: the client or the adviser; 0 in a slot that none was given.
-#[derive(Drop)]
+#[derive(Clone, Copy)]
 pub struct Party(pub u8);
 
 impl Party {
@@ -19,14 +19,14 @@ impl Party {
 }
 
 // The revision that a message gives its field, or that a slot holds, with the party that gave it; 0 in a slot that none was given.
-#[derive(Drop)]
+#[derive(Clone, Copy)]
 pub struct Revision {
     pub number: u32,
     pub party: Party,
 }
 
 // How a message stands to what its slot holds.
-#[derive(Drop)]
+#[derive(Clone, Copy)]
 pub enum Comparison {
     Newer,
     Same,

@@ -1,5 +1,7 @@
 // Runs the cases of its input and writes what each answers: document 01's examples and boundary cases, with what a second
 // implementation answers as the expected output. A case: its kind in one byte, a length in two, big-endian, and so many bytes.
+#![tactic(auto)]
+
 use amounts::amount::Kopecks;
 use amounts::charge::{Charged, Rate, charge};
 use amounts::part::{Days, Parted};

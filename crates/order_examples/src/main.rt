@@ -1,6 +1,8 @@
 // Runs the cases of its input and writes what each answers: orders completed, taken up and tested ahead, lists, origins, and whole reports,
 // with what a second implementation answers as the expected output. A case is as in `examples`.
 // Assumes the contracts of libc's read and write.
+#![tactic(auto)]
+
 use drafts::draft::fresh;
 use libc::{STDIN_FILENO, STDOUT_FILENO};
 use orders::complete::Completed;

@@ -8,7 +8,7 @@ use sheets::sheet::Field;
 use texts::answers::Refusal;
 
 // The first filling with its count, the set of filled slots and how many bits are set; 10 with the count of all; 8; 1, 7, 12 or 9.
-#[derive(Drop)]
+#[derive(Clone, Copy)]
 pub enum Completed {
     Filled { count: usize, set: u16, ones: u32 },
     Impossible(usize),

@@ -12,7 +12,7 @@ use texts::answers::Refusal;
 use texts::parts::{at, wide};
 
 // The entry's length and its bytes; the second is 0 where there is none.
-#[derive(Drop)]
+#[derive(Clone, Copy)]
 pub struct Row {
     pub length: u8,
     pub first: u8,
@@ -20,7 +20,7 @@ pub struct Row {
 }
 
 // The entry; none at this place, or no list; 12 or 4.
-#[derive(Drop)]
+#[derive(Clone, Copy)]
 pub enum Listed {
     Entry(Row),
     Nothing,

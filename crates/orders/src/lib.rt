@@ -1,3 +1,5 @@
+#![tactic(auto)]
+
 pub mod complete;
 pub mod entry;
 pub mod fill;

@@ -12,7 +12,7 @@ use texts::parts::{part, wide};
 pub const PLACES: usize = 15;
 
 // For each slot the message that wins it: its revision and party as one number, and its number in the list; 0 and 0 where none names its field.
-#[derive(Drop)]
+#[derive(Clone, Copy)]
 struct Winners {
     ranks: [u64; PLACES],
     numbers: [u64; PLACES],

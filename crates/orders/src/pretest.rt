@@ -14,7 +14,7 @@ use sheets::sheet::{Field, SHEET_SIZE};
 use texts::answers::Refusal;
 
 // The first of its rules that all fillings break, with its field; none; 8; 1 or 9.
-#[derive(Drop)]
+#[derive(Clone, Copy)]
 pub enum Pretested {
     Named(Field, RuleNumber),
     Unnamed,

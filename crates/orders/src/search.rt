@@ -26,7 +26,7 @@ fn width_of(blank: bool, listed: usize) -> usize
 }
 
 // Places in the lists of 101, 106, 108 and 109.
-#[derive(Drop)]
+#[derive(Clone, Copy)]
 pub struct Pick {
     pub status: usize,
     pub basis: usize,
@@ -36,14 +36,14 @@ pub struct Pick {
 
 // The count of fillings up to and including the first that keeps the rules, where its entries stand, and how many statuses up to its own
 // were skipped; or the count of all, and how many of all were skipped.
-#[derive(Drop)]
+#[derive(Clone, Copy)]
 pub enum Found {
     Place(usize, Pick, usize),
     Nothing(usize, usize),
 }
 
 // What a status comes to: how many entries of 106 are gone through, and how many fillings and statuses are passed over.
-#[derive(Drop)]
+#[derive(Clone, Copy)]
 struct Pace {
     bases: usize,
     fillings: usize,

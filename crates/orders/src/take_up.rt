@@ -24,7 +24,7 @@ const PLACES: u8 = SLOT_COUNT + 1;
 const LISTED: [u8; 15] = [0, 0, 0, 1, 1, 0, 1, 1, 0, 1, 1, 1, 1, 1, 1];
 
 // The values are posted; 20 with the field of a slot that can't take up its value; 1 or 7.
-#[derive(Drop)]
+#[derive(Clone, Copy)]
 pub enum TakenUp {
     Made,
     Unfit(Field),

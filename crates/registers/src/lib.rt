@@ -1,3 +1,5 @@
 // A register of persons pooled by INN (R-12). The public function takes any arguments.
+#![tactic(auto)]
+
 mod lines;
 pub mod pool;

@@ -15,7 +15,7 @@ use texts::numbers::bytes_of_8;
 use texts::parts::part;
 
 // How many pooled lines there are; 17 with the signed difference register minus order; 7 or 16.
-#[derive(Drop)]
+#[derive(Clone, Copy)]
 pub enum Pooled {
     Made(usize),
     Differs(i64),

@@ -1,4 +1,6 @@
 // What the program budgetorder writes (document 01, "Writer and program"): every byte of it is proved.
+#![tactic(auto)]
+
 ghost use Rattle.report.specs.Promises.{Reports};
 
 mod end;

@@ -7,7 +7,7 @@ use texts::buffers::put;
 use texts::parts::part;
 
 // A number in decimal: its digits stand from place `from` on.
-#[derive(Drop)]
+#[derive(Clone, Copy)]
 pub(crate) struct Decimal {
     pub digits: [u8; 20],
     pub from: usize,

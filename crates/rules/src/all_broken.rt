@@ -18,7 +18,7 @@ use sheets::sheet::well_formed;
 use texts::answers::Refusal;
 
 // The set, which is empty where the sheet would be accepted; 1 or 12.
-#[derive(Drop)]
+#[derive(Clone, Copy)]
 pub enum BrokenRules {
     Set(u64),
     Refused(Refusal),

@@ -19,7 +19,7 @@ use sheets::sheet::{Field, well_formed};
 use texts::parts::wide;
 
 // What checking a sheet answers: 1, 12, 8 with field and rule, or acceptance with the class.
-#[derive(Drop)]
+#[derive(Clone, Copy)]
 pub enum Verdict {
     Malformed,
     Undated,

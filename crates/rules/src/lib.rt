@@ -1,4 +1,6 @@
 // The rules of budget payment orders, over sheets (document 01, "Rules", and R-1).
+#![tactic(auto)]
+
 pub mod all_broken;
 pub mod check;
 pub mod class;

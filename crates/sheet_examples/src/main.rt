@@ -1,6 +1,8 @@
 // Runs the cases of its input and writes what each answers: sheets, messages, drafts, lines and amounts, with what a second
 // implementation answers as the expected output. A case: its kind in one byte, a length in two, big-endian, and so many bytes.
 // Assumes the contracts of libc's read and write.
+#![tactic(auto)]
+
 use amounts::amount::Kopecks;
 use amounts::charge::{Charged, Rate, charge};
 use amounts::part::{Days, Parted};

@@ -5,11 +5,11 @@ ghost use Rattle.sheets.specs.Dates.{day_number, dates_fit, force_of, program_da
 use crate::forms::is_gregorian;
 
 // A date as a number YYYYMMDD.
-#[derive(Drop)]
+#[derive(Clone, Copy)]
 pub struct Date(pub u32);
 
 // The order's date; and the record: the first for status 32, the first for 33, the last for 02.
-#[derive(Drop)]
+#[derive(Clone, Copy)]
 pub struct Dates {
     pub order: Date,
     pub first32: Date,
@@ -18,7 +18,7 @@ pub struct Dates {
 }
 
 // Whether the date allows 02, 32, 33.
-#[derive(Drop)]
+#[derive(Clone, Copy)]
 pub struct Force {
     pub s02: bool,
     pub s32: bool,

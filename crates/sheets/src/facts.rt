@@ -20,7 +20,7 @@ use texts::digits::{number_2, number_3, number_5};
 use texts::parts::part;
 
 // 14, 15 and 17 have their forms (rules 1 to 3).
-#[derive(Drop)]
+#[derive(Clone, Copy)]
 pub struct General {
     pub bik: bool,
     pub bank: bool,
@@ -28,7 +28,7 @@ pub struct General {
 }
 
 // Class A, class B; and of 17: the rouble's code 643 at its place, begins 03100, begins 03212.
-#[derive(Drop)]
+#[derive(Clone, Copy)]
 pub struct Account {
     pub a: bool,
     pub b: bool,
@@ -38,7 +38,7 @@ pub struct Account {
 }
 
 // 22: "0", a UIN, four digits not all zero.
-#[derive(Drop)]
+#[derive(Clone, Copy)]
 pub struct Code {
     pub zero: bool,
     pub uin: bool,
@@ -46,7 +46,7 @@ pub struct Code {
 }
 
 // 60: "0", a foreign code, an INN; and its digits.
-#[derive(Drop)]
+#[derive(Clone, Copy)]
 pub struct Payer {
     pub zero: bool,
     pub foreign: bool,
@@ -58,14 +58,14 @@ pub struct Payer {
 }
 
 // A field that is "0" or has its full form.
-#[derive(Drop)]
+#[derive(Clone, Copy)]
 pub struct Form {
     pub zero: bool,
     pub full: bool,
 }
 
 // The groups of statuses that rules name: the customs group, those of rule 19, 31 and 33, those of rule 25, and single ones.
-#[derive(Drop)]
+#[derive(Clone, Copy)]
 pub struct Groups {
     pub customs: bool,
     pub treasury: bool,
@@ -77,7 +77,7 @@ pub struct Groups {
 }
 
 // 101: blank, in rule 10's list, its groups, and the form of 60 that it wants.
-#[derive(Drop)]
+#[derive(Clone, Copy)]
 pub struct Standing {
     pub blank: bool,
     pub listed: bool,
@@ -86,7 +86,7 @@ pub struct Standing {
 }
 
 // 106: blank, "0", "00", a letter pair.
-#[derive(Drop)]
+#[derive(Clone, Copy)]
 pub struct Basis {
     pub blank: bool,
     pub zero: bool,
@@ -95,7 +95,7 @@ pub struct Basis {
 }
 
 // 108: blank, as rule 17 has it, a person identifier, as rule 35 has it, "0", "00".
-#[derive(Drop)]
+#[derive(Clone, Copy)]
 pub struct Document {
     pub blank: bool,
     pub fit: bool,
@@ -106,7 +106,7 @@ pub struct Document {
 }
 
 // 109: blank, "0", "00", a date.
-#[derive(Drop)]
+#[derive(Clone, Copy)]
 pub struct Day {
     pub blank: bool,
     pub zero: bool,
@@ -115,7 +115,7 @@ pub struct Day {
 }
 
 // 14, 15 and 17; and none of 22, 60, 61, 102 to 105, 107 is blank.
-#[derive(Drop)]
+#[derive(Clone, Copy)]
 pub struct Banking {
     pub general: General,
     pub account: Account,
@@ -123,7 +123,7 @@ pub struct Banking {
 }
 
 // 22, 60, 61, 102, 103.
-#[derive(Drop)]
+#[derive(Clone, Copy)]
 pub struct Parties {
     pub code: Code,
     pub payer: Payer,
@@ -133,7 +133,7 @@ pub struct Parties {
 }
 
 // 104, 105, 107.
-#[derive(Drop)]
+#[derive(Clone, Copy)]
 pub struct Classifiers {
     pub kbk: Form,
     pub oktmo: Form,
@@ -141,7 +141,7 @@ pub struct Classifiers {
 }
 
 // The last four are those that a filling can vary; the dates' part in it is what they allow.
-#[derive(Drop)]
+#[derive(Clone, Copy)]
 pub struct Facts {
     pub banking: Banking,
     pub parties: Parties,

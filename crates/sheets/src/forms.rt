@@ -12,11 +12,11 @@ use texts::digits::{
 use texts::parts::{at, part, wide};
 
 // The number of a status.
-#[derive(Drop)]
+#[derive(Clone, Copy)]
 pub struct Status(pub u8);
 
 // The form of 60 that a status wants (rule 23).
-#[derive(Drop)]
+#[derive(Clone, Copy)]
 pub enum Wanted {
     Any,
     Inn,

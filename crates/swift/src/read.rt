@@ -18,7 +18,7 @@ use texts::comparisons::equals;
 use texts::parts::{part, wide};
 
 // What reading answers.
-#[derive(Drop)]
+#[derive(Clone, Copy)]
 pub enum LinesRead {
     Filled,
     Refused(Refusal),

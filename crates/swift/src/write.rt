@@ -16,7 +16,7 @@ use texts::answers::Refusal;
 use texts::buffers::put;
 
 // What writing answers: how long the lines are; 8 with field and rule; another refusal.
-#[derive(Drop)]
+#[derive(Clone, Copy)]
 pub enum LinesWritten {
     Lines(usize),
     Broken(Field, RuleNumber),

@@ -1,5 +1,5 @@
 // Answers other than success.
 
 // The number of a refusal, in the table "Answers other than success".
-#[derive(Drop)]
+#[derive(Clone, Copy)]
 pub struct Refusal(pub u8);

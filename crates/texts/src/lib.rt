@@ -1,5 +1,7 @@
 // What every crate above uses: tests on byte texts, digits and big-endian numbers, writing into a lent buffer, the number of a refusal. Each public
 // function takes any arguments.
+#![tactic(auto)]
+
 pub mod answers;
 pub mod buffers;
 pub mod comparisons;

@@ -1,0 +1,6 @@
+use Rattle.sheets.specs.Forms.{leap}
+use Rattle.sheets.proofs.forms.is_leap.Goals as goal
+
+pub returns : goal.returns
+unfolding leap
+returns c = cc

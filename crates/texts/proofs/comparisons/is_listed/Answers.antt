@@ -1,0 +1,31 @@
+use Rattle.texts.proofs.Loops.{loops}
+use Rattle.texts.specs.Texts.{among}
+use Rattle.texts.proofs.comparisons.is_listed.Goals as goal
+
+pub loop-i-init : goal.loop-i-init
+unfolding among
+loop-i-init c = search loops
+
+pub offset_bounds-l-i : goal.offset_bounds-l-i
+unfolding among
+offset_bounds-l-i c = search loops
+
+pub bounds-l-i : goal.bounds-l-i
+unfolding among
+bounds-l-i c = search loops
+
+pub overflow_add-i : goal.overflow_add-i
+unfolding among
+overflow_add-i c = search loops
+
+pub loop-i-smaller : goal.loop-i-smaller
+unfolding among
+loop-i-smaller c = search loops
+
+pub loop-i-preserved : goal.loop-i-preserved
+unfolding among
+loop-i-preserved c = search loops
+
+pub returns : goal.returns
+unfolding among
+returns c = search loops

@@ -1,6 +1,0 @@
-use Rattle.texts.proofs.Numerals.{numerals}
-use Rattle.texts.proofs.digits.number_4.Statement.{statement}
-use Rattle.texts.proofs.digits.number_4.Tie as tie
-
-pub number-4-spec : {M : Type 1} → statement M
-number-4-spec = tie.close (tie.spec (λ c κs. search numerals) (λ c. search numerals) (λ c κs. search numerals) (λ c. search numerals))
