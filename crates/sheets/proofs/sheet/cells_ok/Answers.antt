@@ -1,9 +1,9 @@
 use Prim.Native.Nat.{◌-◌}
 use mathlib.Core.Path.{sym, ◌∙◌}
-use mathlib.Core.Logic.{⊎_elim}
 use native.Mathlib.Omega.{arith}
 use Rattle.sheets.proofs.Cells.{cell-inside, cell-past, cells-good, cells-bad, cells}
 use Rattle.sheets.proofs.sheet.cells_ok.Goals as goal
+use Rattle.sheets.proofs.sheet.cells_ok.Goals.{then-place-t+then-cell_ok, then-place-t+else-cell_ok, else-place-t}
 
 pub wide-place-requires : goal.wide-place-requires
 wide-place-requires c = search cells
@@ -46,15 +46,14 @@ loop-slot-smaller c = search cells
 
 pub loop-slot-preserved : goal.loop-slot-preserved
 loop-slot-preserved c =
-    let l = c.loop-slot in
-    let i = l.invariant in
+    let i = c.loop-slot.invariant in
     let runs = c.loop-slot-test.true in
-    ⊎_elim
-    (λ w. rw w.4 (omega arith, omega arith, cells-good _ _ _ _ _ _ _ i.2 runs c.wide-place-in-loop-slot.ensures (sym w.3.taken ∙ cell-inside _ _ _ w.0.taken w.2.ensures), omega (arith, c.wide-place-in-loop-slot.ensures)))
-    (⊎_elim
-    (λ w. rw w.4 (omega arith, omega arith, cells-bad _ _ _ _ _ _ _ i.2 runs c.wide-place-in-loop-slot.ensures i.1 (sym w.3.left ∙ cell-inside _ _ _ w.0.taken w.2.ensures), omega (arith, c.wide-place-in-loop-slot.ensures)))
-    (λ w. rw w.1 (omega arith, omega arith, cells-bad _ _ _ _ _ _ _ i.2 runs c.wide-place-in-loop-slot.ensures i.1 (cell-past _ _ w.0.left), omega (arith, c.wide-place-in-loop-slot.ensures))))
-    c.if-place-t.branch
+    let step = c.wide-place-in-loop-slot.ensures in
+    elim c.if-place-t.branch [
+      then-place-t+then-cell_ok w ↦ rw w.good-is (omega arith, omega arith, cells-good _ _ _ _ _ _ _ i.2 runs step (sym w.if-cell_ok.true ∙ cell-inside _ _ _ w.if-place-t.true w.cell_ok.ensures), omega (arith, step))
+    | then-place-t+else-cell_ok w ↦ rw w.good-is (omega arith, omega arith, cells-bad _ _ _ _ _ _ _ i.2 runs step i.1 (sym w.if-cell_ok.false ∙ cell-inside _ _ _ w.if-place-t.true w.cell_ok.ensures), omega (arith, step))
+    | else-place-t w ↦ rw w.good-is (omega arith, omega arith, cells-bad _ _ _ _ _ _ _ i.2 runs step i.1 (cell-past _ _ w.if-place-t.false), omega (arith, step))
+    ]
 
 pub returns : goal.returns
 returns c = search cells
