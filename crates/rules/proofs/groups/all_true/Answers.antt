@@ -1,0 +1,10 @@
+use Prim.Native.Nat.{◌-◌}
+use borrow.Author.Rules.{rules}
+use Rattle.rules.proofs.First.{true-more, true-all}
+use Rattle.rules.proofs.groups.all_true.Goals as goal
+
+pub loop-i-preserved : goal.loop-i-preserved
+loop-i-preserved c = search (rules, true-more)
+
+pub returns : goal.returns
+returns c = search (rules, true-all)

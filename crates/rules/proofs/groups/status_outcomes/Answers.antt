@@ -1,0 +1,6 @@
+use Rattle.rules.specs.Working.Tests.{holds}
+use Rattle.rules.proofs.groups.status_outcomes.Goals as goal
+
+pub returns : goal.returns
+unfolding holds
+returns c = cc
