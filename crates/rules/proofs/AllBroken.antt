@@ -8,7 +8,7 @@ use native.Mathlib.Nat.{mul_comm, mul_assoc, mul_right_comm, add-mul, zero-mul, 
 use native.Mathlib.Numerals.{add-one}
 use native.Mathlib.Omega.{arith}
 use borrow.Author.Tests.{eqb-true}
-use borrow.Author.Rules.{rules}
+use borrow.Author.Rules.{rules as goal_rules}
 use lib.Dec.{eqb}
 use lib.ListN.{length, get_or, drop, length-drop, drop_of_length-le}
 use lib.Pow.{pow_mono}
@@ -92,7 +92,7 @@ module _ (os : List Bool) (i n : ℕ) (p : 0 < i) (l : i ≤ length os) (e : n �
       let j : i ≡ i - 1 + 1 = omega arith in
       (λ t. e t * 2 + q t) ∙ ap (λ (k : ℕ). failed_bits (drop k os) * 2 + failed_bit (get_or os (i - 1) false)) j ∙ sym (bits-step os (i - 1) h)
 
-pub ruleset bitting = (rules, bits-start, bits-all)
+pub ruleset bitting = (goal_rules, bits-start, bits-all)
 
 -- ---- the set
 
