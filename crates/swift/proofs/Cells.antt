@@ -1,11 +1,11 @@
 -- Sheets made of cells: their texts, and a cell put in.
 use mathlib.Core.Path.{◌≡◌, refl, sym, ap, ◌∙◌}
-use mathlib.Core.Bool.{Bool, true}
+use mathlib.Core.Bool.{true}
 use mathlib.Core.List.{List, [], ◌∷◌, ◌++◌, append_assoc}
 use Prim.Native.Nat.{ℕ, zero, suc, ◌+◌, ◌-◌, ◌*◌, ◌<◌, ◌≤◌}
 use native.Mathlib.Omega.{arith}
 use borrow.Author.Tests.{leb-true, le-leb}
-use lib.ListN.{length, get_or, take, drop, set, replicate, length-append, length-take, length-set, length-replicate}
+use lib.ListN.{length, get_or, take, drop, set, replicate, length-append, length-take, length-set}
 use lib.Seq.{take_at, drop_at, drop-nil, drop-cons, take-append-add, drop-append-add}
 use Rattle.texts.specs.Quoted.{Text}
 use Rattle.texts.specs.Texts.{every, between}
@@ -13,10 +13,10 @@ use Rattle.texts.specs.Buffers.{put}
 use Rattle.texts.specs.Working.Writing.{put_at}
 use Rattle.texts.proofs.Bools.{both, and2}
 use Rattle.texts.proofs.Puts.{put-fits, put_next, put-zeros}
-use Rattle.sheets.specs.Sheet.{Sheet, slot_count, text_max, short, cell_size, sheet_size, cell, cells, cell_text, cell_of, text_of}
+use Rattle.sheets.specs.Sheet.{slot_count, text_max, short, cell_size, sheet_size, cell, cells, cell_text, text_of}
 use Rattle.sheets.proofs.Frames.{text-cell, length-cell, cell-part}
 use Rattle.sheets.proofs.InForce.{entry_in}
-use Rattle.swift.specs.Lines.{Seven, slot_texts, sheet_with, parts_of}
+use Rattle.swift.specs.Lines.{slot_texts, sheet_with, parts_of}
 use Rattle.swift.specs.Working.Places.{most_lines, bank_parts_of}
 
 cell-sized : (t : Text) → short t ≡ true → length (cell t) ≡ cell_size

@@ -1,22 +1,20 @@
 -- Lines taken apart, and put together again.
 use mathlib.Core.Path.{◌≡◌, refl, sym, ap, ◌∙◌}
 use mathlib.Core.Bool.{Bool, true, false, ◌&&◌, and-true}
-use mathlib.Core.List.{List, [], ◌∷◌, ◌++◌, append_assoc, append-nil}
-use Prim.Native.Nat.{ℕ, zero, suc, ◌+◌, ◌-◌, ◌*◌, ◌<◌, ◌≤◌}
+use mathlib.Core.List.{[], ◌++◌, append_assoc}
+use Prim.Native.Nat.{ℕ, ◌+◌, ◌-◌, ◌<◌, ◌≤◌}
 use native.Mathlib.Omega.{arith}
 use borrow.Author.Tests.{leb-true, le-leb, lt-leb}
-use lib.Dec.{leb}
 use lib.ListN.{length, take, drop, length-append, take-append-drop}
 use lib.Seq.{take_at, drop_at, drop-drop, drop-length}
 use Rattle.texts.specs.Quoted.{Text, bytes}
 use Rattle.texts.specs.Texts.{between, same}
-use Rattle.texts.proofs.Bools.{both, and2}
 use Rattle.texts.proofs.Codes.{same_true, same_self}
 use Rattle.sheets.specs.Sheet.{text_max}
 use Rattle.rules.specs.Working.Tests.{all_true}
-use Rattle.swift.specs.Lines.{before_status, before_bik, before_bank, before_account, before_payee, before_kpp, before_code, line_feed, Seven, ended, lines_of, parts_of}
+use Rattle.swift.specs.Lines.{before_status, before_bik, before_bank, before_account, before_payee, before_kpp, before_code, line_feed, Seven, lines_of, parts_of}
 use Rattle.swift.specs.Working.Places.{mark_bik, mark_account, mark_payee, mark_code, least_lines, most_lines, marks, marked}
-use Rattle.swift.proofs.Forms.{Widths, Each, each_of, of-each}
+use Rattle.swift.proofs.Forms.{Widths, each_of, of-each}
 
 -- the lines as strings and texts one behind the other
 abbrev pub flat : Seven → Text

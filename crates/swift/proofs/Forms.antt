@@ -1,25 +1,25 @@
 -- What rules 1, 2, 3, 5, 7, 9, 10, 12 and class A ask, in words of the seven texts; the lengths that follow.
 use mathlib.Core.Path.{◌≡◌, refl, sym, ap, ◌∙◌}
-use mathlib.Core.Bool.{Bool, true, false, not, ◌&&◌, ◌||◌, or-true, false≢true, true≢false}
+use mathlib.Core.Bool.{Bool, true, false, not, ◌&&◌, ◌||◌, or-true, false≢true}
 use mathlib.Core.List.{List, [], ◌∷◌}
-use Prim.Native.Nat.{ℕ, ◌+◌, ◌≤◌}
+use Prim.Native.Nat.{ℕ, ◌+◌}
 use native.Mathlib.Omega.{arith}
 use borrow.Author.Tests.{eqb-true}
-use lib.Dec.{eqb, leb}
+use lib.Dec.{eqb}
 use lib.ListN.{length}
-use Rattle.texts.specs.Quoted.{Text, bytes, words}
+use Rattle.texts.specs.Quoted.{Text, bytes}
 use Rattle.texts.specs.Texts.{every, any, are, among, same, between, blank, digits, digits_not_00, digits_not_zero, all_zero, digit, ◌is◌, ◌begins◌, ◌begins_one_of◌, ◌is_one_of◌}
 use Rattle.texts.proofs.Bools.{both, and2}
 use Rattle.texts.proofs.Codes.{same_true}
 use Rattle.texts.proofs.Every.{every-within}
 use Rattle.sheets.specs.Sheet.{Sheet, slot_of, text_of, ◌⟨◌⟩}
-use Rattle.sheets.specs.Forms.{◌⇒◌, bik, account, of_class_a, of_class_b, home, uin, code4, inn10, kpp, check_digit, weights10, digit_or_capital}
+use Rattle.sheets.specs.Forms.{◌⇒◌, bik, account, of_class_a, of_class_b, home, uin, code4, inn10, kpp, check_digit, weights10}
 use Rattle.sheets.specs.Lists.{bank_a, accounts_a, account03212, statuses}
-use Rattle.sheets.specs.Dates.{force_of, allowed_in, texts_in, status_texts, listed}
+use Rattle.sheets.specs.Dates.{force_of, allowed_in, status_texts, listed}
 use Rattle.sheets.proofs.InForce.{every_in, listed_in}
 use Rattle.sheets.specs.declared.dates.Dates.{Dates}
 use Rattle.rules.specs.Working.Tests.{all_true}
-use Rattle.rules.specs.Rules.{class_a, budget, rules, test_of, keeps, keeps_all, order, of_lines}
+use Rattle.rules.specs.Rules.{class_a, rules, test_of, keeps, keeps_all, order, of_lines}
 use Rattle.swift.specs.Lines.{Seven, seven_in, any_status, fits_in}
 use Rattle.swift.specs.Working.Places.{least_lines}
 

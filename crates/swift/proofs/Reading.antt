@@ -1,18 +1,16 @@
 -- Reading: the promise from its equations, and the ways out.
 use mathlib.Core.Path.{◌≡◌, refl, sym, ap, ◌∙◌}
-use mathlib.Core.Bool.{Bool, true, false, not, ◌&&◌, ◌||◌, and-false, false≢true}
-use mathlib.Core.List.{List, [], ◌∷◌}
+use mathlib.Core.Bool.{Bool, true, false, not, ◌&&◌, and-false, false≢true}
+use mathlib.Core.List.{List, []}
 use Prim.Native.Nat.{ℕ, ◌<◌, ◌≤◌}
 use native.Mathlib.Omega.{arith}
 use borrow.Author.Tests.{eq-eqb, leb-true, not-true, not-false}
 use borrow.Author.Rules.{rules}
-use lib.Dec.{eqb}
-use lib.ListN.{length, get_or, replicate}
+use lib.ListN.{length, get_or}
 use Rattle.texts.specs.Quoted.{Text}
 use Rattle.texts.specs.Texts.{every, same}
-use Rattle.texts.specs.Buffers.{put}
 use Rattle.texts.specs.Working.Writing.{put_at}
-use Rattle.texts.specs.Answers.{success, refusal, passes, answer_by, buffer_by}
+use Rattle.texts.specs.Answers.{success, passes}
 use Rattle.texts.proofs.Bools.{both, and2, cases}
 use Rattle.texts.proofs.Codes.{same_true, same_self}
 use Rattle.texts.proofs.Puts.{put-fits, put_whole}

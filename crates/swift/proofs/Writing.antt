@@ -1,22 +1,22 @@
 -- Writing: the lines put one behind the other, the promise from its equations, and the ways out.
 use mathlib.Core.Path.{◌≡◌, refl, sym, ap, ◌∙◌}
-use mathlib.Core.Bool.{Bool, true, false, not, ◌&&◌, ◌||◌}
+use mathlib.Core.Bool.{Bool, true, false, not}
 use mathlib.Core.List.{List, [], ◌∷◌, ◌++◌, append_assoc}
 use Prim.Native.Nat.{ℕ, ◌+◌, ◌<◌, ◌≤◌}
 use native.Mathlib.Omega.{arith}
 use borrow.Author.Tests.{eqb-true, le-leb, lt-ltb, le-ltb, ltb-false, not-false}
 use borrow.Author.Rules.{rules}
-use lib.Dec.{eqb, ltb}
+use lib.Dec.{ltb}
 use lib.ListN.{length, take, drop, length-append}
 use Rattle.texts.specs.Quoted.{Text, bytes}
-use Rattle.texts.specs.Texts.{every, any, are, among}
+use Rattle.texts.specs.Texts.{every, among}
 use Rattle.texts.specs.Buffers.{put}
 use Rattle.texts.specs.Working.Writing.{put_at, Wrote}
-use Rattle.texts.specs.Answers.{success, refusal, passes, answer_by, buffer_by}
+use Rattle.texts.specs.Answers.{success, passes}
 use Rattle.texts.proofs.Bools.{and2}
 use Rattle.texts.proofs.Puts.{put-fits, put-put, length-put, mid-put, drop-put, wrote_as, wrote_then}
 use Rattle.texts.proofs.Refusals.{no-success, none_of, succeeds, succeeded, unchanged, Way, way_out, not-as, tested}
-use Rattle.sheets.specs.Sheet.{Sheet, text_max, short, sheet_size, well_formed, slot_of, text_of, ◌⟨◌⟩}
+use Rattle.sheets.specs.Sheet.{Sheet, text_max, short, well_formed, slot_of, text_of, ◌⟨◌⟩}
 use Rattle.sheets.specs.Dates.{dates_fit, listed, status_texts}
 use Rattle.sheets.specs.declared.dates.Dates.{Dates}
 use Rattle.sheets.proofs.Frames.{text-short}
@@ -28,11 +28,10 @@ use Rattle.rules.proofs.Means.{order-numbered}
 use Rattle.rules.proofs.Judging.{first-as, beside-as}
 use Rattle.swift.specs.Lines.{line_feed, before_status, before_bik, before_bank, before_account, before_payee, before_kpp, before_code, Seven, ended, seven_in, lines_of, slot_texts, sheet_with, any_status, fits_in, fits}
 use Rattle.swift.specs.Working.Places.{least_lines, lines_size}
-use Rattle.swift.specs.Promises.{ReadsLines, written_answer, line_tests, writing_lines, lines_into, WritesLines}
-use Rattle.swift.specs.declared.read.LinesRead.{LinesRead}
+use Rattle.swift.specs.Promises.{written_answer, line_tests, writing_lines, lines_into, WritesLines}
 use Rattle.swift.specs.declared.write.LinesWritten.{LinesWritten}
 use Rattle.swift.specs.declared.write.LinesWritten.TheVariants.{Lines, Broken, Refused}
-use Rattle.swift.proofs.Forms.{Widths, fits-once, widths-in, code-long, forms-in, forms_by}
+use Rattle.swift.proofs.Forms.{fits-once, widths-in, code-long, forms-in, forms_by}
 use Rattle.swift.proofs.Cutting.{length-lines}
 use Rattle.swift.proofs.Reading.{seven-with}
 

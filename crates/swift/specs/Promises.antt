@@ -1,5 +1,5 @@
 -- What reading and writing lines answer.
-use Rattle.std.specs.Prelude.{◌≡◌, ◌↔◌, Bool, true, not, List, [], ◌∷◌, ◌++◌, ℕ, ◌≤◌, eqb, ltb, length, take, drop}
+use Rattle.std.specs.Prelude.{◌≡◌, ◌↔◌, true, not, List, [], ◌∷◌, ◌++◌, ℕ, ◌≤◌, eqb, ltb, length, take, drop}
 use Rattle.texts.specs.Quoted.{Text}
 use Rattle.texts.specs.Texts.{among}
 use Rattle.texts.specs.Buffers.{put}

@@ -1,5 +1,5 @@
 -- A table of answers of writing and reading, its blocks joined from quoted lines, shown true of the definitions by one computation each.
-use Rattle.std.specs.Prelude.{◌≡◌, refl, List, [], ◌∷◌, ◌++◌, map, ℕ, length, take, set, replicate}
+use Rattle.std.specs.Prelude.{◌≡◌, refl, List, [], ◌∷◌, ◌++◌, map, ℕ, take, set, replicate}
 use Prim.Native.String.{String}
 use Rattle.texts.specs.Quoted.{Text, bytes}
 use Rattle.texts.specs.Answers.{Answer, success, refusal}

@@ -1,0 +1,49 @@
+use borrow.Author.Rules.{rules}
+use Rattle.swift.specs.Promises.{read_answer, read_tests}
+use Rattle.swift.proofs.Reading.{reading, read_out, fits-as, work-put}
+use Rattle.swift.proofs.read.read_lines.Goals as goal
+
+pub returns-then-sheet-ne-SHEET_SIZE : goal.returns-then-sheet-ne-SHEET_SIZE
+unfolding read_answer read_tests
+returns-then-sheet-ne-SHEET_SIZE c = search (reading, read_out 0)
+
+pub returns-then-not-has_marks : goal.returns-then-not-has_marks
+unfolding read_answer read_tests
+returns-then-not-has_marks c = search (reading, read_out 1)
+
+pub slice_bounds-put_bank_texts-end : goal.slice_bounds-put_bank_texts-end
+unfolding read_answer read_tests
+slice_bounds-put_bank_texts-end c = search rules
+
+pub slice_bounds-put_payee_texts-end : goal.slice_bounds-put_payee_texts-end
+unfolding read_answer read_tests
+slice_bounds-put_payee_texts-end c = search rules
+
+pub put_payee_texts-requires : goal.put_payee_texts-requires
+unfolding read_answer read_tests
+put_payee_texts-requires c = search reading
+
+pub slice_bounds-is_fit-end : goal.slice_bounds-is_fit-end
+unfolding read_answer read_tests
+slice_bounds-is_fit-end c = search rules
+
+pub returns-then-not-is_fit : goal.returns-then-not-is_fit
+unfolding read_answer read_tests
+returns-then-not-is_fit c =
+    let f = fits-as _ _ c.has_marks.ensures c.if-not-has_marks.false-raw _ c.put_payee_texts.ensures _ c.is_fit.ensures _ c.if-not-is_fit.true-raw in
+    search (reading, read_out 1)
+
+pub slice_bounds-put-end : goal.slice_bounds-put-end
+unfolding read_answer read_tests
+slice_bounds-put-end c = search rules
+
+pub shape_of-sheet : goal.shape_of-sheet
+unfolding read_answer read_tests
+shape_of-sheet c = search rules
+
+pub returns : goal.returns
+unfolding read_answer read_tests
+returns c =
+    let f = fits-as _ _ c.has_marks.ensures c.if-not-has_marks.false-raw _ c.put_payee_texts.ensures _ c.is_fit.ensures _ c.if-not-is_fit.false-raw in
+    let w = work-put _ _ c.has_marks.ensures c.if-not-has_marks.false-raw _ c.put_payee_texts.ensures _ c.is_fit.ensures _ _ c.if-sheet-ne-SHEET_SIZE.false c.put.ensures in
+    search (reading, read_out 2)
