@@ -5,7 +5,6 @@ use mathlib.Core.Bool.{Bool, true, false, cond, not, ◌&&◌, true≢false}
 use mathlib.Core.List.Memᴰ
 use mathlib.Core.List.{List, [], ◌∷◌, ◌++◌, Memᴰ}
 use Prim.Native.Nat.{ℕ, ◌+◌, ◌-◌, ◌*◌, ◌<◌, ◌≤◌}
-use native.Mathlib.Nat.{zero-add}
 use native.Mathlib.Numerals.{add-one}
 use native.Mathlib.Omega.{arith}
 use borrow.Author.Tests.{lt-ltb, le-ltb, ltb-true, ltb-false, eq-eqb, ne_eqb, eqb-true, not-true, not-false, le-leb, lt-leb}
@@ -13,8 +12,7 @@ use borrow.Author.Rules.{rules}
 use mir.Syntax.{w8}
 use mir.Val.{Fits}
 use lib.Dec.{eqb, ltb}
-use lib.ListN.{length, get_or, replicate, length-replicate, replicate-append-replicate}
-use lib.Seq.{drop_at}
+use lib.ListN.{length, get_or, replicate}
 use Rattle.texts.specs.Texts.{same}
 use Rattle.texts.proofs.Bools.{cases, both}
 use Rattle.texts.proofs.Codes.{same_true, same_self}
@@ -28,7 +26,7 @@ use Rattle.texts.specs.Answers.{Answer, success, refusal, number_of, passes, ans
 use Rattle.drafts.specs.Revision.{◌by◌, rank, comparison}
 use Rattle.drafts.specs.Message.{revision_size, IsMessage, version_of, message_field, revision_of, message_text, read_tests, readable, reading_of, read_answer}
 use Rattle.drafts.specs.Draft.{cell_place, slot_size, draft_size, slot_in, slot_revision, slot_cell, slot_text, slot_bytes, slot_with, draft_formed, fresh_draft, begin_tests, beginning_of, begun_from, slot_comparison, comparison_of, word, draft_by, post_tests, posting_of, stored, posted_to, post_answer, cells, draft_sheet, copy_tests, copying_of, copied_to, copy_answer}
-use Rattle.drafts.specs.History.{posted_from, posted_all}
+use Rattle.drafts.specs.History.{posted_all}
 use Rattle.drafts.specs.Working.Steps.{text_put, sheet_into}
 use Rattle.drafts.specs.Promises.{Reads, Postings, Freshens, Stands, newer as is-newer, same as is_same, older as is-older, clash as is-clash, Posts, Copies}
 use Rattle.drafts.specs.declared.revision.Revision.{Revision}

@@ -241,11 +241,12 @@ top-at i (m ∷ ms) h =
           let w = ih (lt_of_le_of_lt zero-le g) in
           let e : max (rank_in i m) (highest i ms) ≡ highest i ms = omega arith in
           let n = ne_eqb (rank_in i m) (highest i ms) (λ q. omega arith) in
+          let k : top i (m ∷ ms) ≡ top i ms = ap (λ (x : ℕ). cond (eqb (rank_in i m) x) m (first_of i x ms)) e ∙ ap (λ (b : Bool). cond b m (top i ms)) n in
           record {
             before = m ∷ w.before;
             after = w.after;
-            split = rw (e, n) (ap (λ (x : List (List ℕ)). m ∷ x) w.split);
-            rank = rw (e, n) w.rank;
+            split = ap (λ (x : List (List ℕ)). m ∷ x) w.split ∙ ap (λ (x : List ℕ). m ∷ (w.before ++ x ∷ w.after)) (sym k);
+            rank = ap (rank_in i) k ∙ w.rank ∙ sym e;
             lower = omega (arith, w.lower);
             later = omega (arith, w.later);
           }

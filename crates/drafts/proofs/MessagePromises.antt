@@ -21,7 +21,7 @@ use Rattle.texts.proofs.Puts.{put-fits, put_next, mid-put, drop-put}
 use Rattle.texts.proofs.Refusals.{no-success, succeeds, succeeded, unchanged, Way, way_out, tested}
 use Rattle.sheets.specs.Sheet.{slot_count, slot_of, text_max}
 use Rattle.sheets.specs.declared.sheet.Field.{Field}
-use Rattle.drafts.specs.Revision.{adviser, known_party, ◌by◌}
+use Rattle.drafts.specs.Revision.{adviser, known_party}
 use Rattle.drafts.specs.Message.{known_version, opening, body_place, revision_place, revision_size, text_place, head_size, least_l, most_l, IsMessage, length_of, version_of, party_of, message_body, message_field, revision_of, message_text, misframed, disallowed, read_tests, read_values, reading_of, read_answer, head_bytes, message_of, allowed, write_tests, writing_of, written_of, write_answer}
 use Rattle.drafts.specs.Promises.{Reads, Writes}
 use Rattle.drafts.specs.Working.Steps.{takes}

@@ -1,6 +1,5 @@
 use Rattle.drafts.proofs.DraftPromises.{sheets, cells-more, sheet-other}
 use native.Mathlib.Omega.{arith}
-use Prim.Native.Nat.{◌-◌}
 use Rattle.drafts.proofs.draft.put_sheet.Goals as goal
 
 pub returns-then-draft-ne-DRAFT_SIZE : goal.returns-then-draft-ne-DRAFT_SIZE

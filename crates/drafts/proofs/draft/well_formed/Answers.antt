@@ -1,4 +1,3 @@
-use Prim.Native.Nat.{◌-◌}
 use native.Mathlib.Omega.{arith}
 use Rattle.drafts.proofs.Slots.{cells-not, misfit-more, forms}
 use Rattle.drafts.proofs.draft.well_formed.Goals as goal
