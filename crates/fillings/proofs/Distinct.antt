@@ -39,7 +39,7 @@ choice-once {L} P s k = go (to_fill L s k)
     go false = refl
 
 -- of a list in which x is not, no member is x
-pub any-member : {A : Type 0} (p : A → Bool) {l : List A} {y : A} → Memᴰ y l → p y ≡ true → any p l ≡ true
+pub any-member : {A : Type 0} (p : A → Bool) {y : A} {l : List A} → Memᴰ y l → p y ≡ true → any p l ≡ true
 unfolding any
 any-member p (Memᴰ.head {x = x} {xs = l} e) h = rw (← e, h)
 any-member p (Memᴰ.tail {x = x} {xs = l} m) h = rw (any-member p m h) (or-true (p x))

@@ -7,7 +7,7 @@ use Prim.Native.Nat.{ℕ, zero, suc, ◌+◌, ◌<◌, ◌≤◌}
 use native.Mathlib.Nat.{zero-add}
 use native.Mathlib.Omega.{arith}
 use borrow.Author.Tests.{leb-true, ne_eqb}
-use lib.Dec.{leb, eqb}
+use lib.Dec.{leb}
 use lib.ListN.{length, get_or}
 use Rattle.texts.specs.Quoted.{Text}
 use Rattle.texts.specs.Texts.{every, blank}
@@ -40,7 +40,7 @@ module _ {A : Type 0} where
   product-drawn [] r h = subst (Drawn []) (sym (mathlib.Core.List.Memᴰ.eq_of_singleton h)) nothing
   product-drawn (c ∷ cs) r h = let w = each-cases c (product cs) r h in subst (Drawn (c ∷ cs)) w.4 (one w.2 (product-drawn cs w.1 w.3))
 
-  pub each_holds : {c : List A} {x : A} → Memᴰ x c → (rest : List (List A)) (r : List A) → Memᴰ r rest → Memᴰ (x ∷ r) (each c rest)
+  pub each_holds : {x : A} {c : List A} → Memᴰ x c → (rest : List (List A)) (r : List A) → Memᴰ r rest → Memᴰ (x ∷ r) (each c rest)
   each_holds (mathlib.Core.List.Memᴰ.head {x = y} {xs = ys} e) rest r q =
       mathlib.Core.List.Memᴰ.append_left (each ys rest) (mathlib.Core.List.Memᴰ.cast (ap (λ (z : A). z ∷ r) e) (mathlib.Core.List.Memᴰ.map (λ (t : List A). y ∷ t) q))
   each_holds (mathlib.Core.List.Memᴰ.tail {x = y} m) rest r q = mathlib.Core.List.Memᴰ.append_right (map (λ (t : List A). y ∷ t) rest) (each_holds m rest r q)
@@ -65,7 +65,7 @@ module _ {A : Type 0} where
   every-at p z e (x ∷ l) h zero = (both (p x) (every p l) h).0
   every-at p z e (x ∷ l) h (suc k) = every-at p z e l (both (p x) (every p l) h).1 k
 
-  pub every-mem : (p : A → Bool) {l : List A} {x : A} → every p l ≡ true → Memᴰ x l → p x ≡ true
+  pub every-mem : (p : A → Bool) {x : A} {l : List A} → every p l ≡ true → Memᴰ x l → p x ≡ true
   unfolding every
   every-mem p h (mathlib.Core.List.Memᴰ.head {x = y} {xs = l} e) = ap p e ∙ (both (p y) (every p l) h).0
   every-mem p h (mathlib.Core.List.Memᴰ.tail {x = y} {xs = l} m) = every-mem p (both (p y) (every p l) h).1 m

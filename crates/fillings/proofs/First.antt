@@ -1,12 +1,10 @@
 -- What looking through the fillings finds: the first that passes, with its place; none exactly where none passes, with the count of all.
 use mathlib.Core.Path.{◌≡◌, refl, sym, ◌∙◌, subst}
-use mathlib.Core.Logic.{◌↔◌}
-use mathlib.Core.Bool.{Bool, true, false, true≢false}
-use mathlib.Core.List.{List}
+use mathlib.Core.Bool.{Bool, false, true≢false}
 use Prim.Native.Nat.{ℕ}
 use lib.ListN.{length}
 use Rattle.sheets.specs.Sheet.{Sheet, sheet_size}
-use Rattle.fillings.specs.Fillings.{Lists, Filling, Place, All, FirstFilling, Look, found, none, fillings, first_filling}
+use Rattle.fillings.specs.Fillings.{Lists, Filling, Place, All, FirstFilling, found, none, fillings, first_filling}
 use Rattle.fillings.specs.Working.Proper.{Proper}
 use Rattle.fillings.proofs.EveryFilling.{filling-of, of-filling, given_stays}
 use Rattle.fillings.proofs.Looking.{look-found, look_none, look-member}

@@ -1,5 +1,5 @@
 -- What is kept of a list, of a product of lists, and of what was looked through.
-use mathlib.Core.Path.{◌≡◌, refl, sym, ap, ◌∙◌, subst, fun_ext}
+use mathlib.Core.Path.{◌≡◌, refl, sym, ap, ◌∙◌, fun_ext}
 use mathlib.Core.Bool.{Bool, true, false, not, cond, ◌&&◌}
 use mathlib.Core.List.{List, [], ◌∷◌, ◌++◌, map, Memᴰ}
 use Prim.Native.Nat.{ℕ, zero, suc, ◌+◌, ◌<◌, ◌≤◌}
@@ -8,10 +8,10 @@ use lib.ListN.{length, get_or}
 use Rattle.texts.specs.Texts.{any, same}
 use Rattle.texts.proofs.Bools.{both}
 use Rattle.texts.proofs.Codes.{same_self}
-use Rattle.fillings.specs.Fillings.{distinct, each, product, Look, found, none, look}
+use Rattle.fillings.specs.Fillings.{distinct, each, product, found, look}
 use Rattle.fillings.specs.Working.Places.{places}
 use Rattle.fillings.proofs.Distinct.{distinct-not}
-use Rattle.fillings.proofs.Looking.{NonePass, First, look-over}
+use Rattle.fillings.proofs.Looking.{First, look-over}
 
 abbrev pub keep : {A : Type 0} → (A → Bool) → List A → List A
 keep q [] = []

@@ -12,7 +12,7 @@ use Rattle.texts.specs.Texts.{any, same}
 use Rattle.texts.proofs.Bools.{both}
 use Rattle.texts.proofs.Codes.{same_self}
 use Rattle.sheets.specs.Sheet.{Sheet, slots, cell_of, sheet_size, slot_count}
-use Rattle.fillings.specs.Fillings.{Lists, distinct, to_fill, choices, entry_place, each, product, joined, fillings, Filling, Earlier, Place}
+use Rattle.fillings.specs.Fillings.{Lists, distinct, choices, entry_place, each, product, joined, fillings, Filling, Earlier, Place}
 use Rattle.fillings.specs.Working.Proper.{Proper}
 use Rattle.fillings.proofs.EveryFilling.{Drawn, each-cases, product-drawn, at_slots, drawn-cell, filling-of, of-filling}
 use Rattle.fillings.proofs.Distinct.{choice-once, distinct-not}

@@ -1,7 +1,7 @@
 -- R-14: the fillings of a sheet are, entry by entry of the field that varies slowest, the fillings of the sheet with that entry; so that an
 -- entry of which no filling passes may be skipped whole.
-use mathlib.Core.Path.{◌≡◌, refl, sym, ap, ◌∙◌, subst, fun_ext}
-use mathlib.Core.Bool.{Bool, true, false, not, cond, ◌&&◌, and-true, and-false}
+use mathlib.Core.Path.{◌≡◌, refl, sym, ap, ◌∙◌, fun_ext}
+use mathlib.Core.Bool.{Bool, true, false, not, cond, ◌&&◌, and-false}
 use mathlib.Core.List.Memᴰ
 use mathlib.Core.List.{List, [], ◌∷◌, ◌++◌, map, map-map, map-append, append-nil, Memᴰ}
 use Prim.Native.Nat.{ℕ, zero, suc, ◌+◌, ◌<◌, ◌≤◌}
@@ -9,14 +9,13 @@ use native.Mathlib.Decide.{ℕ_discrete}
 use native.Mathlib.Omega.{arith}
 use borrow.Author.Tests.{lt-ltb, ltb-true}
 use lib.Dec.{ltb}
-use lib.ListN.{length, get_or, set, length-map, length-set}
+use lib.ListN.{length, get_or, set, length-set}
 use lib.Seq.{ext_get_or, get_or-set_same, get_or-set_other}
 use Rattle.texts.specs.Texts.{blank}
-use Rattle.texts.proofs.Bools.{both}
-use Rattle.sheets.specs.Sheet.{Sheet, slots, cell, cell_text, cell_of, text_of, given, cell_size, sheet_size, slot_count}
+use Rattle.sheets.specs.Sheet.{Sheet, slots, cell_text, cell_of, text_of, given, cell_size, sheet_size, slot_count}
 use Rattle.sheets.specs.Working.Entries.{filled_at}
 use Rattle.sheets.proofs.Frames.{filled-length}
-use Rattle.fillings.specs.Fillings.{Lists, to_fill, choices, each, product, joined, Filling, width, Look, found, none, look, fillings, first_filling}
+use Rattle.fillings.specs.Fillings.{Lists, to_fill, choices, each, product, joined, Filling, width, look, fillings, first_filling}
 use Rattle.fillings.specs.Working.Proper.{Proper}
 use Rattle.fillings.specs.Working.Parts.{or_else, look_by}
 use Rattle.fillings.proofs.Cells.{Cells, joined-cells, sized-cells, cell-joined, filled-joined, fill_cell}

@@ -1,7 +1,7 @@
 -- R-9: a draft that takes up some of its proposal has the same first filling, at a place no later.
-use mathlib.Core.Path.{◌≡◌, refl, sym, ap, ◌∙◌, subst}
-use mathlib.Core.Bool.{Bool, true, false, not, cond, ◌&&◌, and-false, and-true}
-use mathlib.Core.List.{List, [], ◌∷◌, map, Memᴰ}
+use mathlib.Core.Path.{◌≡◌, refl, sym, ap, ◌∙◌}
+use mathlib.Core.Bool.{Bool, true, false, not, cond, ◌&&◌, and-false}
+use mathlib.Core.List.{List, [], ◌∷◌, map}
 use Prim.Native.Nat.{ℕ, zero, suc, ◌+◌, ◌<◌, ◌≤◌}
 use native.Mathlib.Omega.{arith}
 use borrow.Author.Tests.{not-true}
@@ -17,7 +17,7 @@ use Rattle.fillings.specs.Working.Places.{places}
 use Rattle.fillings.specs.Working.Parts.{map_look}
 use Rattle.fillings.proofs.EveryFilling.{Drawn, product-drawn, drawn-cell, choice-given}
 use Rattle.fillings.proofs.Distinct.{choice-once}
-use Rattle.fillings.proofs.Looking.{First, look-found, look-map, look-member}
+use Rattle.fillings.proofs.Looking.{look-found, look-map, look-member}
 use Rattle.fillings.proofs.First.{found_first}
 use Rattle.fillings.proofs.Kept.{keep, each_passes, keep_all, keep_one, product-keep, all_pass, keep-first}
 
