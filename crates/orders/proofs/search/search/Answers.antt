@@ -1,0 +1,18 @@
+use mathlib.Core.Path.{refl, sym, ◌∙◌}
+use native.Mathlib.Nat.{mul-le-mul}
+use native.Mathlib.Omega.{arith}
+use borrow.Author.Tests.{not-false}
+use Rattle.orders.proofs.Pacing.{none_passes}
+use Rattle.orders.proofs.search.search.Goals as goal
+
+pub overflow_mul-result : goal.overflow_mul-result
+overflow_mul-result c = record { fits = omega (arith, mul-le-mul c.statuses_of-statuses.ensures.1 c.fillings_of.ensures.1) }
+
+pub returns-then-not-kept_fixed : goal.returns-then-not-kept_fixed
+returns-then-not-kept_fixed c D s o = none_passes c.kept_fixed.ensures.0 c.if-not-kept_fixed.true-raw D s o _ _ _ refl (c.statuses_of-statuses.ensures.0 D s o.read) (c.fillings_of.ensures.0 D s o.read)
+
+pub walk_kept-requires : goal.walk_kept-requires
+walk_kept-requires c D s r b = sym (not-false _ c.if-not-kept_fixed.false-raw) ∙ c.kept_fixed.ensures.0 D s r b
+
+pub returns : goal.returns
+returns c = c.walk_kept.ensures
