@@ -39,7 +39,7 @@ module _ (p q : ℕ → Bool) where
   every-alike [] e = refl
   every-alike (n ∷ ns) e = λ i. e n (Memᴰ.head refl) i && every-alike ns (λ k m. e k (Memᴰ.tail m)) i
 
-at-member : {A : Type 0} (f h : ℕ → A) {l : List ℕ} {n : ℕ} → map f l ≡ map h l → Memᴰ n l → f n ≡ h n
+at-member : {A : Type 0} (f h : ℕ → A) {n : ℕ} {l : List ℕ} → map f l ≡ map h l → Memᴰ n l → f n ≡ h n
 at-member f h e (Memᴰ.head q) = cc
 at-member f h e (Memᴰ.tail {xs = l} m) = let c : map f l ≡ map h l = cc in at-member f h c m
 

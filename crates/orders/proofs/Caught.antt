@@ -32,7 +32,7 @@ use Rattle.orders.proofs.Passing.{unkept}
 use Rattle.orders.proofs.Skipping.{length-statuses, with-status, fails_by}
 
 -- where a member stands
-at_of : {l : List (List ℕ)} {x : List ℕ} → Memᴰ x l → (a : ℕ) × (a < length l) × (get_or l a [] ≡ x)
+at_of : {x : List ℕ} {l : List (List ℕ)} → Memᴰ x l → (a : ℕ) × (a < length l) × (get_or l a [] ≡ x)
 at_of (Memᴰ.head q) = (0, omega arith, sym q)
 at_of (Memᴰ.tail m) = let (a, h, e) = at_of m in (suc a, omega arith, e)
 

@@ -322,9 +322,9 @@ module _ {D : Dates} {d t : List ℕ} {set : ℕ} where
             }
 
             -- a slot of the set is one to be filled
-            to_fill : (i : ℕ) → i < slot_count → in_set set i ≡ true → to_fill D (draft_sheet d) i ≡ true
+            filled-if : (i : ℕ) → i < slot_count → in_set set i ≡ true → to_fill D (draft_sheet d) i ≡ true
             unfolding fit of.to_fill
-            to_fill i j e = rw ((sheet-made d formed).1 i j) (both (ltb 0 (length (list_of D i)) && blank (slot_text (slot_in d i))) _ (each i j e)).0
+            filled-if i j e = rw ((sheet-made d formed).1 i j) (both (ltb 0 (length (list_of D i)) && blank (slot_text (slot_in d i))) _ (each i j e)).0
 
             abbrev taken : List ℕ
             taken = posted_from d (proposals d t set slot_count)
@@ -338,10 +338,10 @@ module _ {D : Dates} {d t : List ℕ} {set : ℕ} where
                 where
                   go : (y : Bool) → in_set set i ≡ y → slot_cell (cond y (slot_bytes (next d i) (text_of t i)) (slot_in d i)) ≡ cond (to_fill D (draft_sheet d) i && y) (cell_of (completed D d b) i) (cell_of (draft_sheet d) i)
                   go true e =
-                      rw (to_fill i j e)
+                      rw (filled-if i j e)
                       (slot-cell (next d i) (text_of t i) (postable.slot i j e).1
                       ∙ ap (λ (x : List ℕ). cell (text_of x i)) (sym same)
-                      ∙ proposed-cell D d b n all k done i j (to_fill i j e))
+                      ∙ proposed-cell D d b n all k done i j (filled-if i j e))
                   go false e = rw (and-false (to_fill D (draft_sheet d) i)) (sym (sheet-cell d (formed-means d formed).sized i j))
 
               completes-again : (c : List ℕ) → length c ≡ sheet_size → CompletesAgain D (in_set set) d b n taken c
