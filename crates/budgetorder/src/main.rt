@@ -1,9 +1,13 @@
 // Reads messages from standard input and writes the report (document 01, "Writer and program"). Assumes the contracts of libc's read and write.
 #![tactic(auto)]
 
-use libc::{STDERR_FILENO, STDIN_FILENO, STDOUT_FILENO};
 use report::{INPUT_SIZE, REPORT_SIZE, report};
 use texts::parts::part;
+
+// The numbers of the standard streams.
+const STDIN_FILENO: i32 = 0;
+const STDOUT_FILENO: i32 = 1;
+const STDERR_FILENO: i32 = 2;
 
 fn main() {
     let mut input = [0u8; INPUT_SIZE];

@@ -9,7 +9,6 @@ use amounts::shares::{Shared, shares};
 use drafts::draft::{Begun, Copied, DRAFT_SIZE, Posted, copy, fresh, post, revision_in, text_in};
 use drafts::message::{Reading, Version, Written, message_text, read, write};
 use drafts::revision::{Party, Revision};
-use libc::{STDIN_FILENO, STDOUT_FILENO};
 use orders::complete::Completed;
 use orders::pretest::{Pretested, pretest};
 use orders::quick::quick;
@@ -28,6 +27,10 @@ use texts::buffers::put;
 use texts::comparisons::{all_are, equals};
 use texts::numbers::{number_of_2, number_of_4, number_of_8};
 use texts::parts::{at, part};
+
+// The numbers of the standard streams.
+const STDIN_FILENO: i32 = 0;
+const STDOUT_FILENO: i32 = 1;
 
 fn write_number(n: u8) {
     io::print_decimal(STDOUT_FILENO, n as u64);

@@ -4,7 +4,6 @@
 #![tactic(auto)]
 
 use drafts::draft::fresh;
-use libc::{STDIN_FILENO, STDOUT_FILENO};
 use orders::complete::Completed;
 use orders::entry::{Listed, entry};
 use orders::origins::origins;
@@ -17,6 +16,10 @@ use sheets::dates::{Date, Dates};
 use sheets::sheet::{Field, SHEET_SIZE, text};
 use texts::numbers::{number_of_2, number_of_4};
 use texts::parts::{at, part};
+
+// The numbers of the standard streams.
+const STDIN_FILENO: i32 = 0;
+const STDOUT_FILENO: i32 = 1;
 
 fn write_number(n: u8) {
     io::print_decimal(STDOUT_FILENO, n as u64);
