@@ -1,10 +1,10 @@
 -- What `pool` promises, on each way through it.
 use mathlib.Core.Path.{◌≡◌, refl, ap, sym, ◌∙◌}
-use mathlib.Core.Bool.{Bool, true, false, not, ◌&&◌, true≢false}
+use mathlib.Core.Bool.{Bool, true, false, ◌&&◌, true≢false}
 use mathlib.Core.List.{List, [], ◌∷◌}
 use Prim.Native.Nat.{ℕ, suc, ◌+◌, ◌-◌, ◌*◌, ◌/◌, ◌≤◌, ◌<◌}
 use native.Mathlib.Omega.{arith}
-use borrow.Author.Tests.{lt-ltb, le-ltb, eq-eqb, ne_eqb, not-true}
+use borrow.Author.Tests.{lt-ltb, le-ltb, eq-eqb, ne_eqb}
 use lib.IntN.{ℤ, pos, negsuc, ◌+ℤ◌}
 use lib.ListN.{length, take, drop}
 use lib.Seq.{take-length}
@@ -71,10 +71,10 @@ module _ (t : List ℕ) (a : ℕ) (o : List ℕ) where
   unfolding pool_tests pool_answer
   refused-7 l = refuses 7 (omega arith, omega arith) (pool-out 0 (Refused (record { 0 = 7 })) o (lt-ltb _ _ l) refl refl) (λ m. refl, λ m. absurd (omega arith))
 
-  pub refused-16 : output_size ≤ length o → (p q : Bool) → p ≡ register_right t → q ≡ order_right a → not (p && q) ≡ true → Pools t a o (Refused (record { 0 = 16 })) o
+  pub refused-16 : output_size ≤ length o → (p q : Bool) → p ≡ register_right t → q ≡ order_right a → (p && q) ≡ false → Pools t a o (Refused (record { 0 = 16 })) o
   unfolding pool_tests pool_answer
   refused-16 l p q ep eq h =
-      let s : (register_right t && order_right a) ≡ false = rw (← ep, ← eq) (not-true _ h) in
+      let s : (register_right t && order_right a) ≡ false = rw (← ep, ← eq) h in
       refuses 16 (omega arith, omega arith) (pool-out 1 (Refused (record { 0 = 16 })) o (le-ltb _ _ l) (rw s) refl refl)
       (λ m. absurd (omega arith), λ m. (refl, λ g. true≢false (sym (register-is t a g) ∙ s)))
 

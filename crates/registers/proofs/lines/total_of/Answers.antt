@@ -1,5 +1,5 @@
 use mathlib.Core.Path.{refl, ◌∙◌, ap}
-use Prim.Native.Nat.{◌+◌, ◌-◌}
+use Prim.Native.Nat.{◌+◌}
 use native.Mathlib.Omega.{arith}
 use borrow.Author.Rules.{rules}
 use Rattle.registers.specs.Register.{total_of}
@@ -16,7 +16,6 @@ kopecks_at-sum-requires c = omega arith
 
 pub overflow_add-sum : goal.overflow_add-sum
 overflow_add-sum c =
-    
     let l = c.loop-i in
     let h = c.loop-i-test.true in
     record { fits = omega (arith, l.invariant.1, c.kopecks_at-sum.ensures, total-next c.args.register.now l.i h, total-most c.args.register.now c.requires (l.i + 1) (omega arith)) }
@@ -37,6 +36,5 @@ loop-i-preserved c =
 
 pub returns : goal.returns
 returns c =
-    
     let l = c.loop-i in
     (l.invariant.1 ∙ ap total_of (lines-all c.args.register.now l.i c.loop-i-test.false), omega (arith, l.invariant.1, total-most c.args.register.now c.requires l.i l.invariant.0))

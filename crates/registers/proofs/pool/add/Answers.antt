@@ -9,9 +9,6 @@ use Rattle.registers.proofs.pool.add.Goals as goal
 
 pub returns : goal.returns
 returns c =
-    
-    
-    
     let o = c.args.output.now in
     let at = c.args.place * 20 + 12 in
     c.put.ensures

@@ -1,4 +1,3 @@
-use Prim.Native.Nat.{◌-◌}
 use Rattle.registers.proofs.Finding.{Finding}
 use Rattle.registers.proofs.pool.find.Given as goal
 

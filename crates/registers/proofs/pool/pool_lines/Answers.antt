@@ -1,13 +1,12 @@
 use mathlib.Core.Path.{ap, ◌∙◌}
-use mathlib.Core.Logic.{⊎_elim}
-use Prim.Native.Nat.{◌-◌, ◌*◌}
+use Prim.Native.Nat.{◌*◌}
 use native.Mathlib.Omega.{arith}
 use Rattle.texts.specs.Texts.{number}
 use Rattle.texts.specs.Working.Writing.{put_at}
 use Rattle.registers.proofs.Finding.{hint-place, no-hints, hint-more}
 use Rattle.registers.proofs.Outputs.{none_yet, all-pooled, most-lines, kept-long, Turn, table-room, add-asked, sum-grown, line-copied}
 use Rattle.registers.proofs.pool.pool_lines.Goals as goal
-use Rattle.registers.proofs.pool.pool_lines.Goals.{After-find-place}
+use Rattle.registers.proofs.pool.pool_lines.Goals.{After-find-place, then-place-count, else-place-count}
 
 -- what is known where the INN was looked for
 turn : (c : After-find-place) → Turn c.args.register.now c.args.output.now c.loop-i.i c.loop-i.count c.loop-i.numbers c.loop-i.output c.number_12-number.result c.find-place.result
@@ -27,22 +26,22 @@ find-place-requires c =
     (omega (arith, s.0.few, s.0.within, most-lines s.0), s.1)
 
 pub add-requires : goal.add-requires
-add-requires c = add-asked (turn c.before.before.before) c.if-place-count.true c.kopecks_at.result.0 c.kopecks_at.ensures
+add-requires c = add-asked (turn (goal.at.add-requires c).After-find-place) c.if-place-count.true c.kopecks_at.result.0 c.kopecks_at.ensures
 
 pub overflow_mul-count : goal.overflow_mul-count
-overflow_mul-count c = record { fits = omega (arith, table-room (turn c.before.before)) }
+overflow_mul-count c = record { fits = omega (arith, table-room (turn (goal.at.overflow_mul-count c).After-find-place)) }
 
 pub offset_bounds-numbers-count : goal.offset_bounds-numbers-count
-offset_bounds-numbers-count c = record { fits = omega (arith, table-room (turn c.before.before.before.before.before.before)) }
+offset_bounds-numbers-count c = record { fits = omega (arith, table-room (turn (goal.at.offset_bounds-numbers-count c).After-find-place)) }
 
 pub bounds-numbers-count : goal.bounds-numbers-count
-bounds-numbers-count c = table-room (turn c.before.before.before.before.before.before)
+bounds-numbers-count c = table-room (turn (goal.at.bounds-numbers-count c).After-find-place)
 
 pub overflow_add-count : goal.overflow_add-count
-overflow_add-count c = record { fits = omega (arith, table-room (turn c.before.before.before.before.before.before)) }
+overflow_add-count c = record { fits = omega (arith, table-room (turn (goal.at.overflow_add-count c).After-find-place)) }
 
 pub overflow_cast-hints : goal.overflow_cast-hints
-overflow_cast-hints c = record { fits = omega (arith, table-room (turn c.before.before.before.before.before.before)) }
+overflow_cast-hints c = record { fits = omega (arith, table-room (turn (goal.at.overflow_cast-hints c).After-find-place)) }
 
 pub offset_bounds-hints-number : goal.offset_bounds-hints-number
 offset_bounds-hints-number c = record { fits = omega arith }
@@ -54,13 +53,14 @@ pub loop-i-preserved : goal.loop-i-preserved
 loop-i-preserved c =
     let l = c.loop-i in
     let n = c.number_12-number.result in
-    ⊎_elim
-    (λ w. rw (w.9, w.8, w.7, w.6) (sum-grown (turn c.before) w.0.taken w.2.result.0 _ w.2.ensures w.3.ensures, l.invariant.1))
-    (λ w. rw (w.9, w.8, w.7, w.6) (
-      line-copied (turn c.before) w.0.left (λ j. (c.shared_slice_known-1.given j).fits) _ (w.3.ensures ∙ ap (put_at l.output (l.count * 20)) w.2.ensures),
-      hint-more l.invariant.1 n (omega (arith, l.invariant.0.room, table-room (turn c.before))),
-    ))
-    c.if-place-count.branch
+    let t = turn (goal.at.loop-i-preserved c).After-find-place in
+    elim c.if-place-count.branch [
+      | then-place-count w ↦ rw (w.count-is, w.hints-is, w.numbers-is, w.output-is) (sum-grown t w.if-place-count.true w.kopecks_at.result.0 _ w.kopecks_at.ensures w.add.ensures, l.invariant.1)
+      | else-place-count w ↦ rw (w.count-is, w.hints-is, w.numbers-is, w.output-is) (
+        line-copied t w.if-place-count.false (λ j. (c.type_inv.register j).fits) _ (w.put.ensures ∙ ap (put_at l.output (l.count * 20)) w.part.ensures),
+        hint-more l.invariant.1 n (omega (arith, l.invariant.0.room, table-room t)),
+      )
+    ]
 
 pub shape_of-output : goal.shape_of-output
 shape_of-output c = kept-long c.loop-i.invariant.0
