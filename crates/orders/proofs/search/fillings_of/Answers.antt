@@ -11,6 +11,6 @@ overflow_mul-result-2 c = record { fits = omega (arith, (most _ _ _ c.width_of-b
 
 pub returns : goal.returns
 returns c = (
-      rest-counted _ _ _ _ c.blank_basis.ensures.0 c.blank_document.ensures.0 c.blank_day.ensures.0 _ _ _ c.width_of-bases.ensures.0 c.width_of-documents.ensures.0 c.width_of-days.ensures.0,
-      (most _ _ _ c.width_of-bases.ensures.1 c.width_of-documents.ensures.1 c.width_of-days.ensures.1).1,
-    )
+  rest-counted _ _ _ _ c.blank_basis.ensures.0 c.blank_document.ensures.0 c.blank_day.ensures.0 _ _ _ c.width_of-bases.ensures.0 c.width_of-documents.ensures.0 c.width_of-days.ensures.0,
+  (most _ _ _ c.width_of-bases.ensures.1 c.width_of-documents.ensures.1 c.width_of-days.ensures.1).1,
+)

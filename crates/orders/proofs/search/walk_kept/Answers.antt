@@ -1,8 +1,7 @@
 use mathlib.Core.Path.{◌≡◌, refl, sym, ap, ◌∙◌}
-use mathlib.Core.Logic.{⊎_elim}
-use mathlib.Core.Bool.{Bool, false, cond}
+use mathlib.Core.Bool.{Bool, false, true≢false}
 use mathlib.Core.List.{List, [], ◌∷◌, map}
-use Prim.Native.Nat.{ℕ, ◌+◌, ◌-◌, ◌*◌, ◌≤◌, ◌<◌}
+use Prim.Native.Nat.{ℕ, ◌+◌, ◌*◌, ◌≤◌, ◌<◌}
 use native.Mathlib.Omega.{arith}
 use lib.ListN.{length}
 use Rattle.texts.specs.Texts.{blank}
@@ -23,7 +22,12 @@ use Rattle.orders.specs.declared.search.Found.TheVariants.{Place, Nothing}
 use Rattle.orders.proofs.Passing.{passes-is, first-pick, of_basis, of_status}
 use Rattle.orders.proofs.Pacing.{skips-is, none_passed, paced, pace-bound, pace-counts, pace-runs, hit-paced, tally-more, rest-is}
 use Rattle.orders.proofs.search.walk_kept.Goals as goal
-use Rattle.orders.proofs.search.walk_kept.Goals.{After-fillings_of-each, After-pace_of-pace}
+use Rattle.orders.proofs.search.walk_kept.Goals.{
+  After-fillings_of-each,
+  After-pace_of-pace,
+  else-statuses-test,
+  then-statuses-test+then-bases-test+then-documents-test+then-days-test+then-kept4,
+}
 use Rattle.orders.proofs.search.walk_kept.Invariants.{Level}
 
 -- one place more of a level, all of whose fillings have been passed
@@ -46,48 +50,18 @@ adds : (c : After-pace_of-pace)
     → let p = c.pace_of-pace.result in (p.fillings + p.bases * of_basis ≤ of_status) × (p.statuses ≤ 1) × (p.bases ≤ basis_count)
 adds c = pace-bound _ _ _ _ c.pace_of-pace.ensures c.fillings_of-each.ensures.1 c.width_of-n106.ensures.1
 
--- where the loops have been left: at the end of the outermost, or by the label, through the four levels
-outcome : (c : tie.Left-statuses invariant-days decreases-days invariant-documents decreases-documents invariant-bases decreases-bases invariant-statuses decreases-statuses)
-    → (D : Dates) (u : Sheet) → Payment D c.args.f u
-    → cond c.statuses-test.found (Place c.statuses-test.count c.statuses-test.pick c.statuses-test.skipped) (Nothing c.statuses-test.count c.statuses-test.skipped) ≡ found_of D u
-unfolding found_of look
-outcome c D u o =
-    let v = c.statuses in
-    let (l, i, s) = v.invariant in
-    let a = v.a in
-    let wide = c.statuses_of-n101.ensures.0 D u o.read in
-    let w = widths c.before.before D u o.read in
-    let first = first-pick D u _ _ _ _ wide w.0 w.1 w.2 in
-    ⊎_elim
-    (λ q.
-    let z : a ≡ width (blank (text_of u 6)) (status_count D) = omega (arith, l.0, q.0.left, wide) in
-    rw (q.4, l.3)
-    ((λ i. Nothing (q.1 i) ((q.2 ∙ s D u o ∙ ap (λ (k : ℕ). tally (skips D u) (places k 0)) z) i))
-    ∙ sym (ap (found_by (skips D u) (width (blank (text_of u 6)) (status_count D))) (first ∙ (all (l.2 D u o) q.0.left).on []))))
-    (λ q.
-    let r = pace-runs _ _ _ _ _ q.3.ensures q.7.taken in
-    let ok =
-    passes-is _ _ _ _ _ a q.6.b q.10.c q.14.d _ _ _ _ _ c.requires
-    q.1.ensures.0 q.2.ensures.0 q.8.ensures.0 q.9.ensures.0 q.12.ensures.0 q.13.ensures.0 q.16.ensures.0 q.17.ensures.0 D u o in
-    let hit4 = hit (q.14.inv.2 D u o) q.15.taken (one_hit (passes_at D u) q.14.count (a ∷ q.6.b ∷ q.10.c ∷ q.14.d ∷ []) (sym ok ∙ q.18.taken)) in
-    let hit2 = hit (q.6.inv.2 D u o) q.7.taken (hit (q.10.inv.2 D u o) q.11.taken hit4) in
-    let hit1 = hit (l.2 D u o) q.0.taken (hit-paced (λ (t : List ℕ). a ∷ t) _ _ _ v.count _ _ q.3.result r.1 r.3 hit2) in
-    let more = tally-more (skips D u) a v.skipped _ _ (s D u o) (pace-counts _ _ _ _ q.3.ensures) (skips-is a c.requires q.1.ensures.0 q.2.ensures.0 D u o) in
-    rw q.22 ((λ i. Place (q.19 i) (q.21 i) ((q.20 ∙ more) i)) ∙ sym (ap (found_by (skips D u) (width (blank (text_of u 6)) (status_count D))) (first ∙ hit1.ends []))))
-    c.statuses-test.branch
-
 pub statuses-init : goal.statuses-init
 unfolding places
 statuses-init c = ((omega arith, omega arith, λ D u o. left-none, refl, c.statuses_of-n101.ensures.1), omega arith, λ D u o. refl)
 
 pub overflow_add-count : goal.overflow_add-count
-overflow_add-count c = omega (arith, (adds c.before).0, c.statuses.invariant.0.1, c.statuses.invariant.0.4, c.statuses-test.true)
+overflow_add-count c = omega (arith, (adds (goal.at.overflow_add-count c).After-pace_of-pace).0, c.statuses.invariant.0.1, c.statuses.invariant.0.4, c.statuses-test.true)
 
 pub overflow_add-skipped : goal.overflow_add-skipped
-overflow_add-skipped c = omega (arith, (adds c.before.before).1, c.statuses.invariant.1, c.statuses.invariant.0.4, c.statuses-test.true)
+overflow_add-skipped c = omega (arith, (adds (goal.at.overflow_add-skipped c).After-pace_of-pace).1, c.statuses.invariant.1, c.statuses.invariant.0.4, c.statuses-test.true)
 
 pub bases-init : goal.bases-init
-bases-init c = let p = adds c.before.before in let i = c.statuses.invariant.0 in (omega arith, omega (arith, i.1, p.0), λ D u o. left-none, i.3, p.2)
+bases-init c = let p = adds (goal.at.bases-init c).After-pace_of-pace in let i = c.statuses.invariant.0 in (omega arith, omega (arith, i.1, p.0), λ D u o. left-none, i.3, p.2)
 
 pub documents-init : goal.documents-init
 documents-init c = let i = c.bases.invariant in (omega arith, omega (arith, i.1), λ D u o. left-none, i.3, c.width_of-n108.ensures.1)
@@ -129,18 +103,57 @@ statuses-preserved c =
     let e = c.pace_of-pace.ensures in (
       again v.invariant.0 c.statuses-test.true (omega (arith, i.0, i.1, c.bases-test.false))
           (λ D u o.
-          let w = widths c.before.before.before.before.before.before.before.before.before D u o.read in
+          let w = widths (goal.at.statuses-preserved c).After-fillings_of-each D u o.read in
           paced (λ (t : List ℕ). a ∷ t) _ _ _ _ v.count _ _ _ e
           (c.fillings_of-each.ensures.0 D u o.read ∙ ap length (rest-is u _ _ _ w.0 w.1 w.2))
           (none_passed a c.requires c.fill_status-f1.ensures.0 c.kept_status-kept1.ensures.0 D u o)
           (all (i.2 D u o) c.bases-test.false))
           i.3,
-      omega (arith, v.invariant.1, (adds c.before.before.before.before).1),
+      omega (arith, v.invariant.1, (adds (goal.at.statuses-preserved c).After-pace_of-pace).1),
       λ D u o. tally-more (skips D u) a v.skipped _ _ (v.invariant.2 D u o) (pace-counts _ _ _ _ e) (skips-is a c.requires c.fill_status-f1.ensures.0 c.kept_status-kept1.ensures.0 D u o),
     )
 
+-- the loops have been left by the label, through the four levels
 pub returns-then-found : goal.returns-then-found
-returns-then-found c D u o = rw c.if-found.true at (outcome c.before D u o)
+unfolding found_of look
+returns-then-found c D u o =
+    let v = c.statuses in
+    let (l, i, s) = v.invariant in
+    let a = v.a in
+    let wide = c.statuses_of-n101.ensures.0 D u o.read in
+    let w = widths (goal.at.returns-then-found c).After-fillings_of-each D u o.read in
+    let first = first-pick D u _ _ _ _ wide w.0 w.1 w.2 in
+    elim c.statuses-test.branch [
+      | else-statuses-test q ↦ absurd (true≢false (sym c.if-found.true ∙ q.found-is ∙ l.3))
+      | then-statuses-test+then-bases-test+then-documents-test+then-days-test+then-kept4 q ↦
+          let b = q.bases.b in
+          let k = q.documents.c in
+          let d = q.days.d in
+          let r = pace-runs _ _ _ _ _ q.pace_of-pace.ensures q.bases-test.true in
+          let ok =
+          passes-is _ _ _ _ _ a b k d _ _ _ _ _ c.requires
+          q.fill_status-f1.ensures.0 q.kept_status-kept1.ensures.0 q.fill_basis-f2.ensures.0 q.kept_basis.ensures.0
+          q.fill_document-f3.ensures.0 q.kept_document.ensures.0 q.fill_day-f4.ensures.0 q.kept_day.ensures.0 D u o in
+          let hit4 = hit (q.days.invariant.2 D u o) q.days-test.true (one_hit (passes_at D u) q.days.count (a ∷ b ∷ k ∷ d ∷ []) (sym ok ∙ q.if-kept4.true)) in
+          let hit2 = hit (q.bases.invariant.2 D u o) q.bases-test.true (hit (q.documents.invariant.2 D u o) q.documents-test.true hit4) in
+          let hit1 = hit (l.2 D u o) q.statuses-test.true (hit-paced (λ (t : List ℕ). a ∷ t) _ _ _ v.count _ _ q.pace_of-pace.result r.1 r.3 hit2) in
+          let more = tally-more (skips D u) a v.skipped _ _ (s D u o) (pace-counts _ _ _ _ q.pace_of-pace.ensures) (skips-is a c.requires q.fill_status-f1.ensures.0 q.kept_status-kept1.ensures.0 D u o) in
+          (λ i. Place (q.count-is i) (q.pick-is i) ((q.skipped-is ∙ more) i)) ∙ sym (ap (found_by (skips D u) (width (blank (text_of u 6)) (status_count D))) (first ∙ hit1.ends []))
+    ]
 
+-- the outermost loop has been left at its end
 pub returns : goal.returns
-returns c D u o = rw c.if-found.false at (outcome c.before D u o)
+unfolding found_of look
+returns c D u o =
+    let (l, i, s) = c.statuses.invariant in
+    let a = c.statuses.a in
+    let wide = c.statuses_of-n101.ensures.0 D u o.read in
+    let w = widths (goal.at.returns c).After-fillings_of-each D u o.read in
+    let first = first-pick D u _ _ _ _ wide w.0 w.1 w.2 in
+    elim c.statuses-test.branch [
+      | else-statuses-test q ↦
+          let z : a ≡ width (blank (text_of u 6)) (status_count D) = omega (arith, l.0, q.statuses-test.false, wide) in
+          (λ i. Nothing (q.count-is i) ((q.skipped-is ∙ s D u o ∙ ap (λ (k : ℕ). tally (skips D u) (places k 0)) z) i))
+          ∙ sym (ap (found_by (skips D u) (width (blank (text_of u 6)) (status_count D))) (first ∙ (all (l.2 D u o) q.statuses-test.false).on []))
+      | then-statuses-test+then-bases-test+then-documents-test+then-days-test+then-kept4 q ↦ absurd (true≢false (sym q.found-is ∙ c.if-found.false))
+    ]
