@@ -11,14 +11,11 @@ loop-from-init c = (omega arith, omega arith, omega arith, refl, refl, telling-n
 
 pub put_message_line-at-requires : goal.put_message_line-at-requires
 put_message_line-at-requires c =
-    
     let i = c.loop-from.invariant in
-    (omega (arith, i.2, c.loop-from-test.true), omega (arith, i.1, i.3, c.loop-from-test.true))
+    record { number_bound = omega (arith, i.2, c.loop-from-test.true); at_in_bounds = omega (arith, i.1, i.3, c.loop-from-test.true) }
 
 pub returns-then-ends_stream : goal.returns-then-ends_stream
 returns-then-ends_stream c =
-    
-    
     let i = c.loop-from.invariant in
     let w = c.put_message_line-at.ensures in
     telling-last _ _ c.loop-from-test.true _ _ c.part.ensures c.piece-message.ensures _ c.ends_stream.ensures _ _ _ _ _ _ _ _ _ i.5 c.post-posted.ensures w.0
@@ -27,7 +24,6 @@ returns-then-ends_stream c =
 -- the next message begins within the input, and behind this one
 pub overflow_add-from : goal.overflow_add-from
 overflow_add-from c =
-    
     let s = stream-within _ _ c.loop-from-test.true _ _ c.part.ensures c.piece-message.ensures in
     omega arith
 
@@ -36,8 +32,6 @@ loop-from-smaller c = stream-less _ _ c.loop-from-test.true _ _ c.part.ensures c
 
 pub loop-from-preserved : goal.loop-from-preserved
 loop-from-preserved c =
-    
-    
     let i = c.loop-from.invariant in
     let w = c.put_message_line-at.ensures in
     let s = stream-within _ _ c.loop-from-test.true _ _ c.part.ensures c.piece-message.ensures in
