@@ -43,8 +43,9 @@ lib: $(LIB) $(SHARED)
 
 # rt names the archive for the crate; its functions get the major version into their names.
 $(LIB): $(CRATES) tools/mark bindings/rust/Cargo.toml
-	@./tools/prove staticlib capi
-	@./tools/mark $(MAJOR) target/staticlib/libcapi.a $@
+	@./tools/prove lib capi
+	@mkdir -p $(dir $@)
+	@./tools/mark $(MAJOR) crates/capi/out/libcapi.a $@
 
 # The documented functions alone are exported.
 $(SHARED): $(LIB) bindings/c/exports.map
@@ -79,9 +80,11 @@ uninstall:
 	rm -f "$(into)/include/kieselbrot.h" "$(into)/include/kieselbrot_words.h" "$(into)/lib/pkgconfig/kieselbrot.pc"
 	rm -f "$(into)/bin/kieselbrot" "$(into)/share/man/man1/kieselbrot.1"
 
+# The program. rt run proves and builds it, and runs it once, on no input.
 target/bin/budgetorder: $(CRATES)
-	@./tools/prove check budgetorder
-	@touch $@
+	@./tools/prove run budgetorder
+	@mkdir -p $(dir $@)
+	@cp crates/budgetorder/out/budgetorder $@
 
 #: make fuzz      the library against the second implementation on N=20000000 generated cases
 # The library against the second implementation on N generated cases.

@@ -1,17 +1,15 @@
 -- What asking for an entry of a list returned.
-use mathlib.Core.Path.{◌≡◌, refl, sym, ap, ◌∙◌}
-use mathlib.Core.Bool.{Bool, true, false, cond}
-use mathlib.Core.List.{List, [], ◌∷◌}
-use Prim.Native.Nat.{ℕ, ◌≤◌}
-use lib.ListN.{length, get_or, take}
-use Rattle.texts.specs.Answers.{Answer, success, refusal, Test, test, answer_by}
-use Rattle.texts.specs.declared.answers.Refusal.{Refusal}
+use mathlib.Core.Path.{◌≡◌, sym, ap, ◌∙◌}
+use mathlib.Core.List.{[]}
+use Prim.Native.Nat.{ℕ}
+use lib.ListN.{get_or}
+use Rattle.texts.specs.Answers.{success}
 use Rattle.sheets.specs.Sheet.{slot_of}
 use Rattle.sheets.specs.declared.dates.Dates.{Dates}
-use Rattle.orders.specs.Entry.{list_for, entry_tests, listing, row_text, text_row, entry_answer, Lists}
+use Rattle.orders.specs.Entry.{list_for, entry_tests, listing, row_text, entry_answer, Lists}
 use Rattle.orders.specs.declared.entry.Row.{Row}
 use Rattle.orders.specs.declared.entry.Listed.{Listed}
-use Rattle.orders.specs.declared.entry.Listed.TheVariants.{Entry, Nothing, Refused}
+use Rattle.orders.specs.declared.entry.Listed.TheVariants.{Entry}
 use Rattle.orders.proofs.Listing.{at_most_two, row-text}
 use Rattle.capi.specs.Numbers.{numbered}
 use Rattle.capi.specs.Entry.{entry_numbers, entry_of, EntryReturns}

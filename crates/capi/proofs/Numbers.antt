@@ -7,7 +7,7 @@ use native.Mathlib.Omega.{arith}
 use borrow.Author.Tests.{ltb-true, ltb-false, lt-ltb, le-ltb}
 use lib.Dec.{ltb, eqb}
 use lib.IntN.{ℤ, pos, negsuc, sub_ℕ}
-use lib.ListN.{length, take, drop}
+use lib.ListN.{length, drop}
 use lib.Seq.{take_all}
 use Rattle.texts.specs.Texts.{between, same}
 use Rattle.texts.specs.Answers.{Answer, success, refusal, number_of, Test, test, answer_by}
@@ -35,7 +35,6 @@ use Rattle.drafts.specs.declared.draft.Posted.{Posted}
 use Rattle.drafts.specs.declared.draft.Copied.{Copied}
 use Rattle.drafts.proofs.Messages.{readable-means, reading-is, text_at, text-length}
 use Rattle.orders.specs.Complete.{complete_answer, sheet_tests, complete_tests, completing, completed}
-use Rattle.orders.specs.Whole.{Completes}
 use Rattle.orders.specs.Skipping.{skipped_of, with_skipped, quickening, quick_answer, Quickens}
 use Rattle.orders.specs.declared.quick.Quickened.{Quickened}
 use Rattle.drafts.specs.Draft.{draft_sheet}

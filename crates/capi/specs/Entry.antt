@@ -1,8 +1,8 @@
 -- An entry of a field's list, as the numbers that a caller in C reads, and what the contract promises.
-use Rattle.std.specs.Prelude.{◌≡◌, List, [], ◌∷◌, ℕ, ◌<◌, ◌≤◌, length, get_or, take}
+use Rattle.std.specs.Prelude.{◌≡◌, List, [], ◌∷◌, ℕ, length, get_or, take}
 use Rattle.texts.specs.Answers.{Answer, success, refusal}
 use Rattle.sheets.specs.declared.dates.Dates.{Dates}
-use Rattle.orders.specs.Entry.{list_for, listing}
+use Rattle.orders.specs.Entry.{listing}
 use Rattle.capi.specs.Numbers.{numbered}
 use Rattle.capi.specs.declared.Entry.{Entry}
 

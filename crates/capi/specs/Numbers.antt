@@ -1,5 +1,5 @@
 -- Document 01's answers as the numbers that a caller in C reads (`..Numbers`), and the answer that such numbers stand for (`..Of`).
-use Rattle.std.specs.Prelude.{cond, List, [], ◌∷◌, ℕ, eqb, ℤ, pos, length, get_or}
+use Rattle.std.specs.Prelude.{cond, List, [], ◌∷◌, ℕ, eqb, pos, length, get_or}
 use Rattle.std.proofs.Math.IntN.{sub_ℕ}
 use Rattle.texts.specs.Quoted.{Text, bytes}
 use Rattle.texts.specs.Texts.{◌is◌}

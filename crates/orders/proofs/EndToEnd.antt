@@ -14,7 +14,7 @@ use Rattle.drafts.specs.Revision.{client, adviser, ◌by◌}
 use Rattle.drafts.specs.Message.{message_of}
 use Rattle.drafts.specs.Draft.{draft_formed, draft_sheet}
 use Rattle.drafts.specs.History.{posted_all}
-use Rattle.sheets.specs.Dates.{texts_in, dates_fit, program_dates}
+use Rattle.sheets.specs.Dates.{dates_fit, program_dates}
 use Rattle.fillings.specs.Fillings as of
 use Rattle.fillings.specs.Filled as set
 use Rattle.fillings.specs.Filled.{tally}

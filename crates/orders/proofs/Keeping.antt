@@ -1,7 +1,7 @@
 -- Entries put into a sheet leave its other fields. The fillings of a sheet are what its picks make of the base, so that the first pick
 -- that passes makes the first filling that keeps all rules.
 use mathlib.Core.Path.{◌≡◌, refl, sym, ap, ◌∙◌, subst}
-use mathlib.Core.Bool.{Bool, true, false, cond}
+use mathlib.Core.Bool.{Bool, false, cond}
 use mathlib.Core.List.Memᴰ
 use mathlib.Core.List.{List, [], ◌∷◌, map, map_congr_left, Memᴰ}
 use Prim.Native.Nat.{ℕ}
@@ -28,7 +28,7 @@ use Rattle.fillings.proofs.Cells.{Cells, Fit, fill_cells, joined-cells, sized-ce
 use Rattle.fillings.proofs.EveryFilling.{of-filling}
 use Rattle.fillings.proofs.Linking.{pick_cell}
 use Rattle.fillings.proofs.Looking.{look-map}
-use Rattle.orders.specs.Fillings.{list_of, to_fill, Filling, fillings, first_filling}
+use Rattle.orders.specs.Fillings.{list_of, Filling, fillings, first_filling}
 use Rattle.orders.specs.Working.Search.{passes_at, picks, first_pick}
 use Rattle.orders.specs.Working.Quick.{with_status}
 use Rattle.orders.specs.Working.Entering.{zero_entries, base_of, pick_entries, picked_of, varying}

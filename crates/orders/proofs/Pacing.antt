@@ -27,7 +27,7 @@ use Rattle.fillings.specs.Working.Places.{places}
 use Rattle.fillings.proofs.EveryFilling.{length-places}
 use Rattle.fillings.proofs.Counting.{length-product}
 use Rattle.fillings.proofs.Looking.{none-look}
-use Rattle.fillings.proofs.Levels.{Picks, Passed, Hit, over-passed}
+use Rattle.fillings.proofs.Levels.{Passed, Hit, over-passed}
 use Rattle.orders.specs.Working.Entering.{picked_of}
 use Rattle.orders.specs.Working.Search.{passes_at, picks, first_pick, Payment}
 use Rattle.orders.specs.Working.Quick.{with_status, early_rules, skips, rest_picks}

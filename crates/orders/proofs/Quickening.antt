@@ -32,7 +32,6 @@ use Rattle.orders.specs.Working.Quick.{skips}
 use Rattle.orders.specs.declared.search.Pick.{Pick}
 use Rattle.orders.specs.declared.search.Found.{Found}
 use Rattle.orders.specs.declared.search.Found.TheVariants.{Place, Nothing}
-use Rattle.orders.specs.declared.complete.Completed.{Completed}
 use Rattle.orders.specs.declared.complete.Completed.TheVariants.{Filled, Impossible, Broken, Refused}
 use Rattle.orders.proofs.Completing.{Prepared, payment-is, refused-10, filled-first}
 use Rattle.orders.proofs.Keeping.{picked-alike, base-length}

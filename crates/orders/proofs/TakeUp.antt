@@ -45,7 +45,7 @@ use Rattle.fillings.specs.Fillings as of
 use Rattle.orders.specs.Fillings.{lists, list_of, to_fill, Filling}
 use Rattle.orders.specs.Complete.{completing, completed}
 use Rattle.orders.specs.Again.{CompletesAgain}
-use Rattle.orders.specs.TakeUp.{in_set, greatest, fit, spared, set_places, first_unfit, take_tests, next, proposal, proposals, taking, taken_into, take_answer, TakesUp}
+use Rattle.orders.specs.TakeUp.{in_set, greatest, fit, spared, first_unfit, take_tests, next, proposal, proposals, taking, taken_into, take_answer, TakesUp}
 use Rattle.orders.specs.declared.take_up.TakenUp.{TakenUp}
 use Rattle.orders.specs.declared.take_up.TakenUp.TheVariants.{Made, Unfit, Refused}
 use Rattle.orders.specs.Working.Upto.{FirstUnfit, Postable}

@@ -2,7 +2,7 @@
 use mathlib.Core.Path.{◌≡◌, refl, sym, ap, ◌∙◌, subst}
 use mathlib.Core.Bool.{Bool, true, false, cond, ◌&&◌, ◌||◌, and-false, false≢true}
 use mathlib.Core.List.{List, [], ◌∷◌, ◌++◌, map, Memᴰ}
-use Prim.Native.Nat.{ℕ, ◌<◌, ◌≤◌, max}
+use Prim.Native.Nat.{ℕ, ◌<◌, max}
 use native.Mathlib.Omega.{arith}
 use borrow.Author.Tests.{lt-ltb, le-ltb}
 use lib.Dec.{ltb}
@@ -10,13 +10,13 @@ use lib.ListN.{length}
 use Rattle.texts.specs.Texts.{any}
 use Rattle.texts.specs.Answers.{success}
 use Rattle.texts.proofs.Refusals.{unchanged}
-use Rattle.sheets.specs.Sheet.{slot_count, slot_of, cell, cell_text, cell_of, text_of, sheet_size}
+use Rattle.sheets.specs.Sheet.{slot_count, cell, cell_text, cell_of, text_of, sheet_size}
 use Rattle.sheets.specs.declared.dates.Dates.{Dates}
 use Rattle.sheets.proofs.Frames.{text-cell}
 use Rattle.rules.specs.Rules.{keeps_all}
 use Rattle.drafts.specs.Revision.{◌below◌}
-use Rattle.drafts.specs.Message.{message_field, revision_of, message_text, readable}
-use Rattle.drafts.specs.Draft.{slot_in, slot_cell, slot_revision, slot_with, rank_of, draft_formed, draft_sheet}
+use Rattle.drafts.specs.Message.{revision_of, message_text}
+use Rattle.drafts.specs.Draft.{slot_in, slot_cell, slot_revision, slot_with, rank_of, draft_sheet}
 use Rattle.drafts.specs.History.{posted_from, names, rank_in, highest, first_of}
 use Rattle.drafts.specs.Working.Steps.{slot_rank}
 use Rattle.drafts.proofs.Messages.{small, text-short, party-known}
@@ -26,7 +26,6 @@ use Rattle.drafts.proofs.DraftSheets.{length-sheet, sheet-cell}
 use Rattle.drafts.proofs.Reaching.{messages_in, reached}
 use Rattle.drafts.proofs.EndSlots.{named, ranked, posted-list, top-at, bound}
 use Rattle.fillings.specs.Fillings as of
-use Rattle.fillings.specs.Working.Taken.{Taken}
 use Rattle.fillings.proofs.First.{found_first}
 use Rattle.orders.specs.Fillings.{list_of, to_fill}
 use Rattle.orders.specs.Complete.{complete_answer, complete_tests, completing, completed}

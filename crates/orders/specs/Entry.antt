@@ -2,7 +2,6 @@
 use Rattle.std.specs.Prelude.{◌≡◌, ◌↔◌, true, false, not, List, [], ◌∷◌, ℕ, ◌<◌, ◌≤◌, eqb, length, get_or, take}
 use Rattle.texts.specs.Quoted.{Text}
 use Rattle.texts.specs.Answers.{Answer, success, refusal, Test, ◌refuses◌, answer_by}
-use Rattle.texts.specs.declared.answers.Refusal.{Refusal}
 use Rattle.sheets.specs.Sheet.{slot_count, slot_of}
 use Rattle.sheets.specs.Dates.{dates_fit}
 use Rattle.sheets.specs.declared.dates.Dates.{Dates}

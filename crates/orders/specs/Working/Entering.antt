@@ -5,7 +5,7 @@ use Rattle.sheets.specs.Sheet.{cell}
 use Rattle.sheets.specs.Lists.{basis_texts, zero_texts}
 use Rattle.sheets.specs.Dates.{status_texts}
 use Rattle.sheets.specs.declared.dates.Dates.{Dates}
-use Rattle.fillings.specs.Working.Entering.{Entry, filled_with, slots_of}
+use Rattle.fillings.specs.Working.Entering.{Entry, filled_with}
 
 -- a table's row as a cell
 abbrev pub row_cell : List ℕ → List ℕ

@@ -17,7 +17,7 @@ pub fn path() -> PathBuf {
     let path = env::var_os("KIESELBROT_PROGRAM").map_or(BUILT.into(), PathBuf::from);
     assert!(
         path.is_file(),
-        "the program is missing: {}. `rt check budgetorder` builds it; KIESELBROT_PROGRAM gives another place",
+        "the program is missing: {}. `make target/bin/budgetorder` builds it; KIESELBROT_PROGRAM gives another place",
         path.display()
     );
     path

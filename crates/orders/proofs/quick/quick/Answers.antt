@@ -2,7 +2,6 @@ use borrow.Author.Rules.{rules}
 use mathlib.Core.Path.{◌≡◌, refl, sym, ◌∙◌}
 use mathlib.Core.Bool.{true}
 use lib.ListN.{length}
-use borrow.Author.Tests.{not-false}
 use Rattle.texts.proofs.Refusals.{tested}
 use Rattle.sheets.specs.Dates.{dates_fit}
 use Rattle.orders.specs.Complete.{complete_answer, complete_tests}
@@ -13,17 +12,11 @@ use Rattle.orders.proofs.quick.quick.Goals.{After-broken_basic-broken}
 
 -- what is known once rules 1 to 3 were tested
 fit : (c : After-broken_basic-broken) → let a = c.args in (length a.sheet.now ≡ 390) × (dates_fit a.dates ≡ true)
-fit c = (c.if-sheet-ne-SHEET_SIZE.false, sym c.are_fit.ensures ∙ not-false _ c.if-not-are_fit.false-raw)
+fit c = (c.if-sheet-ne-SHEET_SIZE.false, sym c.are_fit.ensures ∙ c.if-not-are_fit.false)
 
-begun : (c : After-broken_basic-broken) → let a = c.args in Prepared a.dates a.draft.now c.put_sheet.new.1.0 c.fill_zeros.new.0 c.facts_of-f.result c.broken_basic-broken.result
+begun : (c : After-broken_basic-broken) → let a = c.args in Prepared a.dates a.draft.now c.put_sheet.new.sheet c.fill_zeros.new.sheet c.facts_of-f.result c.broken_basic-broken.result
 begun c =
-    
-    
     prepared _ _ _ c.well_formed-2.ensures c.if-not-well_formed.false-raw _ _ refl c.put_sheet.ensures _ _ _ c.fill_zeros.ensures c.facts_of-f.ensures.0 c.broken_basic-broken.ensures.0
-
-pub slice_bounds-put_sheet-end : goal.slice_bounds-put_sheet-end
-unfolding complete_answer complete_tests
-slice_bounds-put_sheet-end c = search rules
 
 pub returns-then-not-well_formed : goal.returns-then-not-well_formed
 unfolding complete_answer complete_tests
@@ -37,51 +30,24 @@ pub returns-then-not-are_fit : goal.returns-then-not-are_fit
 unfolding complete_answer complete_tests
 returns-then-not-are_fit c = quick-refused (search (tested, complete-out 2))
 
-pub slice_bounds-fill_zeros-end : goal.slice_bounds-fill_zeros-end
-unfolding complete_answer complete_tests
-slice_bounds-fill_zeros-end c = search rules
-
-pub slice_bounds-facts_of-end : goal.slice_bounds-facts_of-end
-unfolding complete_answer complete_tests
-slice_bounds-facts_of-end c = search rules
-
-pub slice_bounds-field_of-end : goal.slice_bounds-field_of-end
-unfolding complete_answer complete_tests
-slice_bounds-field_of-end c = search rules
-
 pub returns-then-broken-ne0 : goal.returns-then-broken-ne0
-returns-then-broken-ne0 c = quick-broken (broken-8 _ (fit c) (begun c) _ c.if-broken-ne0.true c.field_of.ensures)
+returns-then-broken-ne0 c = let b = (goal.at.returns-then-broken-ne0 c).After-broken_basic-broken in quick-broken (broken-8 _ (fit b) (begun b) _ c.if-broken-ne0.true c.field_of.ensures)
 
 pub returns-then-not-is_budget : goal.returns-then-not-is_budget
-returns-then-not-is_budget c = quick-refused (refused-9 _ (fit c) (begun c) c.if-broken-ne0.false _ c.is_budget.ensures.0 c.if-not-is_budget.true-raw)
-
-pub enum_known-count : goal.enum_known-count
-unfolding complete_answer complete_tests
-enum_known-count c = search rules
-
-pub enum_known-count-in-Place-1 : goal.enum_known-count-in-Place-1
-unfolding complete_answer complete_tests
-enum_known-count-in-Place-1 c = search rules
+returns-then-not-is_budget c = let b = (goal.at.returns-then-not-is_budget c).After-broken_basic-broken in quick-refused (refused-9 _ (fit b) (begun b) c.if-broken-ne0.false _ c.is_budget.ensures.0 c.if-not-is_budget.true-raw)
 
 pub slice_bounds-put-end : goal.slice_bounds-put-end
-slice_bounds-put-end c =
-    
-    filled-long (begun f.before.before.before.before.before.before.before.before.before.before.before) _ _ _ c.filled_set-set.ensures c.fill_found.ensures
+slice_bounds-put-end c = filled-long (begun (goal.at.slice_bounds-put-end c).After-broken_basic-broken) _ _ _ c.filled_set-set.ensures c.fill_found.ensures
 
 pub returns-in-Nothing : goal.returns-in-Nothing
-returns-in-Nothing c =
-    
-    
-    quick-10 _ (fit c) (begun c) c.if-broken-ne0.false _ c.is_budget.ensures.0 c.if-not-is_budget.false-raw _ c.search.ensures _ _ (search rules)
-
-pub shape_of-sheet : goal.shape_of-sheet
-unfolding complete_answer complete_tests
-shape_of-sheet c = search rules
+returns-in-Nothing c = let b = (goal.at.returns-in-Nothing c).After-broken_basic-broken in quick-10 _ (fit b) (begun b) c.if-broken-ne0.false _ c.is_budget.ensures.0 c.if-not-is_budget.false-raw _ c.search.ensures _ _ (search rules)
 
 -- no `let` here: `search` looks into a bounded number of records, those of a local among them
 pub returns-in-Place : goal.returns-in-Place
 returns-in-Place c =
-    quick-filled _ (fit c.before.before.before.before.before.before.before.before.before.before.before.before.before.before.before.before) (begun c.before.before.before.before.before.before.before.before.before.before.before.before.before.before.before.before)
+    quick-filled _
+    (fit (goal.at.returns-in-Place c).After-broken_basic-broken)
+    (begun (goal.at.returns-in-Place c).After-broken_basic-broken)
     c.if-broken-ne0.false
     _
     c.is_budget.ensures.0

@@ -1,4 +1,3 @@
-use Prim.Native.Nat.{◌-◌}
 use native.Mathlib.Omega.{arith}
 use Rattle.orders.proofs.Streaming.{stream-within, streams}
 use Rattle.orders.proofs.stream.post_stream.Goals as goal
