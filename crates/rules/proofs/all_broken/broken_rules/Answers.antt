@@ -14,6 +14,5 @@ returns-then-not-are_fit c = search (breaks, breaks-out 1)
 pub returns : goal.returns
 unfolding broken_answer break_tests
 returns c =
-    
     let o = facts-read _ _ _ _ c.well_formed-2.ensures c.if-not-well_formed.false-raw c.facts_of-f.ensures.0 in
     search (breaks, breaks-out 2)

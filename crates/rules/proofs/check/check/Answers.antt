@@ -13,16 +13,12 @@ returns-then-not-are_fit c = search (checks, check-out 1)
 pub returns-then-b-ne0 : goal.returns-then-b-ne0
 unfolding verdict_answer check_tests
 returns-then-b-ne0 c =
-    
-    
     let e = first-is _ _ _ _ c.well_formed-2.ensures c.if-not-well_formed.false-raw c.facts_of-f.ensures.0 _ c.broken-b.ensures.0 in
     search (checks, check-out 2)
 
 pub returns : goal.returns
 unfolding verdict_answer check_tests
 returns c =
-    
-    
     let o = facts-read _ _ _ _ c.well_formed-2.ensures c.if-not-well_formed.false-raw c.facts_of-f.ensures.0 in
     let e = first-is _ _ _ _ c.well_formed-2.ensures c.if-not-well_formed.false-raw c.facts_of-f.ensures.0 _ c.broken-b.ensures.0 in
     search (checks, check-out 3)
