@@ -6,7 +6,9 @@ use texts::parts::part;
 
 // The numbers of the standard streams.
 const STDIN_FILENO: i32 = 0;
+
 const STDOUT_FILENO: i32 = 1;
+
 const STDERR_FILENO: i32 = 2;
 
 fn main() {

@@ -3,6 +3,8 @@
 // Assumes the contracts of libc's read and write.
 #![tactic(auto)]
 
+ghost use Rattle.std.specs.Prelude.{◌≡◌, length};
+
 use amounts::amount::Kopecks;
 use amounts::charge::{Charged, Rate, charge};
 use amounts::part::{Days, Parted};
@@ -26,6 +28,7 @@ use texts::parts::{at, part};
 
 // The numbers of the standard streams.
 const STDIN_FILENO: i32 = 0;
+
 const STDOUT_FILENO: i32 = 1;
 
 fn write_number(n: u8) {
@@ -660,8 +663,15 @@ fn run(input: &[u8]) {
     }
 }
 
+// Zeros for the input. What is promised is their number alone, which is all that main asks.
+fn zeros<const N: usize>() -> [u8; N]
+    ensures { length result ≡ N }
+{
+    [0; N]
+}
+
 fn main() {
-    let mut buffer = [0u8; 524288];
+    let mut buffer: [u8; 524288] = zeros();
     let n = io::read_full(STDIN_FILENO, &mut buffer);
     run(&buffer[..n]);
 }

@@ -50,9 +50,9 @@ loop-slot-preserved c =
     let runs = c.loop-slot-test.true in
     let step = c.wide-place-in-loop-slot.ensures in
     elim c.if-place-t.branch [
-      then-place-t+then-cell_ok w ↦ rw w.good-is (omega arith, omega arith, cells-good _ _ _ _ _ _ _ i.2 runs step (sym w.if-cell_ok.true ∙ cell-inside _ _ _ w.if-place-t.true w.cell_ok.ensures), omega (arith, step))
-    | then-place-t+else-cell_ok w ↦ rw w.good-is (omega arith, omega arith, cells-bad _ _ _ _ _ _ _ i.2 runs step i.1 (sym w.if-cell_ok.false ∙ cell-inside _ _ _ w.if-place-t.true w.cell_ok.ensures), omega (arith, step))
-    | else-place-t w ↦ rw w.good-is (omega arith, omega arith, cells-bad _ _ _ _ _ _ _ i.2 runs step i.1 (cell-past _ _ w.if-place-t.false), omega (arith, step))
+      | then-place-t+then-cell_ok w ↦ rw w.good-is (omega arith, omega arith, cells-good _ _ _ _ _ _ _ i.2 runs step (sym w.if-cell_ok.true ∙ cell-inside _ _ _ w.if-place-t.true w.cell_ok.ensures), omega (arith, step))
+      | then-place-t+else-cell_ok w ↦ rw w.good-is (omega arith, omega arith, cells-bad _ _ _ _ _ _ _ i.2 runs step i.1 (sym w.if-cell_ok.false ∙ cell-inside _ _ _ w.if-place-t.true w.cell_ok.ensures), omega (arith, step))
+      | else-place-t w ↦ rw w.good-is (omega arith, omega arith, cells-bad _ _ _ _ _ _ _ i.2 runs step i.1 (cell-past _ _ w.if-place-t.false), omega (arith, step))
     ]
 
 pub returns : goal.returns

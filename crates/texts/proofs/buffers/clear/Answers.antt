@@ -13,7 +13,6 @@ loop-i-init c = (omega arith, refl, refl)
 
 pub loop-i-preserved : goal.loop-i-preserved
 loop-i-preserved c =
-    
     let d = c.args.dst.now in
     (omega arith, rw c.loop-i.invariant.1 (fill_more c.loop-i.i 0 d (omega arith)), simp length-set (omega arith))
 
@@ -23,7 +22,6 @@ shape_of-dst c = c.loop-i.invariant.2
 pub returns : goal.returns
 unfolding zeroed
 returns c =
-    
     let d = c.args.dst.now in
     let e : c.loop-i.i ≡ length d = omega arith in
     c.loop-i.invariant.1 ∙ rw (e, drop-length, append-nil)

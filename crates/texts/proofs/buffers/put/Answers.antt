@@ -13,7 +13,6 @@ loop-j-init c = let a = c.args in (omega arith, paste-zero a.dst.now a.at a.src.
 
 pub loop-j-preserved : goal.loop-j-preserved
 loop-j-preserved c =
-    
     let a = c.args in
     let step = paste-suc a.dst.now a.at a.src.now c.loop-j.j 0 (omega arith) (omega arith) in
     (omega arith, rw (c.loop-j.invariant.1, add-one) step, simp length-set (omega arith))
@@ -24,7 +23,6 @@ shape_of-dst c = c.loop-j.invariant.2
 pub returns-after-loop-j : goal.returns-after-loop-j
 unfolding put
 returns-after-loop-j c =
-    
     let a = c.args in
     let e : c.loop-j.j ≡ length a.src.now = omega arith in
     rw (c.loop-j.invariant.1, e, put-fits a.dst.now a.at a.src.now (omega arith), take-length)
