@@ -5,7 +5,7 @@ use Prim.Native.Nat.{ℕ}
 use Rattle.sheets.specs.declared.dates.Dates.{Dates}
 use Rattle.drafts.specs.Draft.{draft_sheet}
 use Rattle.drafts.specs.Promises.{Postings}
-use Rattle.drafts.proofs.Arrangements.{held_by}
+use Rattle.drafts.proofs.Held.{held_by}
 use Rattle.orders.specs.Fillings.{first_filling}
 use Rattle.orders.specs.Complete.{completing, completed}
 use Rattle.orders.specs.Whole.{Whole}
