@@ -15,12 +15,11 @@ use Rattle.texts.proofs.Bools.{cases}
 use Rattle.sheets.specs.Sheet.{fields, slot_count}
 use Rattle.drafts.specs.Message.{party_of, message_field, message_text, readable}
 use Rattle.drafts.specs.Draft.{slot_size, draft_size, slot_in, rank_of}
-use Rattle.drafts.specs.History.{posted_all, names, rank_in, highest, first_of, end_slot, AllBytes, NoClash, Distinct, those, is_of, WroteAlone}
-use Rattle.drafts.specs.Promises.{Postings, Held}
+use Rattle.drafts.specs.History.{names, rank_in, highest, first_of, end_slot, NoClash, Distinct, those, is_of, WroteAlone}
 use Rattle.drafts.proofs.Messages.{readable-means, slotted}
-use Rattle.drafts.proofs.Slots.{at_slot, formed-by}
+use Rattle.drafts.proofs.Slots.{at_slot}
 use Rattle.drafts.proofs.Ranks.{with-same, rank-equal}
-use Rattle.drafts.proofs.EndSlots.{named, unranked, ranked, top, top-at, all-formed, all-slot, ends-right}
+use Rattle.drafts.proofs.EndSlots.{named, unranked, ranked, top, top-at}
 
 -- ---- a draft is its slots
 
@@ -35,7 +34,7 @@ slots-ext d e ld le h =
 
 -- ---- lists that are arrangements of one another
 
-perm-mem : {a : List ℕ} {ms ns : List (List ℕ)} → Permᴰ ms ns → Memᴰ a ms → Memᴰ a ns
+pub perm-mem : {a : List ℕ} {ms ns : List (List ℕ)} → Permᴰ ms ns → Memᴰ a ms → Memᴰ a ns
 perm-mem Permᴰ.nil h = h
 perm-mem (Permᴰ.cons e p) (Memᴰ.head q) = Memᴰ.head (q ∙ e)
 perm-mem (Permᴰ.cons e p) (Memᴰ.tail q) = Memᴰ.tail (perm-mem p q)
@@ -62,7 +61,7 @@ top-found i ms h =
       sym r ∙ w.rank,
     )
 
-end-perm : (ms ns : List (List ℕ)) → NoClash ms → Permᴰ ms ns → (i : ℕ) → end_slot i ms ≡ end_slot i ns
+pub end-perm : (ms ns : List (List ℕ)) → NoClash ms → Permᴰ ms ns → (i : ℕ) → end_slot i ms ≡ end_slot i ns
 unfolding end_slot
 end-perm ms ns agree p i =
     let e : highest i ms ≡ highest i ns = highest-perm i p in
@@ -78,14 +77,14 @@ end-perm ms ns agree p i =
 
 -- ---- the premise is true of lists
 
-single-agrees : (m : List ℕ) → NoClash (m ∷ [])
+pub single-agrees : (m : List ℕ) → NoClash (m ∷ [])
 single-agrees m a b p q ra rb f r = ap message_text (Memᴰ.eq_of_singleton p ∙ sym (Memᴰ.eq_of_singleton q))
 
 place_in : {a : List ℕ} {ms : List (List ℕ)} → Memᴰ a ms → (k : ℕ) × (k < length ms) × (get_or ms k [] ≡ a)
 place_in (Memᴰ.head e) = (0, omega arith, sym e)
 place_in (Memᴰ.tail m) = let (k, l, e) = place_in m in (suc k, omega arith, e)
 
-distinct-agree : (ms : List (List ℕ)) → Distinct ms → NoClash ms
+pub distinct-agree : (ms : List (List ℕ)) → Distinct ms → NoClash ms
 distinct-agree ms D a b p q ra rb f r =
     let (i, il, ei) = place_in p in
     let (j, jl, ej) = place_in q in
@@ -109,7 +108,7 @@ those-named i (m ∷ ms) =
     (λ t. rw t (ap (max (rank_in i m)) p.0, λ r h. ap (cond (eqb (rank_in i m) r) m) (p.1 r h)))
     (λ f. let z = unranked i m f in rw (f, z) (omega (arith, p.0), λ r h. rw (ne_eqb 0 r (λ e. omega arith)) (p.1 r h)))
 
-end-named : (i : ℕ) (ms : List (List ℕ)) → end_slot i (those (names i) ms) ≡ end_slot i ms
+pub end-named : (i : ℕ) (ms : List (List ℕ)) → end_slot i (those (names i) ms) ≡ end_slot i ms
 unfolding end_slot
 end-named i ms =
     let p = those-named i ms in
@@ -119,7 +118,7 @@ end-named i ms =
     ]
 
 -- where one party alone names a field, these are among its own
-named-alone : (p i : ℕ) (ms : List (List ℕ)) → WroteAlone p i ms → those (names i) (those (is_of p) ms) ≡ those (names i) ms
+pub named-alone : (p i : ℕ) (ms : List (List ℕ)) → WroteAlone p i ms → those (names i) (those (is_of p) ms) ≡ those (names i) ms
 unfolding is_of
 named-alone p i [] w = refl
 named-alone p i (m ∷ ms) w =
@@ -129,29 +128,3 @@ named-alone p i (m ∷ ms) w =
     let o : is_of p m ≡ true = rw (named i m t).0 (eq-eqb (party_of m) p (w m (Memᴰ.head refl) t)) in
     rw (o, t) (ap (λ (x : List (List ℕ)). m ∷ x) q))
     (λ f. cases (is_of p m) (λ o. rw (o, f) q) (λ o. rw (o, f) q))
-
--- the first half of demand 3
-pub held_by : (ms : List (List ℕ)) (d : List ℕ) → Postings ms d → Held ms d
-held_by ms d L =
-    let b = L.strings in
-    rw L.draft
-    (record {
-      formed = formed-by (posted_all ms) (all-formed ms b);
-      slot = all-slot ms b;
-      ends = λ i l. rw (all-slot ms b i l) (ends-right i ms);
-      arranged =
-          λ agree ns p.
-          let c : AllBytes ns = λ m h. b m (perm-mem (Permᴰ.symm p) h) in
-          slots-ext (posted_all ns) (posted_all ms) (all-formed ns c).sized (all-formed ms b).sized
-          (λ i l. all-slot ns c i l ∙ sym (end-perm ms ns agree p i) ∙ sym (all-slot ms b i l));
-      single = single-agrees;
-      distinct = distinct-agree ms;
-      named = λ i l ns c e. alike-by i l ns c e;
-      alone =
-          λ p i l w ns c x e.
-          alike-by i l ns c (sym (named-alone p i ns x) ∙ ap (those (names i)) e ∙ named-alone p i ms w);
-    })
-  where
-    alike-by : (i : ℕ) → i < slot_count → (ns : List (List ℕ)) → AllBytes ns → those (names i) ns ≡ those (names i) ms → slot_in (posted_all ns) i ≡ slot_in (posted_all ms) i
-    alike-by i l ns c e =
-        all-slot ns c i l ∙ sym (end-named i ns) ∙ ap (end_slot i) e ∙ end-named i ms ∙ sym (all-slot ms L.strings i l)

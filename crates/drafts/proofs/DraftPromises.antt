@@ -4,31 +4,31 @@ use mathlib.Core.Logic.{◌↔◌, ⊎_elim}
 use mathlib.Core.Bool.{Bool, true, false, cond, not, ◌&&◌, true≢false}
 use mathlib.Core.List.Memᴰ
 use mathlib.Core.List.{List, [], ◌∷◌, ◌++◌, Memᴰ}
-use Prim.Native.Nat.{ℕ, ◌+◌, ◌-◌, ◌*◌, ◌<◌, ◌≤◌}
+use Prim.Native.Nat.{ℕ, ◌+◌, ◌*◌, ◌<◌, ◌≤◌}
 use native.Mathlib.Numerals.{add-one}
 use native.Mathlib.Omega.{arith}
-use borrow.Author.Tests.{lt-ltb, le-ltb, ltb-true, ltb-false, eq-eqb, ne_eqb, eqb-true, not-true, not-false, le-leb, lt-leb}
+use borrow.Author.Tests.{lt-ltb, le-ltb, ltb-true, ltb-false, eq-eqb, eqb-true, not-true, not-false, le-leb, lt-leb}
 use borrow.Author.Rules.{rules}
 use mir.Syntax.{w8}
 use mir.Val.{Fits}
 use lib.Dec.{eqb, ltb}
-use lib.ListN.{length, get_or, replicate}
+use lib.ListN.{length, get_or}
 use Rattle.texts.specs.Texts.{same}
 use Rattle.texts.proofs.Bools.{cases, both}
 use Rattle.texts.proofs.Codes.{same_true, same_self}
-use Rattle.texts.specs.Numbers.{Bytes, big, bytes_of}
+use Rattle.texts.specs.Numbers.{Bytes}
 use Rattle.texts.specs.Buffers.{put}
-use Rattle.texts.specs.Working.Writing.{put_at, zeroed}
-use Rattle.texts.proofs.Puts.{put-fits, length-put, put-none, put_next, put_whole, put-zeros}
-use Rattle.sheets.specs.Sheet.{slot_count, text_max, cell_size, sheet_size, cell, slot_of}
+use Rattle.texts.specs.Working.Writing.{put_at}
+use Rattle.texts.proofs.Puts.{put-fits, length-put, put-none, put_next, put_whole}
+use Rattle.sheets.specs.Sheet.{slot_count, text_max, cell_size, sheet_size, slot_of}
 use Rattle.sheets.specs.declared.sheet.Field.{Field}
 use Rattle.texts.specs.Answers.{Answer, success, refusal, number_of, passes, answer_by, buffer_by}
-use Rattle.drafts.specs.Revision.{◌by◌, rank, comparison}
-use Rattle.drafts.specs.Message.{revision_size, IsMessage, version_of, message_field, revision_of, message_text, read_tests, readable, reading_of, read_answer}
-use Rattle.drafts.specs.Draft.{cell_place, slot_size, draft_size, slot_in, slot_revision, slot_cell, slot_text, slot_bytes, slot_with, draft_formed, fresh_draft, begin_tests, beginning_of, begun_from, slot_comparison, comparison_of, word, draft_by, post_tests, posting_of, stored, posted_to, post_answer, cells, draft_sheet, copy_tests, copying_of, copied_to, copy_answer}
+use Rattle.drafts.specs.Revision.{rank, comparison}
+use Rattle.drafts.specs.Message.{IsMessage, version_of, message_field, revision_of, message_text, read_tests, readable, reading_of, read_answer}
+use Rattle.drafts.specs.Draft.{slot_size, draft_size, slot_in, slot_revision, slot_cell, slot_text, slot_bytes, slot_with, draft_formed, fresh_draft, slot_comparison, comparison_of, word, draft_by, post_tests, posting_of, stored, posted_to, post_answer, cells, draft_sheet, copy_tests, copying_of, copied_to, copy_answer}
 use Rattle.drafts.specs.History.{posted_all}
 use Rattle.drafts.specs.Working.Steps.{text_put, sheet_into}
-use Rattle.drafts.specs.Promises.{Reads, Postings, Freshens, Stands, newer as is-newer, same as is_same, older as is-older, clash as is-clash, Posts, Copies}
+use Rattle.drafts.specs.Promises.{Reads, Postings, Stands, newer as is-newer, same as is_same, older as is-older, clash as is-clash, Posts, Copies}
 use Rattle.drafts.specs.declared.revision.Revision.{Revision}
 use Rattle.drafts.specs.declared.revision.Comparison.{Comparison}
 use Rattle.drafts.specs.declared.revision.Comparison.TheVariants.{Newer, Same, Older, Clash}
@@ -36,19 +36,20 @@ use Rattle.texts.specs.declared.answers.Refusal.{Refusal}
 use Rattle.drafts.specs.declared.message.Version.{Version}
 use Rattle.drafts.specs.declared.message.Reading.{Reading}
 use Rattle.drafts.specs.declared.message.Reading.TheVariants.{Message, Refused}
-use Rattle.drafts.specs.declared.draft.Begun.TheVariants as begun
 use Rattle.drafts.specs.declared.draft.Posted.{Posted}
 use Rattle.drafts.specs.declared.draft.Posted.TheVariants as posted
 use Rattle.drafts.specs.declared.draft.Copied.{Copied}
 use Rattle.drafts.specs.declared.draft.Copied.TheVariants as copied
 use Rattle.texts.proofs.Refusals.{no-success, none_of, succeeds, succeeded, refused, unchanged, never, Way, way_out, tested}
-use Rattle.drafts.proofs.Messages.{revision-is, small, readable-means, slotted, reading-is, read_found, text-short, party-known, message-is}
+use Rattle.drafts.proofs.Messages.{small, readable-means, slotted, reading-is, read_found, text-short, party-known, message-is}
 use Rattle.drafts.proofs.Ranks.{clash_test, below_by, rank_same}
 use Rattle.drafts.proofs.EndSlots.{post_read, posted-more}
-use Rattle.drafts.proofs.Arrangements.{held_by}
+use Rattle.drafts.proofs.Held.{held_by}
 use Rattle.drafts.proofs.Reaching.{messages_in, reached}
 use Rattle.drafts.proofs.DraftSheets.{length-cell, length-cells, length-sheet, sheet-made, sheet-into}
 use Rattle.drafts.proofs.Slots.{length-slot, party-small, formed-means}
+use Rattle.drafts.proofs.SlotBytes.{slot_read, slot-made}
+use Rattle.drafts.proofs.Freshening.{fresh-not, fresh-made}
 
 -- ---- the ways out of `against`
 
@@ -66,52 +67,6 @@ module _ (v u : Revision) (r h : ℕ) (b : Bool) (er : r ≡ rank v) (eh : h ≡
 
       pub stand-clash : b ≡ false → Clash ≡ comparison v u b
       stand-clash f = rw (← er, ← eh, le-ltb h r n, le-ltb r h o, f)
-
--- ---- the revision of a slot
-
-pub slot_read : (s : List ℕ) (a b c d p n : ℕ) → a ≡ get_or s 0 0 → b ≡ get_or s 1 0 → c ≡ get_or s 2 0 → d ≡ get_or s 3 0 → p ≡ get_or s revision_size 0 → n ≡ big (a ∷ b ∷ c ∷ d ∷ [])
-    → record { number = n; party = record { 0 = p } } ≡ slot_revision s
-unfolding slot_revision
-slot_read s a b c d p n ea eb ec ed ep en = revision-is (n by p) _ _ (en ∙ rw (ea, eb, ec, ed)) ep
-
--- ---- the bytes of a slot
-
--- the text begins behind the cell's length, a byte
-pub slot-made : (v : Revision) (t d x y : List ℕ) → length t ≤ text_max → d ≡ bytes_of revision_size v.number
-    → x ≡ put_at (replicate slot_size 0) 0 (get_or d 0 0 ∷ get_or d 1 0 ∷ get_or d 2 0 ∷ get_or d 3 0 ∷ v.party.0 ∷ length t ∷ []) → y ≡ put_at x (cell_place + 1) t → y ≡ slot_bytes v t
-unfolding slot_bytes cell
-slot-made v t d x y l ed ex ey =
-    let z : List ℕ = replicate slot_size 0 in
-    let s : List ℕ = get_or d 0 0 ∷ get_or d 1 0 ∷ get_or d 2 0 ∷ get_or d 3 0 ∷ v.party.0 ∷ length t ∷ [] in
-    let fx : x ≡ put z 0 s = ex ∙ put-fits z 0 s (omega arith) in
-    let fy : y ≡ put z 0 (s ++ t) = ey ∙ put_next z s t x (cell_place + 1) refl (omega arith) fx in
-    let n : slot_size ≡ cell_place + 1 + length t + (text_max - length t) = omega arith in
-    let m : length (s ++ t) ≡ cell_place + 1 + length t = omega arith in
-    fy ∙ ap (λ (k : ℕ). put (replicate k 0) 0 (s ++ t)) n ∙ put-zeros (s ++ t) (cell_place + 1 + length t) (text_max - length t) m ∙ rw ed
-
--- ---- fresh
-
-pub fresh-not : (d : List ℕ) → (length d ≡ draft_size → ⊥) → Freshens d (begun.Refused (record { 0 = 1 })) d
-unfolding beginning_of begun_from begin_tests
-fresh-not d e = record {
-  answer = simp (ne_eqb (length d) draft_size e);
-  draft = simp (ne_eqb (length d) draft_size e);
-  refused = λ n. refl;
-  exactly = (λ h. let z : ◌≡◌ {A = ℕ} 0 1 = cc in absurd (omega arith), λ z. absurd (e z));
-  start = λ z. absurd (e z);
-}
-
-pub fresh-made : (d e : List ℕ) → length d ≡ draft_size → e ≡ zeroed d → Freshens d begun.Made e
-unfolding beginning_of begun_from begin_tests fresh_draft zeroed posted_all
-fresh-made d e z p =
-    let q : e ≡ replicate draft_size 0 = p ∙ rw z in
-    record {
-      answer = simp (eq-eqb (length d) draft_size z);
-      draft = q ∙ simp (eq-eqb (length d) draft_size z);
-      refused = λ n. absurd (n refl);
-      exactly = (λ h. z, λ h. refl);
-      start = λ _. record { draft = q; strings = λ m h. absurd (Memᴰ.not-nil h) };
-    }
 
 -- ---- post
 

@@ -1,11 +1,16 @@
 pub mod Messages
+pub mod ReadBack
+pub mod Sizes
 pub mod MessagePromises
 pub mod Slots
 pub mod Ranks
 pub mod EndSlots
 pub mod Arrangements
+pub mod Held
 pub mod DraftSheets
 pub mod Reaching
+pub mod SlotBytes
+pub mod Freshening
 pub mod DraftPromises
 pub mod Examples
 pub mod PartyExamples

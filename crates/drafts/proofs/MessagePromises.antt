@@ -1,10 +1,10 @@
 -- The promises of `read` and `write`, and their ways out.
-use mathlib.Core.Path.{◌≡◌, refl, sym, ap, ◌∙◌}
-use mathlib.Core.Bool.{Bool, true, false, not, ◌||◌, false≢true}
+use mathlib.Core.Path.{◌≡◌, sym, ap, ◌∙◌}
+use mathlib.Core.Bool.{Bool, false, not}
 use mathlib.Core.List.{List, [], ◌∷◌}
-use Prim.Native.Nat.{ℕ, ◌+◌, ◌-◌, ◌<◌, ◌≤◌}
+use Prim.Native.Nat.{ℕ, ◌+◌, ◌-◌, ◌≤◌}
 use native.Mathlib.Omega.{arith}
-use borrow.Author.Tests.{lt-ltb, le-ltb, eq-eqb, ne_eqb, ltb-true, ltb-false, eqb-true}
+use borrow.Author.Tests.{ne_eqb, ltb-false}
 use borrow.Author.Rules.{rules}
 use mir.Syntax.{w8, w32, w64}
 use mir.Val.{Fits}
@@ -16,13 +16,12 @@ use Rattle.texts.specs.Texts.{between}
 use Rattle.texts.specs.Numbers.{big, bytes_of, bytes_at}
 use Rattle.texts.specs.Buffers.{put}
 use Rattle.texts.specs.Working.Writing.{put_at}
-use Rattle.texts.proofs.Bools.{cases, alike}
 use Rattle.texts.proofs.Puts.{put-fits, put_next, mid-put, drop-put}
 use Rattle.texts.proofs.Refusals.{no-success, succeeds, succeeded, unchanged, Way, way_out, tested}
 use Rattle.sheets.specs.Sheet.{slot_count, slot_of, text_max}
 use Rattle.sheets.specs.declared.sheet.Field.{Field}
 use Rattle.drafts.specs.Revision.{adviser, known_party}
-use Rattle.drafts.specs.Message.{known_version, opening, body_place, revision_place, revision_size, text_place, head_size, least_l, most_l, IsMessage, length_of, version_of, party_of, message_body, message_field, revision_of, message_text, misframed, disallowed, read_tests, read_values, reading_of, read_answer, head_bytes, message_of, allowed, write_tests, writing_of, written_of, write_answer}
+use Rattle.drafts.specs.Message.{known_version, opening, body_place, revision_place, revision_size, text_place, head_size, least_l, IsMessage, length_of, version_of, party_of, message_body, message_field, revision_of, message_text, misframed, disallowed, read_tests, read_values, reading_of, read_answer, head_bytes, message_of, allowed, write_tests, writing_of, written_of, write_answer}
 use Rattle.drafts.specs.Promises.{Reads, Writes}
 use Rattle.drafts.specs.Working.Steps.{takes}
 use Rattle.drafts.specs.declared.revision.Party.{Party}
@@ -32,7 +31,9 @@ use Rattle.drafts.specs.declared.message.Reading.{Reading}
 use Rattle.drafts.specs.declared.message.Reading.TheVariants.{Message, Refused}
 use Rattle.drafts.specs.declared.message.Written.{Written}
 use Rattle.drafts.specs.declared.message.Written.TheVariants as written
-use Rattle.drafts.proofs.Messages.{revision-is, placed, neither, frame-means, frame-by, read_found, writable, written-by, message-of, read_back, is-message, written-again, length-head, length-message}
+use Rattle.drafts.proofs.Messages.{revision-is, placed, neither, frame-means, read_found, writable, written-by, message-of, is-message, written-again, length-head, length-message}
+use Rattle.drafts.proofs.ReadBack.{read_back}
+use Rattle.drafts.proofs.Sizes.{twice, framed-short, framed-long, framed-rest, takes-second, takes_first, takes-is}
 
 -- ---- read
 
@@ -66,52 +67,6 @@ reads-by m r h e = record {
 pub read_out : (k : ℕ) (m : List ℕ) (r : Reading) → ((i : ℕ) → Fits w8 (get_or m i 0)) → Way (read_values (version_of m) (message_field m) (revision_of m)) [] [] (read_answer r) [] (Reads m r) k (read_tests m)
 unfolding reading_of
 read_out k m r h = way_out _ [] [] _ [] _ k (read_tests m) (λ p q. reads-by m r h p)
-
--- ---- the sizes that a message may have
-
-module _ (m : List ℕ) where
-  pub framed-short : length m < least_l 1 + 2 → false ≡ not (misframed m)
-  framed-short u = cases (misframed m) (λ t. rw t) (λ f. absurd (omega (arith, frame-means m f)))
-
-  pub framed-long : most_l 2 + 2 < length m → false ≡ not (misframed m)
-  framed-long u = cases (misframed m) (λ t. rw t) (λ f. absurd (omega (arith, frame-means m f)))
-
-  pub framed-rest : least_l 1 + 2 ≤ length m → length m ≤ most_l 2 + 2 → (l : ℕ) → l ≡ length_of m → eqb (l + 2) (length m) ≡ not (misframed m)
-  framed-rest u h l el = alike (eqb (l + 2) (length m)) (not (misframed m)) fits rest
-    where
-      fits : eqb (l + 2) (length m) ≡ true → not (misframed m) ≡ true
-      fits t = let e = eqb-true (l + 2) (length m) t in rw (frame-by m (omega arith) (omega arith) (omega arith))
-
-      rest : not (misframed m) ≡ true → eqb (l + 2) (length m) ≡ true
-      rest t = cases (misframed m) (λ x. absurd (false≢true (rw x at t))) (λ f. eq-eqb (l + 2) (length m) (omega (arith, frame-means m f)))
-
-twice : (b : Bool) → not (not b) ≡ b
-twice true = refl
-twice false = refl
-
-or-none : (b : Bool) → (b || false) ≡ b
-or-none true = refl
-or-none false = refl
-
--- the ways out of `takes`
-module _ (w n : ℕ) where
-  pub takes-second : w ≡ 2 → not (eqb n (least_l 1 + 2)) ≡ takes w n
-  unfolding takes
-  takes-second e = rw e
-
-  pub takes_first : (w ≡ 2 → ⊥) → not (eqb n (most_l 2 + 2)) ≡ takes w n
-  unfolding takes
-  takes_first e = rw (ne_eqb w 2 e)
-
--- of the sizes that one of either version may have, each takes those that it allows
-pub takes-is : (n l : ℕ) → l + 2 ≡ n → least_l 1 ≤ l → l ≤ most_l 2 → (w : ℕ) → takes w n ≡ not (disallowed w l)
-unfolding takes
-takes-is n l e low high w =
-    cases (eqb w 2)
-    (λ t. rw (t, le-ltb (most_l 2) l high, or-none (ltb l (least_l 2)))
-    (ap not (alike (eqb n (least_l 1 + 2)) (ltb l (least_l 2)) (λ q. lt-ltb l (least_l 2) (omega (arith, eqb-true n (least_l 1 + 2) q))) (λ q. eq-eqb n (least_l 1 + 2) (omega (arith, ltb-true l (least_l 2) q))))))
-    (λ f. rw (f, le-ltb l (least_l 1) low)
-    (ap not (alike (eqb n (most_l 2 + 2)) (ltb (most_l 1) l) (λ q. lt-ltb (most_l 1) l (omega (arith, eqb-true n (most_l 2 + 2) q))) (λ q. eq-eqb n (most_l 2 + 2) (omega (arith, ltb-true (most_l 1) l q))))))
 
 -- ---- the tests of `read`, by what the code has for the parts of the message
 

@@ -222,11 +222,6 @@ message-is m w f v t M =
     } in
     (R, ew, rw eb, sym (revision-is v _ _ (sym n) (sym ep)), rw eb)
 
-pub read_back : (m : List ℕ) (w f : ℕ) (v : Revision) (t : List ℕ) → IsMessage m w f v t → (reading_of m ≡ success (read_values w f v)) × (message_text m ≡ t)
-read_back m w f v t M =
-    let q = message-is m w f v t M in
-    (reading-is m q.0 ∙ rw (q.1, q.2, q.3), q.4)
-
 -- ---- a readable message is the one that the writer makes of its version, party, field, revision and text
 
 -- what stands from place i on: k bytes, and the rest

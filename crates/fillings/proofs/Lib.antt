@@ -1,6 +1,7 @@
 pub mod Cells
 pub mod EveryFilling
 pub mod Distinct
+pub mod Strict
 pub mod Order
 pub mod Upto
 pub mod Looking

@@ -5,7 +5,6 @@ use mathlib.Core.Bool.{true, false, not}
 use mathlib.Core.List.Memᴰ
 use mathlib.Core.List.{List, [], ◌∷◌, ◌++◌, map, Memᴰ}
 use Prim.Native.Nat.{ℕ, zero, suc, ◌<◌}
-use native.Mathlib.Decide.{dec_lt}
 use native.Mathlib.Omega.{arith}
 use lib.ListN.{length, get_or}
 use Rattle.texts.specs.Texts.{any, same}
@@ -16,6 +15,7 @@ use Rattle.fillings.specs.Fillings.{Lists, distinct, choices, entry_place, each,
 use Rattle.fillings.specs.Working.Proper.{Proper}
 use Rattle.fillings.proofs.EveryFilling.{Drawn, each-cases, product-drawn, at_slots, drawn-cell, filling-of, of-filling}
 use Rattle.fillings.proofs.Distinct.{choice-once, distinct-not}
+use Rattle.fillings.proofs.Strict.{earlier-strict}
 
 -- ---- lists in order
 
@@ -115,20 +115,6 @@ product-ordered P s [] = (λ b m. absurd (Memᴰ.not-nil m), tt)
 product-ordered {L} P s (k ∷ ks) =
     let c = choices L s k in
     each-ordered c (map (choices L s) ks) c (product (map (choices L s) ks)) (distinct-ordered c (choice-once P s k)) (product-ordered P s ks)
-
--- the order is strict
-earlier-strict : {L : Lists} (s g f : Sheet) → Earlier L s g f → Earlier L s f g → ⊥
-earlier-strict {L} s g f v w =
-    elim (dec_lt v.at w.at) [
-      | yes h ↦ omega (arith, v.less, ap (entry_place (choices L s v.at)) (w.same v.at h))
-      | no h ↦
-          elim (dec_lt w.at v.at) [
-            | yes k ↦ omega (arith, w.less, ap (entry_place (choices L s w.at)) (v.same w.at k))
-            | no k ↦
-                let e : w.at ≡ v.at = omega arith in
-                omega (arith, v.less, subst (λ (i : ℕ). entry_place (choices L s i) (cell_of f i) < entry_place (choices L s i) (cell_of g i)) e w.less)
-          ]
-    ]
 
 module _ {L : Lists} (P : Proper L) (s : Sheet) (sized : length s ≡ sheet_size) where
   differs-earlier : (r t : List (List ℕ)) → Drawn (map (choices L s) slots) r → Drawn (map (choices L s) slots) t → Differs (map (choices L s) slots) r t → Earlier L s (joined r) (joined t)

@@ -7,6 +7,7 @@ pub mod Passing
 pub mod Pacing
 pub mod Ahead
 pub mod Whole
+pub mod WholeLaw
 pub mod Taking
 pub mod TakingUp
 pub mod Completing

@@ -33,7 +33,8 @@ use Rattle.orders.specs.Whole.{Completes}
 use Rattle.orders.specs.declared.complete.Completed.{Completed}
 use Rattle.orders.specs.Again.{Choice, chosen_by, CompletesAgain}
 use Rattle.orders.proofs.Lists.{proper}
-use Rattle.orders.proofs.Whole.{length-draftSheet, filled_of, malformed-by, sized-by, undated-by, whole-law}
+use Rattle.orders.proofs.Whole.{length-draftSheet, filled_of, malformed-by, sized-by, undated-by}
+use Rattle.orders.proofs.WholeLaw.{whole-law}
 use Rattle.orders.proofs.Taking.{Takes, was-formed, was-found, taken-completes}
 
 -- ---- lists of messages

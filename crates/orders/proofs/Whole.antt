@@ -1,4 +1,4 @@
--- Demand 3: from the two equations that the code of `complete` meets, its whole promise.
+-- Demand 3: from the two equations that the code of `complete` meets, the parts of its promise (WholeLaw has the whole).
 use mathlib.Core.Path.{◌≡◌, refl, sym, ◌∙◌, subst}
 use mathlib.Core.Logic.{◌↔◌}
 use mathlib.Core.Bool.{Bool, true, false, not, ◌&&◌, true≢false, false≢true}
@@ -20,7 +20,6 @@ use Rattle.drafts.specs.Draft.{draft_formed, draft_sheet}
 use Rattle.drafts.specs.Promises.{Postings}
 use Rattle.drafts.proofs.Slots.{Formed, formed-means, formed-by}
 use Rattle.drafts.proofs.EndSlots.{all-formed}
-use Rattle.drafts.proofs.Arrangements.{held_by}
 use Rattle.drafts.proofs.DraftSheets.{length-sheet}
 use Rattle.sheets.specs.Dates.{dates_fit}
 use Rattle.sheets.specs.declared.dates.Dates.{Dates}
@@ -29,7 +28,7 @@ use Rattle.fillings.proofs.First.{found_first, found_some, none_passes, none-all
 use Rattle.fillings.proofs.Counting.{filled-set}
 use Rattle.orders.specs.Fillings.{list_of, Filling, All, first_filling, FirstFilling, set_of, FilledSet}
 use Rattle.orders.specs.Complete.{budget_payment, complete_answer, nothing, counted, sheet_in, sheet_tests, complete_tests, completing, completed}
-use Rattle.orders.specs.Whole.{count_of, Unpaid, broken, ordinary, Whole}
+use Rattle.orders.specs.Whole.{count_of, Unpaid, broken, ordinary}
 use Rattle.orders.specs.declared.complete.Completed.{Completed}
 use Rattle.orders.specs.declared.complete.Completed.TheVariants.{Filled, Impossible, Broken, Refused}
 use Rattle.orders.proofs.Lists.{proper}
@@ -69,7 +68,7 @@ module _ (D : Dates) (s b : List ℕ) (z : length s ≡ sheet_size) where
   refused-by (found n t) e = (λ q. absurd (omega arith), λ h. absurd (found_some (proper D) s z (keeps_all D) n t e h))
   refused-by (none n) e = (λ q. none_passes (proper D) s z (keeps_all D) n e, λ h. refl)
 
-  filled-by : (o : Look (List ℕ)) → first_filling D s ≡ o → (number_of (look_answer D s o) ≡ 10 → ⊥) → FirstFilling D s (look_sheet b o) (count_of (look_answer D s o))
+  pub filled-by : (o : Look (List ℕ)) → first_filling D s ≡ o → (number_of (look_answer D s o) ≡ 10 → ⊥) → FirstFilling D s (look_sheet b o) (count_of (look_answer D s o))
   filled-by (found n t) e h = found_first (proper D) s z (keeps_all D) n t e
   filled-by (none n) e h = absurd (h refl)
 
@@ -77,7 +76,7 @@ module _ (D : Dates) (s b : List ℕ) (z : length s ≡ sheet_size) where
   all-by (found n t) e h = absurd (omega arith)
   all-by (none n) e h = (refl, none-all (proper D) s z (keeps_all D) n e)
 
-  answered-by : (o : Look (List ℕ)) → (number_of (look_answer D s o) ≡ 10 → ⊥) → (set : ℕ) × (k : ℕ) × (look_answer D s o ≡ success (count_of (look_answer D s o) ∷ set ∷ k ∷ [])) × FilledSet D s set k
+  pub answered-by : (o : Look (List ℕ)) → (number_of (look_answer D s o) ≡ 10 → ⊥) → (set : ℕ) × (k : ℕ) × (look_answer D s o ≡ success (count_of (look_answer D s o) ∷ set ∷ k ∷ [])) × FilledSet D s set k
   answered-by (found n t) h = (set_of D s, ones (set_of D s), refl, filled-set (list_of D) s)
   answered-by (none n) h = absurd (h refl)
 
@@ -99,20 +98,6 @@ module _ (D : Dates) (d b : List ℕ) (f : draft_formed d ≡ true) (z : length 
           let (before, n, after, e, k, p, i) = split (keeps D s) basic (λ q. false≢true (sym ek ∙ q)) in
           let y : n ≡ 0 → ⊥ = λ q. false≢true (sym ek ∙ none_kept (keeps D s) basic basic-numbered (i ∙ q)) in
           rw (f, z, t, i, ne_eqb n 0 y) (broken before after n e k p)
-
-pub whole-law : (D : Dates) (ms : List (List ℕ)) (d b : List ℕ) → Postings ms d → Whole D ms d b (completing D d b) (completed D d b)
-whole-law D ms d b L =
-    let s = draft_sheet d in
-    let f = left-formed ms d L in
-    let z = length-draftSheet d f in
-    record {
-      held = held_by ms d L;
-      refused = λ l t p. rw (answer-is D d b f l t p) (refused-by D s b z (first_filling D s) refl);
-      all = λ l t p. rw (answer-is D d b f l t p) (all-by D s b z (first_filling D s) refl);
-      filled = λ l t p. rw (answer-is D d b f l t p, sheet-is D d b f l t p) (filled-by D s b z (first_filling D s) refl);
-      answered = λ l t p. rw (answer-is D d b f l t p) (answered-by D s b z (first_filling D s));
-      unpaid = λ l t p. unpaid-by D d b f l t p;
-    }
 
 -- refusals: a test that is true, and no other, gives its number
 pub filled_of : (r : Completed) (n set k : ℕ) → complete_answer r ≡ success (n ∷ set ∷ k ∷ []) → r ≡ Filled n set k

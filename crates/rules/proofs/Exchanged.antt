@@ -18,10 +18,10 @@ use Rattle.sheets.specs.Forms.{◌⇒◌, uin}
 use Rattle.sheets.specs.Lists.{account03212, courts_group}
 use Rattle.sheets.specs.Dates.{dates_fit}
 use Rattle.sheets.specs.declared.dates.Dates.{Dates}
-use Rattle.rules.specs.Rules.{budget, rules, order, status, test_of, field_of, keeps, keeps_all, first_not, class_of}
+use Rattle.rules.specs.Rules.{budget, rules, order, status, test_of, field_of, keeps, first_not, class_of}
 use Rattle.rules.specs.Verdicts.{class_name, broken_rule, check_tests, checked}
 use Rattle.rules.specs.Requests.Before.{tests_by, checked_by, broken}
-use Rattle.rules.specs.Requests.R5.{up_to20, from23, order_before, caught, before, Moved, MovedOnly}
+use Rattle.rules.specs.Requests.R5.{up_to20, from23, order_before, caught, before, Moved}
 
 exchange-step : (x y m : ℕ) (h k : Bool) → (not h && not k) ≡ false → cond h (cond k m y) x ≡ cond k (cond h m x) y
 exchange-step x y m true true e = refl
@@ -51,7 +51,7 @@ exchange-and true b c = refl
 exchange-and false true c = refl
 exchange-and false false c = refl
 
-every-exchanged : (p : ℕ → Bool) (x y : ℕ) (zs ks : List ℕ) → every p (ks ++ (x ∷ y ∷ zs)) ≡ every p (ks ++ (y ∷ x ∷ zs))
+pub every-exchanged : (p : ℕ → Bool) (x y : ℕ) (zs ks : List ℕ) → every p (ks ++ (x ∷ y ∷ zs)) ≡ every p (ks ++ (y ∷ x ∷ zs))
 unfolding every
 every-exchanged p x y zs [] = exchange-and (p x) (p y) (every p zs)
 every-exchanged p x y zs (a ∷ ks) = ap (λ (b : Bool). p a && b) (every-exchanged p x y zs ks)
@@ -120,13 +120,13 @@ module _ (D : Dates) (s : Sheet) where
   unfolding checked check_tests
   now-is = refl
 
-  malformed-still : well_formed s ≡ false → before D s ≡ checked D s
+  pub malformed-still : well_formed s ≡ false → before D s ≡ checked D s
   malformed-still w = let e : answer_of (first_not (keeps D s) order_before) ≡ answer_of (first_not (keeps D s) order) = rw w in before-is ∙ e ∙ sym now-is
 
-  undated-still : dates_fit D ≡ false → before D s ≡ checked D s
+  pub undated-still : dates_fit D ≡ false → before D s ≡ checked D s
   undated-still w = let e : answer_of (first_not (keeps D s) order_before) ≡ answer_of (first_not (keeps D s) order) = rw w in before-is ∙ e ∙ sym now-is
 
-  moved-case : (b : Bool) → well_formed s ≡ true → dates_fit D ≡ true → caught D s ≡ b → Moved D s (checked D s)
+  pub moved-case : (b : Bool) → well_formed s ≡ true → dates_fit D ≡ true → caught D s ≡ b → Moved D s (checked D s)
   unfolding field_of rules broken
   moved-case false w t c =
       let q = before-is ∙ ap answer_of (first-exchanged (keeps D s) 21 22 from23 up_to20 (sym (caught-is D s) ∙ c)) ∙ sym now-is in
@@ -143,13 +143,3 @@ module _ (D : Dates) (s : Sheet) where
         becomes = λ d. v;
         stays = λ z. absurd (false≢true (sym z ∙ c));
       }
-
-pub moved-only : (D : Dates) (s : Sheet) → MovedOnly D s (checked D s)
-unfolding keeps_all
-moved-only D s =
-    record {
-      moved = λ w t. moved-case D s (caught D s) w t refl;
-      malformed = malformed-still D s;
-      undated = undated-still D s;
-      kept = every-exchanged (keeps D s) 21 22 from23 up_to20;
-    }

@@ -34,7 +34,7 @@ use Rattle.rules.proofs.On.{rules-counted, counted-at, budget-keeps, judged-keep
 use Rattle.rules.proofs.First.{all_held}
 use Rattle.rules.proofs.Means.{accepts, names, malforms, undates}
 use Rattle.rules.proofs.Requests.{still-accepted, accepted-before}
-use Rattle.rules.proofs.Exchanged.{moved-only}
+use Rattle.rules.proofs.MovedOnly.{moved-only}
 use Rattle.rules.proofs.Dated.{as_before}
 
 -- ---- first_blank: the answer for the whole is the answer for what is left from i

@@ -6,4 +6,5 @@ pub mod AllBroken
 pub mod Reading
 pub mod Requests
 pub mod Exchanged
+pub mod MovedOnly
 pub mod Dated
