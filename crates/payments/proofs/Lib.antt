@@ -7,4 +7,5 @@ pub mod Placing
 pub mod Differing
 pub mod InRange
 pub mod Queueing
+pub mod Refusing
 pub mod Leaving
