@@ -1,5 +1,4 @@
-# The Rust side has its own target folder; `rt ci` removes the repository's.
-# Two proof runs would share one target folder.
+# Two proof runs would wait for one another.
 .NOTPARALLEL:
 .PHONY: run help take test edits lib install uninstall fuzz bench
 
@@ -21,8 +20,8 @@ help:
 take: lib
 	@./tools/take "$(ORDER)" $(FIELDS)
 
-#: make test      the gate: every crate proved from nothing, and all tests; half an hour and more
-# Layout and lints, every crate proved from nothing, the must-fail edits, the programs, then the checks from outside.
+#: make test      the gate: every crate proved, what changed from nothing, and all tests; half an hour and more where nothing is kept
+# Lints, then rt ci: layout, every crate proved, the must-fail edits, the programs; then the checks from outside.
 test:
 	@./tools/test
 
