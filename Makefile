@@ -2,7 +2,7 @@
 .NOTPARALLEL:
 .PHONY: run help take test edits lib install uninstall fuzz bench
 
-CRATES := $(shell find crates -name '*.rt' -o -name '*.antt') crates.txt
+CRATES := $(shell find crates -name out -prune -o \( -name '*.rt' -o -name '*.antt' \) -print) crates.txt
 
 #: make run       completes the order bindings/samples/order.txt, or ORDER=path; the first time it proves and builds the library
 # Completes an order written as lines FIELD REVISION TEXT with the command kieselbrot. A refused order is an answer, too.
