@@ -164,12 +164,6 @@ pub(crate) fn is_office(t: &[u8]) -> bool
     has_digits(t, 8)
 }
 
-fn is_pair(t: &[u8], pair: [u8; 2]) -> bool
-    ensures { result ≡ same t.now pair }
-{
-    equals(t, &pair)
-}
-
 pub(crate) fn is_letter_pair(t: &[u8]) -> bool
     ensures { result ≡ letter_pair t.now }
 {
@@ -177,10 +171,8 @@ pub(crate) fn is_letter_pair(t: &[u8]) -> bool
         return false;
     }
     let mut found = false;
-    let mut i = 0;
-    while i < LETTER_PAIR_COUNT {
-        found = found | is_pair(t, LETTER_PAIRS[i]);
-        i += 1;
+    for pair in LETTER_PAIRS {
+        found = found | equals(t, &pair);
     }
     found
 }
@@ -207,13 +199,7 @@ fn is_allowed(b: u8) -> bool
 fn all_allowed(t: &[u8]) -> bool
     ensures { result ≡ every allowed t.now }
 {
-    let mut good = true;
-    let mut i = 0;
-    while i < t.len() {
-        good = good & is_allowed(t[i]);
-        i += 1;
-    }
-    good
+    t.iter().all(|b| is_allowed(*b))
 }
 
 pub(crate) fn is_document(t: &[u8]) -> bool

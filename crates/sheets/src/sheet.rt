@@ -93,10 +93,8 @@ fn all_zero(t: &[u8], w: usize) -> bool
         return all_are(t, 0);
     }
     let mut good = true;
-    let mut i = 0;
-    while i < w {
-        good = good & (t[i] == 0);
-        i += 1;
+    for b in t {
+        good = good & (*b == 0);
     }
     good
 }
@@ -133,19 +131,10 @@ fn cell_ok(c: &[u8]) -> bool
 pub fn cells_ok(t: &[u8], first: u8, step: u8) -> bool
     ensures { result ≡ cells_at step slot_count t.now first }
 {
-    let mut good: u8 = 0;
-    let mut place = wide(first);
-    let mut slot: u8 = 0;
-    while slot < SLOT_COUNT {
-        if place + CELL_SIZE <= t.len() {
-            if cell_ok(&t[place..place + CELL_SIZE]) {
-                good += 1;
-            }
-        }
-        place += wide(step);
-        slot += 1;
-    }
-    good == SLOT_COUNT
+    (0..FIELD_COUNT).all(|slot| {
+        let place = wide(first) + slot * wide(step);
+        t.get(place..place + CELL_SIZE).is_some_and(cell_ok)
+    })
 }
 
 // "Malformed: another size, a length above 25, a nonzero pad byte".

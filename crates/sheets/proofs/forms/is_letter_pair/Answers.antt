@@ -25,34 +25,9 @@ pub returns-then-t-ne2 : goal.returns-then-t-ne2
 unfolding ◌is_one_of◌ every
 returns-then-t-ne2 c = none-of-them c.args.t.now c.if-t-ne2.true (words letter_pairs) refl
 
-pub loop-i-init : goal.loop-i-init
-unfolding ◌is_one_of◌ every
-loop-i-init c = search loops
-
-pub offset_bounds-i : goal.offset_bounds-i
-unfolding ◌is_one_of◌ every
-offset_bounds-i c = search loops
-
-pub bounds-i-i : goal.bounds-i-i
-unfolding ◌is_one_of◌ every
-bounds-i-i c = search loops
-
-pub is_pair-found-requires : goal.is_pair-found-requires
-unfolding ◌is_one_of◌ every
-is_pair-found-requires c = search loops
-
-pub overflow_add-i : goal.overflow_add-i
-unfolding ◌is_one_of◌ every
-overflow_add-i c = search loops
-
-pub loop-i-smaller : goal.loop-i-smaller
-unfolding ◌is_one_of◌ every
-loop-i-smaller c = search loops
-
-pub loop-i-preserved : goal.loop-i-preserved
-unfolding ◌is_one_of◌ every
-loop-i-preserved c = (omega arith, any-more (same c.args.t.now) (words letter_pairs) c.loop-i.i c.loop-i.found [] c.is_pair-found.result c.loop-i.invariant.1 c.loop-i-test.true c.is_pair-found.ensures)
+pub loop-pair-preserved : goal.loop-pair-preserved
+loop-pair-preserved c = any-more (same c.args.t.now) (words letter_pairs) c.loop-pair.pair-index c.loop-pair.found [] c.equals-found.result c.loop-pair.invariant c.loop-pair-test.true c.equals-found.ensures
 
 pub returns : goal.returns
 unfolding ◌is_one_of◌ every
-returns c = any-done (same c.args.t.now) (words letter_pairs) c.loop-i.i c.loop-i.found [] c.loop-i.invariant.1 c.loop-i-test.false
+returns c = any-done (same c.args.t.now) (words letter_pairs) c.loop-pair.pair-index c.loop-pair.found [] c.loop-pair.invariant c.loop-pair-test.false

@@ -1,4 +1,3 @@
-use Prim.Native.Nat.{◌≤◌, ◌-◌}
 use lib.ListN.{drop}
 use mathlib.Core.Path.{◌≡◌}
 use mathlib.Core.Bool.{◌||◌}
@@ -7,8 +6,5 @@ use Rattle.texts.specs.Texts.{any, same}
 use Rattle.sheets.specs.Lists.{letter_pairs}
 use Rattle.sheets.proofs.forms.is_letter_pair.Given as goal
 
-abbrev pub invariant-loop-i : goal.invariant-loop-i
-invariant-loop-i l = (l.i ≤ 10) × (any (same l.t) (words letter_pairs) ≡ (l.found || any (same l.t) (drop l.i (words letter_pairs))))
-
-abbrev pub decreases-loop-i : goal.decreases-loop-i
-decreases-loop-i l = 10 - l.i
+abbrev pub invariant-loop-pair : goal.invariant-loop-pair
+invariant-loop-pair l = any (same l.t) (words letter_pairs) ≡ (l.found || any (same l.t) (drop l.pair-index (words letter_pairs)))
