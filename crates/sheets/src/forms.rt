@@ -167,14 +167,7 @@ pub(crate) fn is_office(t: &[u8]) -> bool
 pub(crate) fn is_letter_pair(t: &[u8]) -> bool
     ensures { result ≡ letter_pair t.now }
 {
-    if t.len() != 2 {
-        return false;
-    }
-    let mut found = false;
-    for pair in LETTER_PAIRS {
-        found = found | equals(t, &pair);
-    }
-    found
+    LETTER_PAIRS.iter().any(|pair| equals(t, pair))
 }
 
 // Most have no ";" at its place, and are told by that.
