@@ -10,13 +10,12 @@ ghost use Rattle.sheets.specs.declared.dates.Dates.{Dates};
 use crate::dates::{Dates, Force, force_of};
 use crate::entries::document_entry;
 use crate::forms::{
-    Status, Wanted, is_account, is_bik, is_code4, is_date, is_digits5, is_digits10, is_digits12,
-    is_document, is_foreign_code, is_inn10, is_inn12, is_kbk, is_kpp, is_letter_pair, is_office,
-    is_oktmo, is_pension, is_person, is_uin, wanted_by,
+    Status, Wanted, is_date, is_document, is_inn10, is_inn12, is_kpp, is_letter_pair, is_pension,
+    is_person, is_uin, wanted_by,
 };
 use crate::sheet::{SHEET_SIZE, text};
 use texts::comparisons::{begins_with, equals, is_among, is_listed};
-use texts::digits::{number_2, number_3, number_5};
+use texts::digits::{has_digits, has_digits_not_zero, number_2, number_3, number_5};
 use texts::parts::part;
 
 // 14, 15 and 17 have their forms (rules 1 to 3).
@@ -180,9 +179,9 @@ fn general_of<'a>(bik: &'a [u8], bank: &'a [u8], account: &'a [u8]) -> General
     ensures { result ≡ general_of bik.now bank.now account.now }
 {
     General {
-        bik: is_bik(bik),
-        bank: (bank.len() == 0) | is_account(bank),
-        account: is_account(account),
+        bik: has_digits(bik, 9),
+        bank: (bank.len() == 0) | has_digits(bank, 20),
+        account: has_digits(account, 20),
     }
 }
 
@@ -237,7 +236,7 @@ fn code_of(t: &[u8]) -> Code
     Code {
         zero: equals(t, b"0"),
         uin: is_uin(t),
-        four: is_code4(t),
+        four: has_digits_not_zero(t, 4),
     }
 }
 
@@ -246,10 +245,7 @@ fn has_ten(t: &[u8], inn: bool) -> bool
     requires { inn ≡ inn10 t.now }
     ensures { result ≡ digits10 t.now }
 {
-    if inn {
-        return true;
-    }
-    is_digits10(t)
+    inn || has_digits(t, 10)
 }
 
 fn payer_of(t: &[u8]) -> Payer
@@ -258,12 +254,12 @@ fn payer_of(t: &[u8]) -> Payer
     let inn10 = is_inn10(t);
     Payer {
         zero: equals(t, b"0"),
-        foreign: is_foreign_code(t),
-        inn10: inn10,
+        foreign: has_digits_not_zero(t, 5),
+        inn10,
         inn12: is_inn12(t),
-        five: is_digits5(t),
+        five: has_digits(t, 5),
         ten: has_ten(t, inn10),
-        twelve: is_digits12(t),
+        twelve: has_digits(t, 12),
     }
 }
 
@@ -272,7 +268,7 @@ fn form_of(t: &[u8], full: bool) -> Form
 {
     Form {
         zero: equals(t, b"0"),
-        full: full,
+        full,
     }
 }
 
@@ -280,7 +276,7 @@ fn form_of(t: &[u8], full: bool) -> Form
 fn is_in(n: u8, set: u64) -> bool
     ensures { result ≡ in_set set n }
 {
-    if n < 64 { (set >> n) % 2 == 1 } else { false }
+    n < 64 && (set >> n) % 2 == 1
 }
 
 fn groups_of(status: Status) -> Groups
@@ -310,14 +306,11 @@ fn is_allowed(status: Status, force: Force) -> bool
 pub(crate) fn standing_by(status: Status, blank: bool, listed: bool) -> Standing
     ensures { result ≡ standing_by status.0 blank listed }
 {
-    let n = status.0;
-    let groups = groups_of(Status(n));
-    let wanted = wanted_by(Status(n));
     Standing {
-        blank: blank,
-        listed: listed,
-        groups: groups,
-        wanted: wanted,
+        blank,
+        listed,
+        groups: groups_of(status),
+        wanted: wanted_by(status),
     }
 }
 
@@ -395,13 +388,10 @@ fn banking_of(sheet: &[u8]) -> Banking
     let bik = text(sheet, 0);
     let bank = text(sheet, 1);
     let account = text(sheet, 2);
-    let general = general_of(bik, bank, account);
-    let accounts = account_of(bik, bank, account);
-    let given = all_given(sheet);
     Banking {
-        general: general,
-        account: accounts,
-        given: given,
+        general: general_of(bik, bank, account),
+        account: account_of(bik, bank, account),
+        given: all_given(sheet),
     }
 }
 
@@ -415,11 +405,11 @@ fn parties_of(sheet: &[u8]) -> Parties
     let kpp = form_of(t, is_kpp(t));
     let payeekpp = is_kpp(text(sheet, 8));
     Parties {
-        code: code,
-        payer: payer,
-        payee: payee,
-        kpp: kpp,
-        payeekpp: payeekpp,
+        code,
+        payer,
+        payee,
+        kpp,
+        payeekpp,
     }
 }
 
@@ -430,9 +420,9 @@ fn classifiers_of(sheet: &[u8]) -> Classifiers
     let oktmo = text(sheet, 10);
     let office = text(sheet, 12);
     Classifiers {
-        kbk: form_of(kbk, is_kbk(kbk)),
-        oktmo: form_of(oktmo, is_oktmo(oktmo)),
-        office: form_of(office, is_office(office)),
+        kbk: form_of(kbk, has_digits_not_zero(kbk, 20)),
+        oktmo: form_of(oktmo, has_digits_not_zero(oktmo, 8)),
+        office: form_of(office, has_digits(office, 8)),
     }
 }
 
@@ -461,13 +451,13 @@ pub fn facts_of(sheet: &[u8], dates: Dates) -> Facts
     let day = day_of(text(sheet, 14));
     let banking = banking_of(sheet);
     Facts {
-        banking: banking,
-        parties: parties,
-        classifiers: classifiers,
-        force: force,
-        status: status,
-        basis: basis,
-        document: document,
-        day: day,
+        banking,
+        parties,
+        classifiers,
+        force,
+        status,
+        basis,
+        document,
+        day,
     }
 }

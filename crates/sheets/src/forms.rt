@@ -1,7 +1,7 @@
 // The forms of texts that several rules ask for.
 ghost use Rattle.std.specs.Prelude.{◌≡◌};
 ghost use Rattle.texts.specs.Texts.{every, same, between};
-ghost use Rattle.sheets.specs.Forms.{bik, account, uin, code4, foreign_code, check_digit, inn10, inn12, digits5, digits10, digits12, digit_or_capital, kpp, kbk, oktmo, office, letter_pair, person, allowed, document, snils_check, snils, pension, leap, month_days, gregorian, date};
+ghost use Rattle.sheets.specs.Forms.{uin, check_digit, inn10, inn12, digit_or_capital, kpp, letter_pair, person, allowed, document, snils_check, snils, pension, leap, month_days, gregorian, date};
 ghost use Rattle.sheets.specs.Working.Facts.{wanted_by};
 
 use texts::comparisons::{begins_with, equals, is_among};
@@ -45,34 +45,10 @@ const PERSON_TYPES: [u8; 21] = [
     1, 2, 3, 4, 5, 6, 7, 8, 9, 10, 11, 12, 13, 14, 22, 24, 25, 26, 28, 29, 30,
 ];
 
-pub(crate) fn is_bik(t: &[u8]) -> bool
-    ensures { result ≡ bik t.now }
-{
-    has_digits(t, 9)
-}
-
-pub(crate) fn is_account(t: &[u8]) -> bool
-    ensures { result ≡ account t.now }
-{
-    has_digits(t, 20)
-}
-
 pub(crate) fn is_uin(t: &[u8]) -> bool
     ensures { result ≡ uin t.now }
 {
     has_digits_not_zero(t, 20) | has_digits_not_zero(t, 25)
-}
-
-pub(crate) fn is_code4(t: &[u8]) -> bool
-    ensures { result ≡ code4 t.now }
-{
-    has_digits_not_zero(t, 4)
-}
-
-pub(crate) fn is_foreign_code(t: &[u8]) -> bool
-    ensures { result ≡ foreign_code t.now }
-{
-    has_digits_not_zero(t, 5)
 }
 
 const WEIGHTS_10: [u8; 9] = [2, 4, 10, 3, 5, 9, 4, 6, 8];
@@ -92,37 +68,14 @@ fn has_check_digit(t: &[u8], weights: &[u8]) -> bool
 pub fn is_inn10(t: &[u8]) -> bool
     ensures { result ≡ inn10 t.now }
 {
-    if !has_digits_not_00(t, 10) {
-        return false;
-    }
-    has_check_digit(t, &WEIGHTS_10)
+    has_digits_not_00(t, 10) && has_check_digit(t, &WEIGHTS_10)
 }
 
 pub fn is_inn12(t: &[u8]) -> bool
     ensures { result ≡ inn12 t.now }
 {
-    if !has_digits_not_00(t, 12) {
-        return false;
-    }
-    has_check_digit(t, &WEIGHTS_11) & has_check_digit(t, &WEIGHTS_12)
-}
-
-pub(crate) fn is_digits5(t: &[u8]) -> bool
-    ensures { result ≡ digits5 t.now }
-{
-    has_digits(t, 5)
-}
-
-pub(crate) fn is_digits10(t: &[u8]) -> bool
-    ensures { result ≡ digits10 t.now }
-{
-    has_digits(t, 10)
-}
-
-pub(crate) fn is_digits12(t: &[u8]) -> bool
-    ensures { result ≡ digits12 t.now }
-{
-    has_digits(t, 12)
+    has_digits_not_00(t, 12)
+        && (has_check_digit(t, &WEIGHTS_11) & has_check_digit(t, &WEIGHTS_12))
 }
 
 fn is_digit_or_capital(b: u8) -> bool
@@ -144,24 +97,6 @@ pub fn is_kpp(t: &[u8]) -> bool
     let middle = is_digit_or_capital(at(t, 4)) & is_digit_or_capital(at(t, 5));
     let sides = has_digits(part(t, 0, 4), 4) & (middle & has_digits(part(t, 6, 9), 3));
     !begins_with(t, b"00") & sides
-}
-
-pub(crate) fn is_kbk(t: &[u8]) -> bool
-    ensures { result ≡ kbk t.now }
-{
-    has_digits_not_zero(t, 20)
-}
-
-pub(crate) fn is_oktmo(t: &[u8]) -> bool
-    ensures { result ≡ oktmo t.now }
-{
-    has_digits_not_zero(t, 8)
-}
-
-pub(crate) fn is_office(t: &[u8]) -> bool
-    ensures { result ≡ office t.now }
-{
-    has_digits(t, 8)
 }
 
 pub(crate) fn is_letter_pair(t: &[u8]) -> bool
