@@ -14,8 +14,8 @@ use crate::forms::{
     is_person, is_uin, wanted_by,
 };
 use crate::sheet::{SHEET_SIZE, text};
-use texts::comparisons::{begins_with, equals, is_among, is_listed};
-use texts::digits::{has_digits, has_digits_not_zero, number_2, number_3, number_5};
+use texts::comparisons::{begins_with, equals, is_among};
+use texts::digits::{has_digits, has_digits_not_zero, number};
 use texts::parts::part;
 
 // 14, 15 and 17 have their forms (rules 1 to 3).
@@ -155,9 +155,9 @@ pub struct Facts {
 // What 17 begins with in class A is 03100, or one of the 64 numbers from 03212 on that are in this set, bit n for 03212 + n.
 const ACCOUNTS_A: u64 = 1154048509399274501;
 
-const ACCOUNTS_B: [u32; 3] = [40503, 40603, 40703];
+const ACCOUNTS_B: [usize; 3] = [40503, 40603, 40703];
 
-const BANKS_B: [u32; 6] = [000, 001, 002, 003, 004, 005];
+const BANKS_B: [usize; 6] = [000, 001, 002, 003, 004, 005];
 
 // All statuses; rule 10's list, which completion goes through as well, is those of them that the date allows.
 pub(crate) const STATUSES: [u8; 23] = [
@@ -186,41 +186,38 @@ fn general_of<'a>(bik: &'a [u8], bank: &'a [u8], account: &'a [u8]) -> General
 }
 
 // What 17 begins with in class A.
-fn is_lead_a(lead: u32) -> bool
+fn is_lead_a(lead: usize) -> bool
     ensures { result ≡ among lead (numbers_of 5 accounts_a) }
 {
     if lead < 03212 {
         return 03100 == lead;
     }
-    if 03276 <= lead {
-        return false;
-    }
-    is_in((lead - 03212) as u8, ACCOUNTS_A)
+    is_in(lead - 03212, ACCOUNTS_A)
 }
 
 // Class A by whether 15 is such an account, and the number that 17 begins with.
-fn is_a(bank: bool, account: u32) -> bool
+fn is_a(bank: bool, account: usize) -> bool
     ensures { result ≡ is_a bank account }
 {
     bank & is_lead_a(account)
 }
 
 // Class B by digits 7 to 9 of 14, the number that 17 begins with, and its 14th digit. Most accounts begin with a lower number.
-fn is_b<'a>(bik: &'a [u8], account: &'a [u8], lead: u32) -> bool
+fn is_b<'a>(bik: &'a [u8], account: &'a [u8], lead: usize) -> bool
     ensures { result ≡ is_b (number 3 (between bik.now 6 9)) lead (between account.now 13 14 is "4") }
 {
     if lead < 40204 {
         return false;
     }
-    let bank = is_listed(number_3(part(bik, 6, 9)), &BANKS_B);
+    let bank = is_among(number::<3>(part(bik, 6, 9)), &BANKS_B);
     let four = equals(part(account, 13, 14), b"4");
-    bank & ((40204 == lead) | (is_listed(lead, &ACCOUNTS_B) & four))
+    bank & ((40204 == lead) | (is_among(lead, &ACCOUNTS_B) & four))
 }
 
 fn account_of<'a>(bik: &'a [u8], bank: &'a [u8], account: &'a [u8]) -> Account
     ensures { result ≡ account_of bik.now bank.now account.now }
 {
-    let lead = number_5(part(account, 0, 5));
+    let lead = number::<5>(part(account, 0, 5));
     Account {
         a: is_a(begins_with(bank, b"40102"), lead),
         b: is_b(bik, account, lead),
@@ -273,7 +270,7 @@ fn form_of(t: &[u8], full: bool) -> Form
 }
 
 // A number below 64 is in a set of such numbers.
-fn is_in(n: u8, set: u64) -> bool
+fn is_in(n: usize, set: u64) -> bool
     ensures { result ≡ in_set set n }
 {
     n < 64 && (set >> n) % 2 == 1
@@ -288,9 +285,9 @@ fn groups_of(status: Status) -> Groups
         treasury: is_in(n, TREASURY),
         courts: is_in(n, COURTS),
         personal: is_in(n, PERSONAL),
-        is01: is_among(n, &[01]),
-        is13: is_among(n, &[13]),
-        is31: is_among(n, &[31]),
+        is01: 01 == n,
+        is13: 13 == n,
+        is31: 31 == n,
     }
 }
 
@@ -314,10 +311,10 @@ pub(crate) fn standing_by(status: Status, blank: bool, listed: bool) -> Standing
     }
 }
 
-fn standing_of(t: &[u8], force: Force) -> Standing
+pub(crate) fn standing_of(t: &[u8], force: Force) -> Standing
     ensures { result ≡ standing_of force t.now }
 {
-    let n = number_2(t);
+    let n = number::<2>(t);
     let listed = is_in(n, ALL_SET) & is_allowed(Status(n), force);
     standing_by(Status(n), t.len() == 0, listed)
 }

@@ -6,14 +6,13 @@ ghost use Rattle.sheets.specs.Working.Facts.{wanted_by};
 
 use texts::comparisons::{begins_with, equals, is_among};
 use texts::digits::{
-    digit_value, has_digits, has_digits_not_00, has_digits_not_zero, number_2, number_4, number_9,
-    weighted_sum,
+    digit_value, has_digits, has_digits_not_00, has_digits_not_zero, number, weighted_sum,
 };
-use texts::parts::{at, part, wide};
+use texts::parts::{at, part};
 
 // The number of a status.
 #[derive(Clone, Copy)]
-pub struct Status(pub u8);
+pub struct Status(pub usize);
 
 // The form of 60 that a status wants (rule 23).
 #[derive(Clone, Copy)]
@@ -41,7 +40,7 @@ pub(crate) const LETTER_PAIRS: [[u8; 2]; LETTER_PAIR_COUNT] = [
     [0xCA, 0xDD],
 ];
 
-const PERSON_TYPES: [u8; 21] = [
+const PERSON_TYPES: [usize; 21] = [
     1, 2, 3, 4, 5, 6, 7, 8, 9, 10, 11, 12, 13, 14, 22, 24, 25, 26, 28, 29, 30,
 ];
 
@@ -62,7 +61,7 @@ fn has_check_digit(t: &[u8], weights: &[u8]) -> bool
     ensures { result ≡ check_digit (between weights.now 0 25) t.now }
 {
     let place = part(weights, 0, 25).len();
-    wide(digit_value(at(t, place))) == weighted_sum(weights, t) % 11 % 10
+    usize::from(digit_value(at(t, place))) == weighted_sum(weights, t) % 11 % 10
 }
 
 pub fn is_inn10(t: &[u8]) -> bool
@@ -109,13 +108,8 @@ pub(crate) fn is_letter_pair(t: &[u8]) -> bool
 pub(crate) fn is_person(t: &[u8]) -> bool
     ensures { result ≡ person t.now }
 {
-    if t.len() < 4 {
-        return false;
-    }
-    if !equals(part(t, 2, 3), b";") {
-        return false;
-    }
-    is_among(number_2(part(t, 0, 2)), &PERSON_TYPES)
+    ((4 <= t.len()) & equals(part(t, 2, 3), b";"))
+        && is_among(number::<2>(part(t, 0, 2)), &PERSON_TYPES)
 }
 
 fn is_allowed(b: u8) -> bool
@@ -153,8 +147,8 @@ fn is_snils(t: &[u8]) -> bool
         return false;
     }
     let nine = part(t, 0, 9);
-    let low = number_9(nine) <= 1001998;
-    low | (wide(number_2(part(t, 9, 11))) == snils_check(nine))
+    let low = number::<9>(nine) <= 1001998;
+    low | (number::<2>(part(t, 9, 11)) == snils_check(nine))
 }
 
 // Rule 35 of a text. One that is no identifier of type 14 pays one comparison.
@@ -173,7 +167,7 @@ fn is_leap(y: usize) -> bool
     (y % 4 == 0) & (!(y % 100 == 0) | (y % 400 == 0))
 }
 
-fn month_days(m: u8, y: usize) -> u8
+fn month_days(m: usize, y: usize) -> usize
     ensures { result ≡ month_days m y }
 {
     match m {
@@ -189,7 +183,7 @@ fn month_days(m: u8, y: usize) -> u8
 }
 
 // No month has fewer than 28 days.
-pub(crate) fn is_gregorian(d: u8, m: u8, y: usize) -> bool
+pub(crate) fn is_gregorian(d: usize, m: usize, y: usize) -> bool
     ensures { result ≡ gregorian d m y }
 {
     let usual = ((1900 <= y) & (y <= 2099)) & ((1 <= m) & (m <= 12));
@@ -206,9 +200,9 @@ pub(crate) fn is_date(t: &[u8]) -> bool
         return false;
     }
     let points = equals(part(t, 2, 3), b".") & equals(part(t, 5, 6), b".");
-    let d = number_2(part(t, 0, 2));
-    let m = number_2(part(t, 3, 5));
-    let y = number_4(part(t, 6, 10));
+    let d = number::<2>(part(t, 0, 2));
+    let m = number::<2>(part(t, 3, 5));
+    let y = number::<4>(part(t, 6, 10));
     points & is_gregorian(d, m, y)
 }
 
