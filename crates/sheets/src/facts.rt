@@ -10,12 +10,12 @@ ghost use Rattle.sheets.specs.declared.dates.Dates.{Dates};
 use crate::dates::{Dates, Force, force_of};
 use crate::entries::document_entry;
 use crate::forms::{
-    Status, Wanted, is_date, is_document, is_inn10, is_inn12, is_kpp, is_letter_pair, is_pension,
-    is_person, is_uin, wanted_by,
+    Status, Wanted, is_date, is_digits, is_digits_not_zero, is_document, is_inn10, is_inn12, is_kpp,
+    is_letter_pair, is_pension, is_person, is_uin, wanted_by,
 };
 use crate::sheet::{SHEET_SIZE, text};
 use texts::comparisons::{begins_with, equals, is_among};
-use texts::digits::{has_digits, has_digits_not_zero, number};
+use texts::digits::number;
 use texts::parts::part;
 
 // 14, 15 and 17 have their forms (rules 1 to 3).
@@ -179,9 +179,9 @@ fn general_of<'a>(bik: &'a [u8], bank: &'a [u8], account: &'a [u8]) -> General
     ensures { result ≡ general_of bik.now bank.now account.now }
 {
     General {
-        bik: has_digits(bik, 9),
-        bank: (bank.len() == 0) | has_digits(bank, 20),
-        account: has_digits(account, 20),
+        bik: is_digits::<9>(bik),
+        bank: (bank.len() == 0) | is_digits::<20>(bank),
+        account: is_digits::<20>(account),
     }
 }
 
@@ -233,7 +233,7 @@ fn code_of(t: &[u8]) -> Code
     Code {
         zero: equals(t, b"0"),
         uin: is_uin(t),
-        four: has_digits_not_zero(t, 4),
+        four: is_digits_not_zero::<4>(t),
     }
 }
 
@@ -242,7 +242,7 @@ fn has_ten(t: &[u8], inn: bool) -> bool
     requires { inn ≡ inn10 t.now }
     ensures { result ≡ digits10 t.now }
 {
-    inn || has_digits(t, 10)
+    inn || is_digits::<10>(t)
 }
 
 fn payer_of(t: &[u8]) -> Payer
@@ -251,12 +251,12 @@ fn payer_of(t: &[u8]) -> Payer
     let inn10 = is_inn10(t);
     Payer {
         zero: equals(t, b"0"),
-        foreign: has_digits_not_zero(t, 5),
+        foreign: is_digits_not_zero::<5>(t),
         inn10,
         inn12: is_inn12(t),
-        five: has_digits(t, 5),
+        five: is_digits::<5>(t),
         ten: has_ten(t, inn10),
-        twelve: has_digits(t, 12),
+        twelve: is_digits::<12>(t),
     }
 }
 
@@ -417,9 +417,9 @@ fn classifiers_of(sheet: &[u8]) -> Classifiers
     let oktmo = text(sheet, 10);
     let office = text(sheet, 12);
     Classifiers {
-        kbk: form_of(kbk, has_digits_not_zero(kbk, 20)),
-        oktmo: form_of(oktmo, has_digits_not_zero(oktmo, 8)),
-        office: form_of(office, has_digits(office, 8)),
+        kbk: form_of(kbk, is_digits_not_zero::<20>(kbk)),
+        oktmo: form_of(oktmo, is_digits_not_zero::<8>(oktmo)),
+        office: form_of(office, is_digits::<8>(office)),
     }
 }
 
