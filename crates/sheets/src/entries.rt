@@ -52,10 +52,7 @@ pub fn status_row(dates: Dates, k: usize) -> [u8; 3]
 pub fn zero_row(k: usize) -> [u8; 3]
     ensures { result ≡ row_of (get_or zero_texts k []) }
 {
-    if ZERO_COUNT <= k {
-        return [0, 0, 0];
-    }
-    ZEROS[k]
+    ZEROS.get(k).copied().unwrap_or([0, 0, 0])
 }
 
 pub fn basis_row(k: usize) -> [u8; 3]
@@ -64,11 +61,10 @@ pub fn basis_row(k: usize) -> [u8; 3]
     if k < ZERO_COUNT {
         return zero_row(k);
     }
-    if BASIS_COUNT <= k {
-        return [0, 0, 0];
+    match LETTER_PAIRS.get(k - ZERO_COUNT) {
+        Some(pair) => [2, pair[0], pair[1]],
+        None => [0, 0, 0],
     }
-    let pair = LETTER_PAIRS[k - ZERO_COUNT];
-    [2, pair[0], pair[1]]
 }
 
 // The facts of an entry, which the search asks for again and again: by the status's number; "0", "00" and, for 106, the letter pairs by

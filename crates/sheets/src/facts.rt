@@ -367,16 +367,13 @@ pub fn is_given(sheet: &[u8], slot: u8) -> bool
     !(text(sheet, slot).len() == 0)
 }
 
+// The slots of 22, 60, 61, 102 to 105 and 107.
+const FIXED: [u8; 8] = [3, 4, 5, 7, 8, 9, 10, 12];
+
 fn all_given(sheet: &[u8]) -> bool
     ensures { result ≡ every (λ (k : ℕ). not (blank (text_of sheet.now k))) fixed }
 {
-    is_given(sheet, 3)
-        & (is_given(sheet, 4)
-            & (is_given(sheet, 5)
-                & (is_given(sheet, 7)
-                    & (is_given(sheet, 8)
-                        & (is_given(sheet, 9)
-                            & (is_given(sheet, 10) & (is_given(sheet, 12) & true)))))))
+    FIXED.iter().all(|slot| is_given(sheet, *slot))
 }
 
 fn banking_of(sheet: &[u8]) -> Banking
