@@ -10,8 +10,8 @@ ghost use Rattle.sheets.specs.declared.dates.Dates.{Dates};
 use crate::dates::{Dates, Force, force_of};
 use crate::entries::document_entry;
 use crate::forms::{
-    Status, Wanted, is_date, is_digits, is_digits_not_zero, is_document, is_inn10, is_inn12, is_kpp,
-    is_letter_pair, is_pension, is_person, is_uin, wanted_by,
+    Status, Wanted, is_date, is_digits, is_digits_not_zero, is_document, is_inn10, is_inn12,
+    is_kpp, is_letter_pair, is_pension, is_person, is_uin, wanted_by,
 };
 use crate::sheet::{SHEET_SIZE, text};
 use texts::comparisons::{begins_with, equals, is_among};
@@ -153,7 +153,17 @@ pub struct Facts {
 }
 
 // What 17 begins with in class A is 03100, or one of the 64 numbers from 03212 on that are in this set, bit n for 03212 + n.
-const ACCOUNTS_A: u64 = 1154048509399274501;
+const ACCOUNTS_A: u64 = 1 << 0
+    | 1 << 2
+    | 1 << 10
+    | 1 << 12
+    | 1 << 20
+    | 1 << 22
+    | 1 << 30
+    | 1 << 32
+    | 1 << 40
+    | 1 << 50
+    | 1 << 60;
 
 const ACCOUNTS_B: [usize; 3] = [40503, 40603, 40703];
 
@@ -165,15 +175,47 @@ pub(crate) const STATUSES: [u8; 23] = [
 ];
 
 // Sets of statuses, bit n for status n: all, and the groups that rules name.
-const ALL_SET: u64 = 17072628222;
+const ALL_SET: u64 = 1 << 1
+    | 1 << 2
+    | 1 << 3
+    | 1 << 4
+    | 1 << 5
+    | 1 << 6
+    | 1 << 7
+    | 1 << 8
+    | 1 << 13
+    | 1 << 15
+    | 1 << 16
+    | 1 << 17
+    | 1 << 19
+    | 1 << 20
+    | 1 << 23
+    | 1 << 24
+    | 1 << 27
+    | 1 << 28
+    | 1 << 29
+    | 1 << 30
+    | 1 << 31
+    | 1 << 32
+    | 1 << 33;
 
-const CUSTOMS: u64 = 5637341376;
+const CUSTOMS: u64 = 1 << 6 | 1 << 7 | 1 << 16 | 1 << 17 | 1 << 28 | 1 << 30 | 1 << 32;
 
-const TREASURY: u64 = 5637349590;
+const TREASURY: u64 = 1 << 1
+    | 1 << 2
+    | 1 << 4
+    | 1 << 6
+    | 1 << 7
+    | 1 << 13
+    | 1 << 16
+    | 1 << 17
+    | 1 << 28
+    | 1 << 30
+    | 1 << 32;
 
-const COURTS: u64 = 10737418240;
+const COURTS: u64 = 1 << 31 | 1 << 33;
 
-const PERSONAL: u64 = 18350088;
+const PERSONAL: u64 = 1 << 3 | 1 << 19 | 1 << 20 | 1 << 24;
 
 fn general_of<'a>(bik: &'a [u8], bank: &'a [u8], account: &'a [u8]) -> General
     ensures { result ≡ general_of bik.now bank.now account.now }

@@ -87,14 +87,13 @@ pub fn is_inn10(t: &[u8]) -> bool
 pub fn is_inn12(t: &[u8]) -> bool
     ensures { result ≡ inn12 t.now }
 {
-    has_digits_not_00(t, 12)
-        && (has_check_digit(t, &WEIGHTS_11) & has_check_digit(t, &WEIGHTS_12))
+    has_digits_not_00(t, 12) && (has_check_digit(t, &WEIGHTS_11) & has_check_digit(t, &WEIGHTS_12))
 }
 
 fn is_digit_or_capital(b: u8) -> bool
     ensures { result ≡ digit_or_capital b }
 {
-    ((48 <= b) & (b <= 57)) | ((65 <= b) & (b <= 90))
+    b.is_ascii_digit() | b.is_ascii_uppercase()
 }
 
 // Most have no letter, and are told by their nine digits.
@@ -186,12 +185,7 @@ fn month_days(m: usize, y: usize) -> usize
 {
     match m {
         4 | 6 | 9 | 11 => 30,
-        2 => {
-            if is_leap(y) {
-                return 29;
-            }
-            28
-        }
+        2 => if is_leap(y) { 29 } else { 28 },
         _ => 31,
     }
 }
