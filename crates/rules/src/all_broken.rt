@@ -5,7 +5,7 @@ ghost use Rattle.sheets.specs.Working.Facts.{Read};
 ghost use Rattle.sheets.specs.declared.dates.Dates.{Dates};
 ghost use Rattle.rules.specs.AllBroken.{broken_set, BreaksRules};
 ghost use Rattle.rules.specs.Working.Tests.{outcomes_on};
-ghost use Rattle.rules.specs.Working.Bits.{failed_bit, failed_bits};
+ghost use Rattle.rules.specs.Working.Bits.{failed_bits};
 
 use crate::class::is_ordinary;
 use crate::groups::{
@@ -17,32 +17,15 @@ use sheets::facts::{Facts, facts_of};
 use sheets::sheet::well_formed;
 use texts::answers::Refusal;
 
-// The set, which is empty where the sheet would be accepted; 1 or 12.
-#[derive(Clone, Copy)]
-pub enum BrokenRules {
-    Set(u64),
-    Refused(Refusal),
-}
-
-// 1 for an outcome that is false.
-fn failed_bit(kept: bool) -> u64
-    ensures { (result ≡ failed_bit «kept») × (result ≤ 1) }
-{
-    if kept { 0 } else { 1 }
-}
-
 // The number that has bit n set exactly if outcome n is false.
 fn failed_bits(outcomes: &[bool]) -> u64
     requires { length outcomes.now ≤ 64 }
     ensures { result ≡ failed_bits outcomes.now }
 {
-    let mut set: u64 = 0;
-    let mut i = outcomes.len();
-    while 0 < i {
-        i -= 1;
-        set = set * 2 + failed_bit(outcomes[i]);
-    }
-    set
+    outcomes
+        .iter()
+        .rev()
+        .fold(0, |set, kept| (set << 1) | u64::from(!*kept))
 }
 
 // The outcomes of all rules, at their numbers. They are made here once more: a second caller of the function that makes them for `check` would
@@ -106,16 +89,16 @@ fn all_broken(f: Facts) -> u64
     failed_bits(&all_outcomes(f))
 }
 
-// The rules that a sheet breaks, where `check` names the first of them.
-pub fn broken_rules(sheet: &[u8], dates: Dates) -> BrokenRules
+// The rules that a sheet breaks, where `check` names the first of them: the set, which is empty where the sheet would be accepted; or 1 or 12.
+pub fn broken_rules(sheet: &[u8], dates: Dates) -> Result<u64, Refusal>
     ensures { BreaksRules dates sheet.now result }
 {
     if !well_formed(sheet) {
-        return BrokenRules::Refused(Refusal(1));
+        return Err(Refusal(1));
     }
     if !are_fit(dates) {
-        return BrokenRules::Refused(Refusal(12));
+        return Err(Refusal(12));
     }
     let f = facts_of(sheet, dates);
-    BrokenRules::Set(all_broken(f))
+    Ok(all_broken(f))
 }

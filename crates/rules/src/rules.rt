@@ -257,15 +257,11 @@ pub(crate) fn keeps35(f: Facts) -> bool
 fn first_blank(sheet: &[u8], slots: &[u8]) -> Field
     ensures { result.0 ≡ first_blank sheet.now slots.now }
 {
-    let mut i = 0;
-    while i < slots.len() {
-        let k = slots[i];
-        if !is_given(sheet, k) {
-            return field_in(k);
-        }
-        i += 1;
-    }
-    Field(0)
+    slots
+        .iter()
+        .copied()
+        .find(|k| !is_given(sheet, *k))
+        .map_or(Field(0), field_in)
 }
 
 // The field that a rule names.
