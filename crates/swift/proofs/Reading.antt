@@ -7,6 +7,8 @@ use native.Mathlib.Omega.{arith}
 use borrow.Author.Tests.{eq-eqb, leb-true, not-true, not-false}
 use borrow.Author.Rules.{rules}
 use lib.ListN.{length, get_or}
+use Rattle.std.specs.Prelude.{Result, Ok, Err}
+use Rattle.texts.specs.declared.answers.Refusal.{Refusal}
 use Rattle.texts.specs.Quoted.{Text}
 use Rattle.texts.specs.Texts.{every, same}
 use Rattle.texts.specs.Working.Writing.{put_at}
@@ -23,8 +25,6 @@ use Rattle.rules.specs.Rules.{class_a, budget, of_lines, keeps}
 use Rattle.swift.specs.Lines.{Seven, seven_in, lines_of, slot_texts, sheet_with, any_status, fits_in, fits, parts_of, taken}
 use Rattle.swift.specs.Working.Places.{marked}
 use Rattle.swift.specs.Promises.{read_answer, read_tests, reading_lines, sheet_read, ReadsLines}
-use Rattle.swift.specs.declared.read.LinesRead.{LinesRead}
-use Rattle.swift.specs.declared.read.LinesRead.TheVariants.{Filled, Refused}
 use Rattle.swift.proofs.Cells.{text-cells, length-cells, parts-short}
 use Rattle.swift.proofs.Forms.{Widths, widths-in}
 use Rattle.swift.proofs.Cutting.{cut-lines, lines-again, marked-high}
@@ -96,12 +96,12 @@ taken-means b h = let q = both (same (lines_of (parts_of b)) b) (fits (parts_of 
 
 -- ---- the promise
 
-read_made : (r : LinesRead) → read_answer r ≡ success [] → r ≡ Filled
+read_made : (r : Result Unit Refusal) → read_answer r ≡ success [] → r ≡ Ok tt
 unfolding read_answer
-read_made Filled e = refl
-read_made (Refused n) e = absurd (no-success n.0 [] _ e)
+read_made (Ok u) e = refl
+read_made (Err n) e = absurd (no-success n.0 [] _ e)
 
-reads-by : (b o : List ℕ) (r : LinesRead) (e : List ℕ) → read_answer r ≡ reading_lines b o → e ≡ sheet_read b o → ReadsLines b o r e
+reads-by : (b o : List ℕ) (r : Result Unit Refusal) (e : List ℕ) → read_answer r ≡ reading_lines b o → e ≡ sheet_read b o → ReadsLines b o r e
 unfolding reading_lines sheet_read read_tests read_answer fits
 reads-by b o r e p q = record {
   answer = p;
@@ -122,20 +122,20 @@ reads-by b o r e p q = record {
     let-in : length o ≡ sheet_size → taken b ≡ true → passes (read_tests b o) ≡ true
     let-in z h = rw (eq-eqb (length o) sheet_size z, h)
 
-    is-taken : r ≡ Filled → (taken b ≡ true) × (e ≡ sheet_with (parts_of b))
+    is-taken : r ≡ Ok tt → (taken b ≡ true) × (e ≡ sheet_with (parts_of b))
     is-taken f =
         let z = (succeeded [] [] (read_tests b o) (ap read_answer (sym f) ∙ p)).0 in
         let k = none_of (read_tests b o) z in
         (not-false (taken b) k.1.0, q ∙ rw z)
 
-    seven-of : r ≡ Filled → seven_in e ≡ parts_of b
+    seven-of : r ≡ Ok tt → seven_in e ≡ parts_of b
     seven-of f =
         let k = is-taken f in
         ap seven_in k.1 ∙ seven-with (parts_of b) (both (every short (slot_texts (parts_of b))) (fits_in (sheet_with (parts_of b))) (taken-means b k.0).1).0
 
 -- ---- the ways out of `read_lines`
 
-pub read_out : (k : ℕ) (b o : List ℕ) (r : LinesRead) (e : List ℕ) → Way [] (sheet_with (parts_of b)) o (read_answer r) e (ReadsLines b o r e) k (read_tests b o)
+pub read_out : (k : ℕ) (b o : List ℕ) (r : Result Unit Refusal) (e : List ℕ) → Way [] (sheet_with (parts_of b)) o (read_answer r) e (ReadsLines b o r e) k (read_tests b o)
 unfolding reading_lines sheet_read
 read_out k b o r e = way_out [] (sheet_with (parts_of b)) o (read_answer r) e (ReadsLines b o r e) k (read_tests b o) (λ p q. reads-by b o r e p q)
 

@@ -17,13 +17,6 @@ use texts::buffers::put;
 use texts::comparisons::equals;
 use texts::parts::{part, wide};
 
-// What reading answers.
-#[derive(Clone, Copy)]
-pub enum LinesRead {
-    Filled,
-    Refused(Refusal),
-}
-
 // Dates at which all statuses are in force.
 fn any_status() -> Dates
     ensures { result ≡ any_status }
@@ -116,21 +109,21 @@ fn is_fit(sheet: &[u8]) -> bool
 }
 
 // "A reader fills a sheet with these seven fields, all others blank".
-pub fn read_lines(block: &[u8], sheet: &mut [u8]) -> LinesRead
+pub fn read_lines(block: &[u8], sheet: &mut [u8]) -> Result<(), Refusal>
     ensures { ReadsLines block.now sheet.old result sheet.new }
 {
     if sheet.len() != SHEET_SIZE {
-        return LinesRead::Refused(Refusal(7));
+        return Err(Refusal(7));
     }
     if !has_marks(block) {
-        return LinesRead::Refused(Refusal(11));
+        return Err(Refusal(11));
     }
     let mut work = [0u8; SHEET_SIZE];
     put_bank_texts(&mut work, block);
     put_payee_texts(&mut work, block);
     if !is_fit(&work) {
-        return LinesRead::Refused(Refusal(11));
+        return Err(Refusal(11));
     }
     put(sheet, 0, &work);
-    LinesRead::Filled
+    Ok(())
 }
