@@ -64,8 +64,9 @@ pub fn broken_basic(f: Facts) -> Option<RuleNumber>
     first_broken(&general_outcomes(f), &BASIC)
 }
 
-// The outcomes of all rules, at their numbers.
-fn outcomes(f: Facts) -> [bool; 36]
+// The outcomes of all rules, at their numbers. Both callers have it compiled in: with a call in its place a check takes longer.
+#[inline(always)]
+pub(crate) fn outcomes(f: Facts) -> [bool; 36]
     ensures { result ≡ outcomes_on f }
 {
     let general = general_outcomes(f);
