@@ -5,6 +5,7 @@ ghost use Rattle.sheets.specs.Working.Facts.{Read};
 ghost use Rattle.sheets.specs.declared.dates.Dates.{Dates};
 ghost use Rattle.rules.specs.Rules.{budget, order, basic, ahead, first_not, first_broken, rule_named};
 ghost use Rattle.rules.specs.Working.Tests.{kept, holds, general_on, outcomes_on, judged_on, first_of};
+ghost use Rattle.rules.specs.declared.check.Rejection.TheVariants.{Refused};
 ghost use Rattle.rules.specs.Checked.{Checked};
 
 use crate::class::{Class, class_of, is_ordinary};
@@ -24,6 +25,14 @@ use texts::parts::wide;
 pub enum Rejection {
     Broken(Field, RuleNumber),
     Refused(Refusal),
+}
+
+impl From<Refusal> for Rejection {
+    ghost from_gives = { λ refusal rejection. rejection ≡ Refused refusal };
+
+    fn from(refusal: Refusal) -> Rejection {
+        Rejection::Refused(refusal)
+    }
 }
 
 // "Tested in number order", but "22 is tested ahead of 21" (R-5).
@@ -130,7 +139,7 @@ pub fn broken_ahead(f: Facts) -> Option<RuleNumber>
     first_broken(&kept, &AHEAD)
 }
 
-// What check and a writer of MT103 lines ask of a sheet's facts, in words of the sheet: the first broken rule.
+// What check asks of a sheet's facts, in words of the sheet: the first broken rule.
 pub fn broken(f: Facts) -> Option<RuleNumber>
     ensures { ((D : Dates) (s : Sheet) → Read D f s → result ≡ rule_named (first_broken D s order)) × (result ≡ rule_named (first_not (kept (judged_on f)) order)) }
 {
@@ -141,6 +150,7 @@ pub fn broken(f: Facts) -> Option<RuleNumber>
 }
 
 // "A well-formed sheet is accepted exactly when it keeps the rules; else the answer is the first broken rule and its field."
+#[inline(always)]
 pub fn check(sheet: &[u8], dates: Dates) -> Result<Class, Rejection>
     ensures { Checked dates sheet.now result }
 {

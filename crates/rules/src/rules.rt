@@ -11,7 +11,7 @@ use sheets::sheet::{Field, field_in};
 use texts::parts::{at, wide};
 
 // The number of a rule.
-#[derive(Clone, Copy)]
+#[derive(Clone, Copy, Debug, PartialEq, Eq)]
 pub struct RuleNumber(pub u8);
 
 // "The field in brackets", by the rule's number; rule 6 names the first blank one.

@@ -1,6 +1,6 @@
 -- Writing: the lines put one behind the other, the promise from its equations, and the ways out.
 use mathlib.Core.Path.{◌≡◌, refl, sym, ap, ◌∙◌}
-use mathlib.Core.Bool.{Bool, true, false, not}
+use mathlib.Core.Bool.{Bool, true, false, not, cond}
 use mathlib.Core.List.{List, [], ◌∷◌, ◌++◌, append_assoc}
 use Rattle.std.proofs.lemmas.List.{append-nil}
 use Rattle.std.specs.Prelude.{Result, Ok, Err, None}
@@ -9,7 +9,6 @@ use Prim.Native.Nat.{ℕ, zero, suc, ◌+◌, ◌<◌, ◌≤◌}
 use native.Mathlib.Numerals.{add-one}
 use native.Mathlib.Omega.{arith}
 use borrow.Author.Tests.{eqb-true, le-leb, lt-ltb, le-ltb, ltb-false, not-false}
-use borrow.Author.Rules.{rules}
 use lib.Dec.{ltb}
 use lib.ListN.{length, get_or, take, drop, length-append, take-append-drop}
 use lib.Seq.{take_all}
@@ -17,20 +16,23 @@ use Rattle.texts.specs.Quoted.{Text, bytes}
 use Rattle.texts.specs.Texts.{every, among}
 use Rattle.texts.specs.Buffers.{put}
 use Rattle.texts.specs.Working.Writing.{put_at, Wrote}
-use Rattle.texts.specs.Answers.{success, passes}
+use Rattle.texts.specs.Answers.{success, refusal, passes, ◌refuses◌}
 use Rattle.texts.proofs.Bools.{and2}
 use Rattle.texts.proofs.Puts.{put-fits, put-put, length-put, mid-put, drop-put, wrote_as, wrote_then}
-use Rattle.texts.proofs.Refusals.{no-success, none_of, succeeds, succeeded, unchanged, Way, way_out, not-as, tested}
+use Rattle.texts.proofs.Refusals.{NoneOf, no-success, none_of, succeeds, succeeded, refused, unchanged, Way, way_out}
 use Rattle.sheets.specs.Sheet.{Sheet, text_max, short, well_formed, slot_of, text_of, ◌⟨◌⟩}
 use Rattle.sheets.specs.Dates.{dates_fit, listed, status_texts}
 use Rattle.sheets.specs.declared.dates.Dates.{Dates}
 use Rattle.sheets.proofs.Frames.{text-short}
-use Rattle.rules.specs.Rules.{class_a, keeps, keeps_all, first_broken, rule_named, order}
-use Rattle.rules.specs.Verdicts.{rejection_answer, check_tests}
-use Rattle.rules.specs.declared.rules.RuleNumber.{RuleNumber}
-use Rattle.rules.proofs.First.{named-none, none_kept, kept-none}
+use Rattle.rules.specs.Rules.{class_a, class_b, class_of, keeps, keeps_all, order}
+use Rattle.rules.specs.Verdicts.{class_name, rejection_answer, verdict_answer, check_tests, checked}
+use Rattle.rules.specs.Checked.{Checked}
+use Rattle.rules.specs.declared.class.Class.{Class}
+use Rattle.rules.specs.declared.class.Class.TheVariants.{A, B, O}
+use Rattle.rules.specs.contracts.class.Class.{the_type}
+use denote.Enum.Bare.{sameb}
+use Rattle.rules.proofs.First.{none_kept, kept-none}
 use Rattle.rules.proofs.Means.{order-numbered}
-use Rattle.rules.proofs.Judging.{none-as, first-as, beside-as}
 use Rattle.swift.specs.Lines.{line_feed, before_status, before_bik, before_bank, before_account, before_payee, before_kpp, before_code, Seven, ended, seven_in, lines_of, slot_texts, sheet_with, any_status, fits_in, fits}
 use Rattle.swift.specs.Working.Places.{least_lines, joined, lines_size}
 use Rattle.swift.specs.Promises.{written_answer, line_tests, writing_lines, lines_into, WritesLines}
@@ -219,29 +221,69 @@ pub write-out : (k : ℕ) (D : Dates) (s : Sheet) (o : List ℕ) (r : Result ℕ
 unfolding writing_lines lines_into
 write-out k D s o r e = way_out _ _ _ _ _ _ k (line_tests D s o) (λ p q. writes-by D s o r e p q)
 
--- the room that an accepted sheet of class A asks for
-module _ (D : Dates) (s : Sheet) (n : None ≡ rule_named (first_broken D s order)) (a : Bool) (ea : a ≡ class_a s) (na : not a ≡ false) (t : Text) (et : t ≡ text_of s 3) where
-  sized : (lines_size s ≡ least_lines + length t) × (length (lines_of (seven_in s)) ≡ least_lines + length t)
-  unfolding keeps_all
-  sized =
-      let k : keeps_all D s ≡ true = none_kept (keeps D s) order order-numbered (named-none _ n) in
-      rw et (sizes s (fits-once D s k (sym ea ∙ not-false a na)))
+-- ---- write_lines: what the check of the sheet answered
 
-  module _ (o : List ℕ) where
-    pub room-not : length o < least_lines + length t → ltb (length o) (length (lines_of (seven_in s))) ≡ true
-    room-not h = rw sized.1 (lt-ltb (length o) (least_lines + length t) h)
+-- what a sheet of class A is, and one of another
+same_a : Class → Bool
+same_a c = sameb the_type c A
 
-    room-enough : least_lines + length t ≤ length o → ltb (length o) (length (lines_of (seven_in s))) ≡ false
-    room-enough h = rw sized.1 (le-ltb (length o) (least_lines + length t) h)
+a-only : (a b : Bool) → same_a (cond a A (cond b B O)) ≡ a
+unfolding same_a
+a-only true b = refl
+a-only false true = refl
+a-only false false = refl
 
-    pub room_for : least_lines + length t ≤ length o → lines_size s ≤ length o
-    room_for h = rw sized.0 h
+module _ (D : Dates) (s : Sheet) (o : List ℕ) (v : Result Class Rejection) (C : Checked D s v) where
+  -- a rejection is handed on
+  handed_on : (n : ℕ) (us : List ℕ) (r : Result ℕ Rejection) → verdict_answer v ≡ refusal n us → written_answer r ≡ refusal n us → WritesLines D s o r o
+  unfolding checked writing_lines lines_into line_tests
+  handed_on n us r e w =
+      let ls = length (lines_of (seven_in s)) in
+      let q = refused (class_name (class_of s)) (ls ∷ []) n us (check_tests D s) ((not (class_a s) refuses 11) ∷ (ltb (length o) ls refuses 7) ∷ []) (sym e ∙ C.answer) in
+      writes-by D s o r o (w ∙ q.1) (sym (unchanged (ls ∷ []) _ o (line_tests D s o) (λ z. no-success n us _ (q.1 ∙ z))))
 
-    pub write-whole : (w v : Bool) → w ≡ well_formed s → not w ≡ false → v ≡ dates_fit D → not v ≡ false → least_lines + length t ≤ length o
-        → (r : ℕ) (x : List ℕ) → Wrote o 0 (lines_of (seven_in s)) r x → WritesLines D s o (Ok r) x
-    unfolding written_answer line_tests check_tests
-    write-whole w v ew nw ev nv h r x y =
-        write-out 5 D s o (Ok r) x (not-as (well_formed s) w false ew nw) (not-as (dates_fit D) v false ev nv) (none-as D s n) (not-as (class_a s) a false ea na) (room-enough h)
-        (ap (λ (k : ℕ). success (k ∷ [])) (y.1 ∙ omega arith)) y.0
+  pub rejects : (x : Rejection) (r : Result ℕ Rejection) → v ≡ Err x → r ≡ Err x → WritesLines D s o r o
+  unfolding verdict_answer written_answer rejection_answer
+  rejects (Broken f g) r z y = handed_on 8 (f.0 ∷ g.0 ∷ []) r (ap verdict_answer z) (ap written_answer y)
+  rejects (Refused k) r z y = handed_on k.0 [] r (ap verdict_answer z) (ap written_answer y)
 
-pub ruleset writing = (rules, tested, none-as, first-as, beside-as, room-not)
+  module _ (c : Class) (z : v ≡ Ok c) where
+    accepted : NoneOf (check_tests D s)
+    unfolding checked verdict_answer
+    accepted = none_of (check_tests D s) (succeeded (class_name (class_of s)) (class_name c) (check_tests D s) (sym (ap verdict_answer z) ∙ C.answer)).0
+
+    kept : keeps_all D s ≡ true
+    unfolding check_tests keeps_all
+    kept = none_kept (keeps D s) order order-numbered (eqb-true _ _ (not-false _ accepted.1.1.0))
+
+    in_class_a : same_a c ≡ class_a s
+    unfolding check_tests class_of
+    in_class_a =
+        let e : v ≡ Ok (class_of s) = (C.accepted (not-false _ accepted.0) (not-false _ accepted.1.0)).1 kept in
+        let f : c ≡ class_of s = cc in
+        ap same_a f ∙ a-only (class_a s) (class_b s)
+
+    pub other-class : not (sameb the_type c A) ≡ true → WritesLines D s o (Err (Refused (record { 0 = 11 }))) o
+    unfolding check_tests line_tests written_answer rejection_answer same_a
+    other-class n = write-out 3 D s o _ o accepted.0 accepted.1.0 accepted.1.1.0 (ap not (sym in_class_a) ∙ n) refl refl
+
+    -- the room that an accepted sheet of class A asks for
+    module _ (n : not (sameb the_type c A) ≡ false) (t : Text) (et : t ≡ text_of s 3) where
+      of_class_a : not (class_a s) ≡ false
+      unfolding same_a
+      of_class_a = ap not (sym in_class_a) ∙ n
+
+      sized : (lines_size s ≡ least_lines + length t) × (length (lines_of (seven_in s)) ≡ least_lines + length t)
+      sized = rw et (sizes s (fits-once D s kept (not-false _ of_class_a)))
+
+      pub too-short : length o < least_lines + length t → WritesLines D s o (Err (Refused (record { 0 = 7 }))) o
+      unfolding check_tests line_tests written_answer rejection_answer
+      too-short h = write-out 4 D s o _ o accepted.0 accepted.1.0 accepted.1.1.0 of_class_a (rw sized.1 (lt-ltb (length o) (least_lines + length t) h)) refl refl
+
+      pub room_for : least_lines + length t ≤ length o → lines_size s ≤ length o
+      room_for h = rw sized.0 h
+
+      pub write-whole : least_lines + length t ≤ length o → (r : ℕ) (x : List ℕ) → Wrote o 0 (lines_of (seven_in s)) r x → WritesLines D s o (Ok r) x
+      unfolding check_tests line_tests written_answer
+      write-whole h r x y =
+          write-out 5 D s o (Ok r) x accepted.0 accepted.1.0 accepted.1.1.0 of_class_a (rw sized.1 (le-ltb (length o) (least_lines + length t) h)) (ap (λ (k : ℕ). success (k ∷ [])) (y.1 ∙ omega arith)) y.0

@@ -5,12 +5,10 @@ ghost use Rattle.swift.specs.Lines.{ended, seven_in, lines_of};
 ghost use Rattle.swift.specs.Working.Places.{joined, lines_size};
 ghost use Rattle.swift.specs.Promises.{WritesLines};
 
-use rules::check::{Rejection, broken};
-use rules::class::is_class_a;
-use rules::rules::field_of;
-use sheets::dates::{Dates, are_fit};
-use sheets::facts::facts_of;
-use sheets::sheet::{text, well_formed};
+use rules::check::{Rejection, check};
+use rules::class::Class;
+use sheets::dates::Dates;
+use sheets::sheet::text;
 use texts::answers::Refusal;
 use texts::buffers::put;
 
@@ -52,22 +50,11 @@ fn put_lines(out: &mut [u8], sheet: &[u8]) -> usize
     put_line(out, fifth, &[b":72:/UIP/", text(sheet, 3)])
 }
 
-// "For an accepted class A sheet". It asks what `check` asks by itself: with a second caller `check` would no longer be compiled into the
-// first.
+// "For an accepted class A sheet".
 pub fn write_lines(sheet: &[u8], dates: Dates, buffer: &mut [u8]) -> Result<usize, Rejection>
     ensures { WritesLines dates sheet.now buffer.old result buffer.new }
 {
-    if !well_formed(sheet) {
-        return Err(Rejection::Refused(Refusal(1)));
-    }
-    if !are_fit(dates) {
-        return Err(Rejection::Refused(Refusal(12)));
-    }
-    let f = facts_of(sheet, dates);
-    if let Some(rule) = broken(f) {
-        return Err(Rejection::Broken(field_of(rule, sheet), rule));
-    }
-    if !is_class_a(f) {
+    if check(sheet, dates)? != Class::A {
         return Err(Rejection::Refused(Refusal(11)));
     }
     if buffer.len() < SIZE_WITHOUT_CODE + text(sheet, 3).len() {
