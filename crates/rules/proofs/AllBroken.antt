@@ -31,6 +31,8 @@ use Rattle.rules.specs.AllBroken.{bits_of, broken_set, bit_of, BrokenSet, broken
 use Rattle.rules.specs.Working.Tests.{ordinary, general_on, special_on, outcomes_on, judged_on, all_true}
 use Rattle.rules.specs.Working.Bits.{failed_bit, failed_bits}
 use Rattle.texts.specs.declared.answers.Refusal.{Refusal}
+use Rattle.texts.specs.declared.answers.Refusal.TheVariants.{Malformed, Undated}
+use Rattle.rules.proofs.Numbers.{refusal_of, refusal-back}
 use Rattle.std.specs.Prelude.{Result, Ok, Err}
 use Rattle.rules.proofs.First.{all_held}
 use Rattle.rules.proofs.On.{tests_of, counted, rules-counted, none-at, verdicts_on, tests-on, keeps_on}
@@ -172,18 +174,18 @@ all-judged f o b os r e t h i D s x =
 
 broken_of : Answer → Result ℕ Refusal
 broken_of (success vs) = Ok (get_or vs 0 0)
-broken_of (refusal n vs) = Err (record { 0 = n })
+broken_of (refusal n vs) = Err (refusal_of n)
 
 broken-of : (r : Result ℕ Refusal) (a : Answer) → broken_answer r ≡ a → r ≡ broken_of a
 unfolding broken_answer broken_of
 broken-of (Ok n) a p = ap broken_of p
-broken-of (Err n) a p = ap broken_of p
+broken-of (Err n) a p = ap Err (sym (refusal-back n)) ∙ ap broken_of p
 
 module _ (D : Dates) (s : Sheet) (r : Result ℕ Refusal) (e : broken_answer r ≡ breaking D s) where
   found : (a : Answer) → breaking D s ≡ a → r ≡ broken_of a
   found a q = broken-of r a (e ∙ q)
 
-  malforms : (r ≡ Err (record { 0 = 1 })) ↔ (well_formed s ≡ false)
+  malforms : (r ≡ Err Malformed) ↔ (well_formed s ≡ false)
   unfolding breaking break_tests broken_answer broken_of
   malforms = (
     λ h.
@@ -193,7 +195,7 @@ module _ (D : Dates) (s : Sheet) (r : Result ℕ Refusal) (e : broken_answer r �
     λ w. found (refusal 1 []) (rw w),
   )
 
-  undates : well_formed s ≡ true → (r ≡ Err (record { 0 = 12 })) ↔ (dates_fit D ≡ false)
+  undates : well_formed s ≡ true → (r ≡ Err Undated) ↔ (dates_fit D ≡ false)
   unfolding breaking break_tests broken_answer broken_of
   undates w = (
     λ h.

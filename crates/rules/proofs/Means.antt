@@ -10,6 +10,8 @@ use lib.Dec.{eqb}
 use lib.ListN.{get_or}
 use Rattle.std.specs.Prelude.{Result, Ok, Err}
 use Rattle.texts.specs.Texts.{every}
+use Rattle.texts.specs.declared.answers.Refusal.{Refusal}
+use Rattle.texts.specs.declared.answers.Refusal.TheVariants.{Malformed, Undated}
 use Rattle.texts.specs.Answers.{Answer, success, refusal, number_of, ◌refuses◌}
 use Rattle.texts.proofs.Refusals.{none_of, succeeded, never}
 use Rattle.sheets.specs.Sheet.{well_formed, Sheet}
@@ -17,6 +19,7 @@ use Rattle.sheets.specs.Dates.{dates_fit}
 use Rattle.sheets.specs.declared.dates.Dates.{Dates}
 use Rattle.rules.specs.Rules.{class_of, rules, order, field_of, keeps, keeps_all, first_broken}
 use Rattle.rules.specs.Verdicts.{class_name, broken_rule, rejection_answer, verdict_answer, check_tests, checked}
+use Rattle.rules.proofs.Numbers.{refusal_of, refusal-back}
 use Rattle.rules.proofs.First.{numbered, none_kept, kept-none, split}
 use Rattle.rules.specs.declared.class.Class.TheVariants.{A, B, O}
 use Rattle.rules.specs.declared.class.Class.{Class}
@@ -25,7 +28,7 @@ use Rattle.rules.specs.declared.check.Rejection.TheVariants.{Broken, Refused}
 
 -- the verdict that has an answer
 abbrev rejection_of : ℕ → List ℕ → Rejection
-rejection_of n [] = Refused (record { 0 = n })
+rejection_of n [] = Refused (refusal_of n)
 rejection_of n (f ∷ vs) = Broken (record { 0 = f }) (record { 0 = get_or vs 0 0 })
 
 abbrev verdict_of : Answer → Result Class Rejection
@@ -38,7 +41,7 @@ answered (Ok A) = refl
 answered (Ok B) = refl
 answered (Ok O) = refl
 answered (Err (Broken f r)) = refl
-answered (Err (Refused n)) = refl
+answered (Err (Refused n)) = ap (λ (m : Refusal). Err (Refused m)) (refusal-back n)
 
 -- so verdicts with the same answer are the same
 same-verdict : (v w : Result Class Rejection) → verdict_answer v ≡ verdict_answer w → v ≡ w
@@ -70,11 +73,11 @@ module _ (D : Dates) (s : Sheet) (v : Result Class Rejection) (e : verdict_answe
       let z : n ≡ 0 → ⊥ = λ q. f (none_kept (keeps D s) order order-numbered (i ∙ q)) in
       (b, n, a, o, p, k, same-verdict v (Err (Broken (record { 0 = field_of rules n s }) (record { 0 = n }))) (e ∙ rw (w, d, i, ne_eqb n 0 z)))
 
-  pub malforms : (v ≡ Err (Refused (record { 0 = 1 }))) ↔ (well_formed s ≡ false)
+  pub malforms : (v ≡ Err (Refused Malformed)) ↔ (well_formed s ≡ false)
   unfolding verdict_answer rejection_answer checked check_tests
   malforms = (
     (λ a. go (well_formed s) refl (sym e ∙ ap verdict_answer a)),
-    (λ w. same-verdict v (Err (Refused (record { 0 = 1 }))) (e ∙ rw w)),
+    (λ w. same-verdict v (Err (Refused Malformed)) (e ∙ rw w)),
   )
     where
       go : (b : Bool) → well_formed s ≡ b → checked D s ≡ refusal 1 [] → b ≡ false
@@ -85,11 +88,11 @@ module _ (D : Dates) (s : Sheet) (v : Result Class Rejection) (e : verdict_answe
           ((not (dates_fit D) refuses 12) ∷ broken_rule rules (first_broken D s order) s ∷ [])
           (λ z. omega arith) refl (ap number_of (rw w at h)))
 
-  pub undates : well_formed s ≡ true → (v ≡ Err (Refused (record { 0 = 12 }))) ↔ (dates_fit D ≡ false)
+  pub undates : well_formed s ≡ true → (v ≡ Err (Refused Undated)) ↔ (dates_fit D ≡ false)
   unfolding verdict_answer rejection_answer checked check_tests
   undates w = (
     (λ a. go (dates_fit D) refl (sym e ∙ ap verdict_answer a)),
-    (λ d. same-verdict v (Err (Refused (record { 0 = 12 }))) (e ∙ rw (w, d))),
+    (λ d. same-verdict v (Err (Refused Undated)) (e ∙ rw (w, d))),
   )
     where
       go : (b : Bool) → dates_fit D ≡ b → checked D s ≡ refusal 12 [] → b ≡ false

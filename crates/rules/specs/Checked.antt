@@ -1,6 +1,7 @@
 -- The promise of `check`, and what it means, with what each request keeps or moves.
 use Rattle.std.specs.Prelude.{true, false, ◌≡◌, ◌↔◌, List, ◌∷◌, ◌++◌, ℕ, Result, Ok, Err}
 use Rattle.texts.specs.Texts.{every}
+use Rattle.texts.specs.declared.answers.Refusal.TheVariants.{Malformed, Undated}
 use Rattle.sheets.specs.Sheet.{well_formed, Sheet}
 use Rattle.sheets.specs.Dates.{dates_fit, Dated, InForce, program_dates}
 use Rattle.sheets.specs.declared.dates.Dates.{Dates}
@@ -29,9 +30,9 @@ pub record Checked (D : Dates) (s : Sheet) (v : Result Class Rejection) : Type 0
       × (keeps D s n ≡ false)
       × (v ≡ Err (Broken (record { 0 = field_of rules n s }) (record { 0 = n })))
   -- "Malformed"
-  pub malformed : (v ≡ Err (Refused (record { 0 = 1 }))) ↔ (well_formed s ≡ false)
+  pub malformed : (v ≡ Err (Refused Malformed)) ↔ (well_formed s ≡ false)
   -- "the rest answer 12", and what the rest is
-  pub undated : well_formed s ≡ true → (v ≡ Err (Refused (record { 0 = 12 }))) ↔ (dates_fit D ≡ false)
+  pub undated : well_formed s ≡ true → (v ≡ Err (Refused Undated)) ↔ (dates_fit D ≡ false)
   pub dated : (dates_fit D ≡ true) ↔ Dated D
   -- what rule 10's list is
   pub in_force : InForce D

@@ -1,6 +1,7 @@
 -- What checking a sheet answers.
 use Rattle.std.specs.Prelude.{not, List, [], ◌∷◌, ℕ, eqb, Result, Ok, Err}
 use Rattle.texts.specs.Quoted.{bytes}
+use Rattle.texts.specs.Refusals.{refusal_number}
 use Rattle.texts.specs.Answers.{Answer, success, refusal, Test, ◌refuses◌, ◌refuses◌with◌, answer_by}
 use Rattle.sheets.specs.Sheet.{well_formed, Sheet}
 use Rattle.sheets.specs.Dates.{dates_fit}
@@ -20,7 +21,7 @@ class_name O = bytes "O"
 -- document 01's number and values for each case of a rejection
 unfoldable pub rejection_answer : Rejection → Answer
 rejection_answer (Broken f r) = refusal 8 (f.0 ∷ r.0 ∷ [])
-rejection_answer (Refused n) = refusal n.0 []
+rejection_answer (Refused n) = refusal (refusal_number n) []
 
 -- and of a verdict
 unfoldable pub verdict_answer : Result Class Rejection → Answer

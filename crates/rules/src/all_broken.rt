@@ -40,10 +40,10 @@ pub fn broken_rules(sheet: &[u8], dates: Dates) -> Result<u64, Refusal>
     ensures { BreaksRules dates sheet.now result }
 {
     if !well_formed(sheet) {
-        return Err(Refusal(1));
+        return Err(Refusal::Malformed);
     }
     if !are_fit(dates) {
-        return Err(Refusal(12));
+        return Err(Refusal::Undated);
     }
     let f = facts_of(sheet, dates);
     Ok(all_broken(f))

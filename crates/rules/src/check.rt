@@ -18,7 +18,6 @@ use sheets::dates::{Dates, are_fit};
 use sheets::facts::{Facts, facts_of};
 use sheets::sheet::{Field, well_formed};
 use texts::answers::Refusal;
-use texts::parts::wide;
 
 // Why a sheet is not accepted: its first broken rule, with the field that this names, which is refusal 8; or another refusal.
 #[derive(Clone, Copy)]
@@ -51,7 +50,7 @@ const AHEAD: [u8; 12] = [5, 6, 7, 8, 9, 11, 12, 13, 14, 16, 22, 28];
 fn is_kept(outcomes: &[bool], n: u8) -> bool
     ensures { result ≡ kept outcomes.now n }
 {
-    outcomes.get(wide(n)).copied().unwrap_or(true)
+    outcomes.get(usize::from(n)).copied().unwrap_or(true)
 }
 
 // The first broken one of some rules.
@@ -155,10 +154,10 @@ pub fn check(sheet: &[u8], dates: Dates) -> Result<Class, Rejection>
     ensures { Checked dates sheet.now result }
 {
     if !well_formed(sheet) {
-        return Err(Rejection::Refused(Refusal(1)));
+        return Err(Rejection::Refused(Refusal::Malformed));
     }
     if !are_fit(dates) {
-        return Err(Rejection::Refused(Refusal(12)));
+        return Err(Rejection::Refused(Refusal::Undated));
     }
     let f = facts_of(sheet, dates);
     match broken(f) {

@@ -8,7 +8,7 @@ use crate::class::is_ordinary;
 use sheets::facts::{Facts, Payer, is_given};
 use sheets::forms::Wanted;
 use sheets::sheet::{Field, field_in};
-use texts::parts::{at, wide};
+use texts::parts::at;
 
 // The number of a rule.
 #[derive(Clone, Copy, Debug, PartialEq, Eq)]
@@ -272,5 +272,5 @@ pub fn field_of(rule: RuleNumber, sheet: &[u8]) -> Field
     if n == 6 {
         return first_blank(sheet, &NEEDED);
     }
-    Field(at(&RULE_FIELDS, wide(n)))
+    Field(at(&RULE_FIELDS, usize::from(n)))
 }

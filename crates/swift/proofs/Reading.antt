@@ -12,6 +12,7 @@ use Rattle.texts.specs.declared.answers.Refusal.{Refusal}
 use Rattle.texts.specs.Quoted.{Text}
 use Rattle.texts.specs.Texts.{every, same}
 use Rattle.texts.specs.Working.Writing.{put_at}
+use Rattle.texts.specs.Refusals.{refusal_number}
 use Rattle.texts.specs.Answers.{success, passes}
 use Rattle.texts.proofs.Bools.{both, and2, cases}
 use Rattle.texts.proofs.Codes.{same_true, same_self}
@@ -99,7 +100,7 @@ taken-means b h = let q = both (same (lines_of (parts_of b)) b) (fits (parts_of 
 read_made : (r : Result Unit Refusal) → read_answer r ≡ success [] → r ≡ Ok tt
 unfolding read_answer
 read_made (Ok u) e = refl
-read_made (Err n) e = absurd (no-success n.0 [] _ e)
+read_made (Err n) e = absurd (no-success (refusal_number n) [] _ e)
 
 reads-by : (b o : List ℕ) (r : Result Unit Refusal) (e : List ℕ) → read_answer r ≡ reading_lines b o → e ≡ sheet_read b o → ReadsLines b o r e
 unfolding reading_lines sheet_read read_tests read_answer fits

@@ -16,6 +16,8 @@ use Rattle.texts.specs.Quoted.{Text, bytes}
 use Rattle.texts.specs.Texts.{every, among}
 use Rattle.texts.specs.Buffers.{put}
 use Rattle.texts.specs.Working.Writing.{put_at, Wrote}
+use Rattle.texts.specs.Refusals.{refusal_number}
+use Rattle.texts.specs.declared.answers.Refusal.TheVariants.{WrongSize, NotLines}
 use Rattle.texts.specs.Answers.{success, refusal, passes, ◌refuses◌}
 use Rattle.texts.proofs.Bools.{and2}
 use Rattle.texts.proofs.Puts.{put-fits, put-put, length-put, mid-put, drop-put, wrote_as, wrote_then}
@@ -157,7 +159,7 @@ written-made : (w : Result ℕ Rejection) (n : ℕ) → written_answer w ≡ suc
 unfolding written_answer rejection_answer
 written-made (Ok k) n e = cc
 written-made (Err (Broken f r)) n e = absurd (no-success 8 _ _ e)
-written-made (Err (Refused k)) n e = absurd (no-success k.0 [] _ e)
+written-made (Err (Refused k)) n e = absurd (no-success (refusal_number k) [] _ e)
 
 module _ (D : Dates) (s : Sheet) (o : List ℕ) where
   -- what writing asks for
@@ -245,7 +247,7 @@ module _ (D : Dates) (s : Sheet) (o : List ℕ) (v : Result Class Rejection) (C 
   pub rejects : (x : Rejection) (r : Result ℕ Rejection) → v ≡ Err x → r ≡ Err x → WritesLines D s o r o
   unfolding verdict_answer written_answer rejection_answer
   rejects (Broken f g) r z y = handed_on 8 (f.0 ∷ g.0 ∷ []) r (ap verdict_answer z) (ap written_answer y)
-  rejects (Refused k) r z y = handed_on k.0 [] r (ap verdict_answer z) (ap written_answer y)
+  rejects (Refused k) r z y = handed_on (refusal_number k) [] r (ap verdict_answer z) (ap written_answer y)
 
   module _ (c : Class) (z : v ≡ Ok c) where
     accepted : NoneOf (check_tests D s)
@@ -263,7 +265,7 @@ module _ (D : Dates) (s : Sheet) (o : List ℕ) (v : Result Class Rejection) (C 
         let f : c ≡ class_of s = cc in
         ap same_a f ∙ a-only (class_a s) (class_b s)
 
-    pub other-class : not (sameb the_type c A) ≡ true → WritesLines D s o (Err (Refused (record { 0 = 11 }))) o
+    pub other-class : not (sameb the_type c A) ≡ true → WritesLines D s o (Err (Refused NotLines)) o
     unfolding check_tests line_tests written_answer rejection_answer same_a
     other-class n = write-out 3 D s o _ o accepted.0 accepted.1.0 accepted.1.1.0 (ap not (sym in_class_a) ∙ n) refl refl
 
@@ -276,7 +278,7 @@ module _ (D : Dates) (s : Sheet) (o : List ℕ) (v : Result Class Rejection) (C 
       sized : (lines_size s ≡ least_lines + length t) × (length (lines_of (seven_in s)) ≡ least_lines + length t)
       sized = rw et (sizes s (fits-once D s kept (not-false _ of_class_a)))
 
-      pub too-short : length o < least_lines + length t → WritesLines D s o (Err (Refused (record { 0 = 7 }))) o
+      pub too-short : length o < least_lines + length t → WritesLines D s o (Err (Refused WrongSize)) o
       unfolding check_tests line_tests written_answer rejection_answer
       too-short h = write-out 4 D s o _ o accepted.0 accepted.1.0 accepted.1.1.0 of_class_a (rw sized.1 (lt-ltb (length o) (least_lines + length t) h)) refl refl
 

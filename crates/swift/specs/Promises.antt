@@ -3,6 +3,7 @@ use Rattle.std.specs.Prelude.{◌≡◌, ◌↔◌, true, not, List, [], ◌∷�
 use Rattle.texts.specs.Quoted.{Text}
 use Rattle.texts.specs.Texts.{among}
 use Rattle.texts.specs.Buffers.{put}
+use Rattle.texts.specs.Refusals.{refusal_number}
 use Rattle.texts.specs.Answers.{Answer, success, refusal, Test, ◌refuses◌, answer_by, buffer_by}
 use Rattle.sheets.specs.Sheet.{Sheet, sheet_size, well_formed}
 use Rattle.sheets.specs.Dates.{dates_fit}
@@ -18,7 +19,7 @@ use Rattle.rules.specs.declared.check.Rejection.{Rejection}
 -- document 01's number for each case
 unfoldable pub read_answer : Result Unit Refusal → Answer
 read_answer (Ok u) = success []
-read_answer (Err n) = refusal n.0 []
+read_answer (Err n) = refusal (refusal_number n) []
 
 -- "the reader 7, then 11"
 unfoldable pub read_tests : Text → List ℕ → List Test

@@ -15,7 +15,7 @@ use sheets::sheet::{CELL_SIZE, SHEET_SIZE};
 use texts::answers::Refusal;
 use texts::buffers::put;
 use texts::comparisons::equals;
-use texts::parts::{part, wide};
+use texts::parts::part;
 
 // Dates at which all statuses are in force.
 fn any_status() -> Dates
@@ -75,7 +75,7 @@ fn put_part(sheet: &mut [u8], slot: u8, block: &[u8], a: usize, e: usize)
     ensures { sheet.new ≡ put_at sheet.old (slot * cell_size) (cell (between block.now a e)) }
 {
     let c = cell_of(part(block, a, e));
-    put(sheet, wide(slot) * CELL_SIZE, &c);
+    put(sheet, usize::from(slot) * CELL_SIZE, &c);
 }
 
 // Puts the texts of a block's first three lines into an empty sheet.
@@ -113,16 +113,16 @@ pub fn read_lines(block: &[u8], sheet: &mut [u8]) -> Result<(), Refusal>
     ensures { ReadsLines block.now sheet.old result sheet.new }
 {
     if sheet.len() != SHEET_SIZE {
-        return Err(Refusal(7));
+        return Err(Refusal::WrongSize);
     }
     if !has_marks(block) {
-        return Err(Refusal(11));
+        return Err(Refusal::NotLines);
     }
     let mut work = [0u8; SHEET_SIZE];
     put_bank_texts(&mut work, block);
     put_payee_texts(&mut work, block);
     if !is_fit(&work) {
-        return Err(Refusal(11));
+        return Err(Refusal::NotLines);
     }
     put(sheet, 0, &work);
     Ok(())

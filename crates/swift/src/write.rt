@@ -55,10 +55,10 @@ pub fn write_lines(sheet: &[u8], dates: Dates, buffer: &mut [u8]) -> Result<usiz
     ensures { WritesLines dates sheet.now buffer.old result buffer.new }
 {
     if check(sheet, dates)? != Class::A {
-        return Err(Rejection::Refused(Refusal(11)));
+        return Err(Rejection::Refused(Refusal::NotLines));
     }
     if buffer.len() < SIZE_WITHOUT_CODE + text(sheet, 3).len() {
-        return Err(Rejection::Refused(Refusal(7)));
+        return Err(Rejection::Refused(Refusal::WrongSize));
     }
     Ok(put_lines(buffer, sheet))
 }
