@@ -5,7 +5,8 @@ use mathlib.Core.List.{List, [], ◌∷◌, ◌++◌, map}
 use Prim.Native.Nat.{ℕ}
 use borrow.Author.Tests.{eqb-true, eqb-false, not-true}
 use lib.Dec.{eqb}
-use Rattle.std.specs.Prelude.{Option, None, Some, fold}
+use Rattle.std.specs.Prelude.{Option, None, Some}
+use Rattle.std.specs.List.{list_all}
 use Rattle.std.specs.Option.{option_map, MatchOption, IsSomeAnd}
 use Rattle.std.proofs.lemmas.Option.{none-some, same_Some}
 use Rattle.texts.specs.Texts.{every}
@@ -106,7 +107,7 @@ named-none n e = go (eqb n 0) refl e
 
 -- ---- all_true
 
-pub all-folded : (a : Bool) (os : List Bool) → fold (λ x y. x && y) a os ≡ (a && all_true os)
+pub all_listed : (os : List Bool) → list_all (λ o. o) os ≡ all_true os
 unfolding all_true
-all-folded a [] = sym (and-true a)
-all-folded a (o ∷ os) = all-folded (a && o) os ∙ and_assoc a o (all_true os)
+all_listed [] = refl
+all_listed (o ∷ os) = ap (λ (b : Bool). o && b) (all_listed os)

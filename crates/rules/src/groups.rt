@@ -14,7 +14,7 @@ use sheets::facts::Facts;
 fn all_true(outcomes: &[bool]) -> bool
     ensures { result ≡ all_true outcomes.now }
 {
-    outcomes.iter().fold(true, |all, kept| all & *kept)
+    outcomes.iter().all(|kept| *kept)
 }
 
 // The outcomes of the rules for every sheet, at their numbers.

@@ -28,7 +28,7 @@ use Rattle.swift.specs.Working.Places.{marked}
 use Rattle.swift.specs.Promises.{read_answer, read_tests, reading_lines, sheet_read, ReadsLines}
 use Rattle.swift.proofs.Cells.{text-cells, length-cells, parts-short}
 use Rattle.swift.proofs.Forms.{Widths, widths-in}
-use Rattle.swift.proofs.Cutting.{cut-lines, lines-again, marked-high}
+use Rattle.swift.proofs.Cutting.{cut-lines, lines-again, marked-low, marked-high}
 
 -- ---- is_fit
 
@@ -150,6 +150,9 @@ module _ (b : List ℕ) (m : Bool) (em : m ≡ marked b) where
 
   pub is-marked : not m ≡ false → marked b ≡ true
   is-marked n = sym em ∙ not-false m n
+
+  pub is-marked-long : not m ≡ false → (112 ≤ length b) × (length b ≤ 137)
+  is-marked-long n = (marked-low b (is-marked n), marked-high b (is-marked n))
 
   -- one with them is taken if its texts fit
   module _ (n : not m ≡ false) (w : List ℕ) (ew : w ≡ sheet_with (parts_of b)) (f : Bool) (ef : length w ≡ sheet_size → f ≡ fits_in w) where

@@ -1,8 +1,8 @@
-use Rattle.std.proofs.Common.{rules, true, ◌∙◌, ◌&&◌}
+use Rattle.std.proofs.Common.{rules, ◌∙◌}
 use Rattle.std.proofs.lemmas.Iterator.{YieldsList-from_slice}
-use Rattle.std.proofs.lemmas.Iterator.Consumers.{fold_from_yields_List}
-use Rattle.rules.proofs.First.{all-folded}
+use Rattle.std.proofs.lemmas.Iterator.Search.{all_from_yields_List}
+use Rattle.rules.proofs.First.{all_listed}
 use Rattle.rules.proofs.groups.all_true.Goals as goal
 
 pub returns : goal.returns
-returns c = fold_from_yields_List _ (λ x y. x && y) true c.fold.result c.fold.ensures.ran (YieldsList-from_slice c.args.outcomes.now (search rules)) (λ a x b q k. search rules) ∙ all-folded true c.args.outcomes.now
+returns c = all_from_yields_List (λ o. o) _ _ _ c.all.ensures.ran (YieldsList-from_slice c.args.outcomes.now cc) (λ x b q k. search rules) ∙ all_listed c.args.outcomes.now

@@ -1,6 +1,7 @@
 use borrow.Author.Rules.{rules}
+use mathlib.Core.Path.{refl}
 use Rattle.swift.specs.Promises.{read_answer, read_tests}
-use Rattle.swift.proofs.Reading.{reading, read_out, fits-as, work-put}
+use Rattle.swift.proofs.Reading.{reading, read_out, is-marked-long, fits-as, work-put}
 use Rattle.swift.proofs.read.read_lines.Goals as goal
 
 pub returns-then-sheet-ne-SHEET_SIZE : goal.returns-then-sheet-ne-SHEET_SIZE
@@ -19,9 +20,13 @@ pub slice_bounds-put_payee_texts-end : goal.slice_bounds-put_payee_texts-end
 unfolding read_answer read_tests
 slice_bounds-put_payee_texts-end c = search rules
 
+pub put_bank_texts-requires : goal.put_bank_texts-requires
+put_bank_texts-requires c = (refl, (is-marked-long c.args.block.now _ c.has_marks.ensures c.if-not-has_marks.false-raw).0)
+
 pub put_payee_texts-requires : goal.put_payee_texts-requires
-unfolding read_answer read_tests
-put_payee_texts-requires c = search reading
+put_payee_texts-requires c =
+    let n = is-marked-long c.args.block.now _ c.has_marks.ensures c.if-not-has_marks.false-raw in
+    (c.put_bank_texts.ensures, n.0, n.1)
 
 pub slice_bounds-is_fit-end : goal.slice_bounds-is_fit-end
 unfolding read_answer read_tests
