@@ -11,12 +11,10 @@ use Rattle.std.specs.Prelude.{Result, Ok, Err}
 use Rattle.texts.specs.declared.answers.Refusal.{Refusal}
 use Rattle.texts.specs.Quoted.{Text}
 use Rattle.texts.specs.Texts.{every, same}
-use Rattle.texts.specs.Working.Writing.{put_at}
 use Rattle.texts.specs.Refusals.{refusal_number}
 use Rattle.texts.specs.Answers.{success, passes}
 use Rattle.texts.proofs.Bools.{both, and2, cases}
 use Rattle.texts.proofs.Codes.{same_true, same_self}
-use Rattle.texts.proofs.Puts.{put-fits, put_whole}
 use Rattle.texts.proofs.Refusals.{no-success, none_of, succeeds, succeeded, unchanged, Way, way_out, tested}
 use Rattle.sheets.specs.Sheet.{Sheet, slot_count, sheet_size, text_max, short, slot_of, text_of, ◌⟨◌⟩}
 use Rattle.sheets.specs.Working.Facts.{Read}
@@ -159,7 +157,7 @@ module _ (b : List ℕ) (m : Bool) (em : m ≡ marked b) where
     all_short : every short (slot_texts (parts_of b)) ≡ true
     all_short = parts-short b (marked-high b (is-marked n))
 
-    work-size : length w ≡ sheet_size
+    pub work-size : length w ≡ sheet_size
     work-size = ap length ew ∙ length-cells (slot_texts (parts_of b)) all_short
 
     pub fits-as : (z : Bool) → not f ≡ z → not (taken b) ≡ z
@@ -168,7 +166,4 @@ module _ (b : List ℕ) (m : Bool) (em : m ≡ marked b) where
         let l : same (lines_of (parts_of b)) b ≡ true = ap (λ (u : Text). same u b) (lines-again b (is-marked n)) ∙ same_self b in
         rw (l, all_short) (ap not (sym (ef work-size ∙ ap fits_in ew)) ∙ k)
 
-    pub work-put : (o e : List ℕ) → length o ≡ sheet_size → e ≡ put_at o 0 w → e ≡ sheet_with (parts_of b)
-    work-put o e z q = q ∙ put-fits o 0 w (omega (arith, work-size)) ∙ put_whole o w (work-size ∙ sym z) ∙ ew
-
-pub ruleset reading = (rules, tested, unmarked, is-marked, fits-as, work-put)
+pub ruleset reading = (rules, tested, unmarked, is-marked, fits-as)

@@ -115,12 +115,12 @@ pub fn read_lines(block: &[u8], sheet: &mut [u8]) -> Result<(), Refusal>
     if !has_marks(block) {
         return Err(Refusal::NotLines);
     }
-    let mut work = [0u8; SHEET_SIZE];
+    let mut work = [0; SHEET_SIZE];
     put_bank_texts(&mut work, block);
     put_payee_texts(&mut work, block);
     if !is_fit(&work) {
         return Err(Refusal::NotLines);
     }
-    put(sheet, 0, &work);
+    sheet.copy_from_slice(&work);
     Ok(())
 }
