@@ -47,6 +47,7 @@ const BASIC: [u8; 3] = [1, 2, 3];
 const AHEAD: [u8; 12] = [5, 6, 7, 8, 9, 11, 12, 13, 14, 16, 22, 28];
 
 // Whether a rule is kept, by the outcomes of rules at their numbers; one past the end is.
+#[tactic(auto, using(std::proofs::lemmas::Option::gets), unfolding(crate::specs::Working::Tests::kept))]
 fn is_kept(outcomes: &[bool], n: u8) -> bool
     ensures { result ≡ kept outcomes.now n }
 {
