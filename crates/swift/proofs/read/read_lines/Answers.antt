@@ -1,4 +1,3 @@
-use borrow.Author.Rules.{rules}
 use mathlib.Core.Path.{◌≡◌, refl, ◌∙◌}
 use Rattle.swift.specs.Lines.{sheet_with, parts_of}
 use Rattle.swift.specs.Promises.{read_answer, read_tests}
@@ -33,4 +32,3 @@ returns c =
     let f = fits-as _ _ c.has_marks.ensures c.if-not-has_marks.false-raw _ c.put_payee_texts.ensures _ c.is_fit.ensures _ c.if-not-is_fit.false-raw in
     let w : c.copy_from_slice.new.self ≡ sheet_with (parts_of c.args.block.now) = c.copy_from_slice.ensures.after ∙ c.put_payee_texts.ensures in
     search (reading, read_out 2)
-
