@@ -6,15 +6,17 @@ use Prim.Native.Nat.{ℕ, ◌+◌, ◌-◌, ◌≤◌}
 use native.Mathlib.Omega.{arith}
 use borrow.Author.Tests.{ne_eqb, ltb-false}
 use borrow.Author.Rules.{rules}
+use Rattle.std.specs.Prelude.{Result, Ok, Err}
 use mir.Syntax.{w8, w32, w64}
 use mir.Val.{Fits}
 use lib.Dec.{eqb, ltb}
-use lib.ListN.{length, take, drop, get_or, length-drop}
+use lib.ListN.{length, take, drop, get_or, replicate, length-drop}
 use lib.Seq.{take_all, get_or-take}
 use Rattle.texts.specs.Answers.{success}
 use Rattle.texts.specs.Texts.{between}
 use Rattle.texts.specs.Numbers.{big, bytes_of, bytes_at}
 use Rattle.texts.specs.Buffers.{put}
+use Rattle.texts.proofs.Bools.{cases}
 use Rattle.texts.specs.Working.Writing.{put_at}
 use Rattle.texts.proofs.Puts.{put-fits, put_next, mid-put, drop-put}
 use Rattle.texts.proofs.Refusals.{no-success, succeeds, succeeded, unchanged, Way, way_out, tested}
@@ -26,45 +28,41 @@ use Rattle.drafts.specs.Promises.{Reads, Writes}
 use Rattle.drafts.specs.Working.Steps.{takes}
 use Rattle.drafts.specs.declared.revision.Party.{Party}
 use Rattle.drafts.specs.declared.revision.Revision.{Revision}
-use Rattle.drafts.specs.declared.message.Version.{Version}
-use Rattle.drafts.specs.declared.message.Reading.{Reading}
-use Rattle.drafts.specs.declared.message.Reading.TheVariants.{Message, Refused}
-use Rattle.drafts.specs.declared.message.Written.{Written}
-use Rattle.drafts.specs.declared.message.Written.TheVariants as written
+use Rattle.drafts.specs.declared.message.Heading.{Heading}
+use Rattle.texts.specs.declared.answers.Refusal.{Refusal}
 use Rattle.drafts.proofs.Messages.{revision-is, placed, neither, frame-means, read_found, writable, written-by, message-of, is-message, written-again, length-head, length-message}
 use Rattle.drafts.proofs.ReadBack.{read_back}
 use Rattle.drafts.proofs.Sizes.{twice, framed-short, framed-long, framed-rest, takes-second, takes_first, takes-is}
 
 -- ---- read
 
-reading-made : (r : Reading) (w : Version) (f : Field) (v : Revision) → read_answer r ≡ success (read_values w.0 f.0 v) → r ≡ Message w f v
-reading-made (Message x g u) w f v e =
-    let o : x.0 ≡ w.0 = cc in
-    let p : g.0 ≡ f.0 = cc in
-    let q : u ≡ v = revision-is u _ _ (cc) (cc) in
-    λ i. Message (record { 0 = o i }) (record { 0 = p i }) (q i)
-reading-made (Refused n) w f v e = absurd (no-success n.0 [] _ e)
+heading-is : (g h : Heading) → g.version.0 ≡ h.version.0 → g.field.0 ≡ h.field.0 → g.revision ≡ h.revision → g ≡ h
+heading-is g h p q r = λ i. record { version = record { 0 = p i }; field = record { 0 = q i }; revision = r i }
+
+reading-made : (r : Result Heading Refusal) (h : Heading) → read_answer r ≡ success (read_values h.version.0 h.field.0 h.revision) → r ≡ Ok h
+reading-made (Ok g) h e = ap Ok (heading-is g h (cc) (cc) (revision-is g.revision _ _ (cc) (cc)))
+reading-made (Err n) h e = absurd (no-success n.0 [] _ e)
 
 -- the promise of `read`, from its equation
-reads-by : (m : List ℕ) (r : Reading) → ((k : ℕ) → Fits w8 (get_or m k 0)) → read_answer r ≡ reading_of m → Reads m r
+reads-by : (m : List ℕ) (r : Result Heading Refusal) → ((k : ℕ) → Fits w8 (get_or m k 0)) → read_answer r ≡ reading_of m → Reads m r
 reads-by m r h e = record {
   answer = e;
-  exactly = λ w f v t. (
+  exactly = λ g t. (
     λ p.
-        let q = read_found m w f v (ap read_answer (sym p.0) ∙ e) in
+        let q = read_found m g (ap read_answer (sym p.0) ∙ e) in
         rw (q.1, q.2, q.3, ← p.1) (is-message m (λ k. (h k).fits) q.0),
     λ M.
-        let q = read_back m w.0 f.0 v t M in
-        (reading-made r w f v (e ∙ q.0), q.1),
+        let q = read_back m g.version.0 g.field.0 g.revision t M in
+        (reading-made r g (e ∙ q.0), q.1),
   );
   made =
-      λ w f v q b u.
-      let p = read_found m w f v (ap read_answer (sym q) ∙ e) in
+      λ g q b u.
+      let p = read_found m g (ap read_answer (sym q) ∙ e) in
       rw (p.1, p.2, p.3) (written-again m b (λ k. (h k).fits) p.0 u);
 }
 
 -- the ways out of `read`
-pub read_out : (k : ℕ) (m : List ℕ) (r : Reading) → ((i : ℕ) → Fits w8 (get_or m i 0)) → Way (read_values (version_of m) (message_field m) (revision_of m)) [] [] (read_answer r) [] (Reads m r) k (read_tests m)
+pub read_out : (k : ℕ) (m : List ℕ) (r : Result Heading Refusal) → ((i : ℕ) → Fits w8 (get_or m i 0)) → Way (read_values (version_of m) (message_field m) (revision_of m)) [] [] (read_answer r) [] (Reads m r) k (read_tests m)
 unfolding reading_of
 read_out k m r h = way_out _ [] [] _ [] _ k (read_tests m) (λ p q. reads-by m r h p)
 
@@ -142,12 +140,6 @@ module _ (w : ℕ) where
   pub place-first : (w ≡ 2 → ⊥) → 3 ≡ body_place w
   place-first n = rw (ne_eqb w 2 n)
 
-  pub size-second : w ≡ 2 → 9 ≡ head_size w
-  size-second e = rw e
-
-  pub size-first : (w ≡ 2 → ⊥) → 8 ≡ head_size w
-  size-first n = rw (ne_eqb w 2 n)
-
   module _ (m : List ℕ) (ew : w ≡ version_of m) where
     pub party-second : w ≡ 2 → (p : ℕ) → p ≡ get_or m 3 0 → p ≡ party_of m
     unfolding party_of
@@ -174,14 +166,14 @@ text-is m b t eb e = rest-is b t text_place e ∙ rw eb
 
 -- ---- write
 
-written-made : (w : Written) (n : ℕ) → write_answer w ≡ success (n ∷ []) → w ≡ written.Bytes n
-written-made (written.Bytes k) n e = cc
-written-made (written.Refused k) n e = absurd (no-success k.0 [] _ e)
+written-made : (w : Result ℕ Refusal) (n : ℕ) → write_answer w ≡ success (n ∷ []) → w ≡ Ok n
+written-made (Ok k) n e = cc
+written-made (Err k) n e = absurd (no-success k.0 [] _ e)
 
 -- the promise of `write`, from its two equations
-writes-by : (w f : ℕ) (v : Revision) (t b : List ℕ) (r : Written) (e : List ℕ) → Fits w32 v.number → write_answer r ≡ writing_of w f v t b → e ≡ written_of w f v t b → Writes w f v t b r e
+writes-by : (g : Heading) (t b : List ℕ) (r : Result ℕ Refusal) (e : List ℕ) → Fits w32 g.revision.number → write_answer r ≡ writing_of g.version.0 g.field.0 g.revision t b → e ≡ written_of g.version.0 g.field.0 g.revision t b → Writes g t b r e
 unfolding writing_of written_of
-writes-by w f v t b r e h p q = record {
+writes-by g t b r e h p q = record {
   answer = p;
   buffer = q;
   refused = λ n. q ∙ unchanged _ _ _ (write_tests w f v t b) (λ s. n (length t + head_size w) (written-made r (length t + head_size w) (p ∙ s)));
@@ -193,8 +185,17 @@ writes-by w f v t b r e h p q = record {
   back = λ n s. let o = out_of n s in rw o.1 (read_back _ w f v t o.0);
 }
   where
+    w : ℕ
+    w = g.version.0
+
+    f : ℕ
+    f = g.field.0
+
+    v : Revision
+    v = g.revision
+
     -- the message, and what stands before and behind its end
-    out_of : (n : ℕ) → r ≡ written.Bytes n → IsMessage (message_of w f v t) w f v t × (take n e ≡ message_of w f v t) × (drop n e ≡ drop n b)
+    out_of : (n : ℕ) → r ≡ Ok n → IsMessage (message_of w f v t) w f v t × (take n e ≡ message_of w f v t) × (drop n e ≡ drop n b)
     out_of n s =
         let (z, k) = succeeded _ (n ∷ []) (write_tests w f v t b) (ap write_answer (sym s) ∙ p) in
         let o : n ≡ length t + head_size w = cc in
@@ -207,14 +208,16 @@ writes-by w f v t b r e h p q = record {
           ap (drop n) u ∙ drop-put b 0 (message_of w f v t) n (omega arith) (omega (arith, W.room)),
         )
 
-module _ (w f : ℕ) (v : Revision) (n : ℕ) (d : List ℕ) (ed : d ≡ bytes_of revision_size v.number) where
-  pub head-second : w ≡ 2 → take (head_size w) (0 ∷ (n + least_l 1 + 1) ∷ w ∷ v.party.0 ∷ f ∷ get_or d 0 0 ∷ get_or d 1 0 ∷ get_or d 2 0 ∷ get_or d 3 0 ∷ []) ≡ head_bytes w f v n
-  unfolding head_bytes opening
-  head-second e = let l : n + least_l 1 + 1 ≡ n + least_l 2 = omega arith in rw (l, ed, e)
+-- the head: in version 1 the field is put over the party
+pub head-made : (w f n : ℕ) (v : Revision) (d x y : List ℕ) (l k : ℕ) → d ≡ bytes_of revision_size v.number → k ≡ body_place w → l ≡ n + least_l w
+    → x ≡ put_at (replicate 9 0) 0 (0 ∷ l ∷ w ∷ v.party.0 ∷ [])
+    → y ≡ put_at x k (f ∷ get_or d 0 0 ∷ get_or d 1 0 ∷ get_or d 2 0 ∷ get_or d 3 0 ∷ [])
+    → take (head_size w) y ≡ head_bytes w f v n
+unfolding head_bytes opening put_at put
+head-made w f n v d x y l k ed ek el ex ey = cases (eqb w 2) (λ t. rw (ey, ex, ek, el, ed, t)) (λ t. rw (ey, ex, ek, el, ed, t))
 
-  pub head_first : (w ≡ 2 → ⊥) → take (head_size w) (0 ∷ (n + least_l 1) ∷ w ∷ f ∷ get_or d 0 0 ∷ get_or d 1 0 ∷ get_or d 2 0 ∷ get_or d 3 0 ∷ 0 ∷ []) ≡ head_bytes w f v n
-  unfolding head_bytes opening
-  head_first e = rw (ed, ne_eqb w 2 e)
+pub head-length : (w n s : ℕ) → s ≡ head_size w → n ≤ text_max → (2 ≤ s) × (s - 2 + n ≡ n + least_l w) × (s - 2 + n ≤ 32)
+head-length w n s e h = (omega (arith, placed w), omega (arith, placed w), omega (arith, placed w))
 
 pub head-put : (w f : ℕ) (v : Revision) (t b d c x e : List ℕ) (s : ℕ) → s ≡ head_size w → take (head_size w) d ≡ head_bytes w f v (length t) → c ≡ between d 0 s → x ≡ put_at b 0 c → e ≡ put_at x s t
     → e ≡ put_at (put_at b 0 (head_bytes w f v (length t))) (head_size w) t
@@ -225,9 +228,10 @@ head-put w f v t b d c x e s es ed ec ex ee =
     ee ∙ rw (ex, k, es)
 
 -- the ways out of `write`
-pub write-out : (k w f : ℕ) (v : Revision) (t b : List ℕ) (r : Written) (e : List ℕ) → Fits w32 v.number → Way ((length t + head_size w) ∷ []) (put b 0 (message_of w f v t)) b (write_answer r) e (Writes w f v t b r e) k (write_tests w f v t b)
+pub write-out : (k : ℕ) (g : Heading) (t b : List ℕ) (r : Result ℕ Refusal) (e : List ℕ) → Fits w32 g.revision.number
+    → Way ((length t + head_size g.version.0) ∷ []) (put b 0 (message_of g.version.0 g.field.0 g.revision t)) b (write_answer r) e (Writes g t b r e) k (write_tests g.version.0 g.field.0 g.revision t b)
 unfolding writing_of written_of
-write-out k w f v t b r e h = way_out _ _ _ _ e _ k (write_tests w f v t b) (writes-by w f v t b r e h)
+write-out k g t b r e h = way_out _ _ _ _ e _ k (write_tests g.version.0 g.field.0 g.revision t b) (writes-by g t b r e h)
 
 -- its tests and what it leaves, by what the code has
 pub known_as : (w : ℕ) (x z : Bool) → x ≡ known_version w → not x ≡ z → not (known_version w) ≡ z
@@ -248,6 +252,6 @@ message-put w f v t b e s ee es u =
     let c = head_bytes w f v (length t) in
     ee ∙ put_next b c t (put_at b 0 c) (head_size w) (length-head w f v (length t)) (omega arith) (put-fits b 0 c (omega (arith, length-head w f v (length t))))
 
-pub ruleset heads = (rules, place-second, place-first, size-second, size-first, party-second, party-first, head_first, head-second, head-put, window-is, body_is, text-is, place-fits)
+pub ruleset heads = (rules, place-second, place-first, party-second, party-first, head-made, head-put, window-is, body_is, text-is, place-fits)
 
 pub ruleset writing = (rules, tested, sum_fits, known_as, allowed-as, field-as, room_as, size_is, message-put)

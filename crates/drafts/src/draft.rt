@@ -6,8 +6,8 @@ ghost use Rattle.drafts.specs.Draft.{slot_size, slot_in, slot_revision, slot_cel
 ghost use Rattle.drafts.specs.Working.Steps.{length_in, unknown_party, misfit, text_put, sheet_into};
 ghost use Rattle.drafts.specs.Promises.{Freshens, Posts, Copies};
 
-use crate::message::{REVISION_SIZE, Reading, message_text, read};
-use crate::revision::{Comparison, Party, Revision};
+use crate::message::{REVISION_SIZE, message_text, read};
+use crate::revision::{Party, Revision, Standing};
 use sheets::sheet::{CELL_SIZE, SHEET_SIZE, SLOT_COUNT, TEXT_MAX, cell_text, cells_ok, slot_of};
 use texts::answers::Refusal;
 use texts::buffers::{clear, put};
@@ -29,26 +29,6 @@ pub const DRAFT_SIZE: usize = SLOT_COUNT as usize * SLOT_SIZE;
 const FIRST_CELL: u8 = CELL_PLACE as u8;
 
 const SLOT_STEP: u8 = SLOT_SIZE as u8;
-
-#[derive(Clone, Copy)]
-pub enum Begun {
-    Made,
-    Refused(Refusal),
-}
-
-#[derive(Clone, Copy)]
-pub enum Posted {
-    Newer,
-    Same,
-    Older,
-    Refused(Refusal),
-}
-
-#[derive(Clone, Copy)]
-pub enum Copied {
-    Made,
-    Refused(Refusal),
-}
 
 // Slot i of a draft.
 fn slot_in(draft: &[u8], slot: u8) -> &[u8]
@@ -126,27 +106,25 @@ pub fn well_formed(draft: &[u8]) -> bool
         return false;
     }
     let mut sum = 0;
-    let mut slot: u8 = 0;
-    while slot < SLOT_COUNT {
+    for slot in 0..SLOT_COUNT {
         sum += misfit(slot_in(draft, slot));
-        slot += 1;
     }
     sum == 0
 }
 
 // "Fresh: all zero".
-pub fn fresh(draft: &mut [u8]) -> Begun
+pub fn fresh(draft: &mut [u8]) -> Result<(), Refusal>
     ensures { Freshens draft.old result draft.new }
 {
     if draft.len() != DRAFT_SIZE {
-        return Begun::Refused(Refusal(1));
+        return Err(Refusal(1));
     }
     clear(draft);
-    Begun::Made
+    Ok(())
 }
 
 // How a message of a revision and a text stands to a slot.
-fn stands(slot: &[u8], revision: Revision, text: &[u8]) -> Comparison
+fn stands(slot: &[u8], revision: Revision, text: &[u8]) -> Result<Standing, Refusal>
     ensures { result ≡ slot_comparison slot.now revision text.now }
 {
     let same_text = equals(cell_text(slot_cell(slot)), text);
@@ -166,46 +144,31 @@ fn slot_bytes(revision: Revision, text: &[u8]) -> [u8; SLOT_SIZE]
     slot
 }
 
-fn store(draft: &mut [u8], slot: u8, revision: Revision, text: &[u8])
-    requires { length text.now ≤ text_max }
-    ensures { draft.new ≡ put_at draft.old (slot * slot_size) (slot_bytes revision text.now) }
-{
-    let bytes = slot_bytes(revision, text);
-    put(draft, wide(slot) * SLOT_SIZE, &bytes);
-}
-
 // Stores a text in a slot of a draft, with a revision; one that is too long is not stored.
 pub fn put_text(draft: &mut [u8], slot: u8, revision: Revision, text: &[u8])
     ensures { draft.new ≡ text_put draft.old slot revision text.now }
 {
     if text.len() <= TEXT_MAX {
-        store(draft, slot, revision, text);
+        let bytes = slot_bytes(revision, text);
+        put(draft, wide(slot) * SLOT_SIZE, &bytes);
     }
 }
 
 // Posts a message to a draft.
-pub fn post(draft: &mut [u8], message: &[u8]) -> Posted
+pub fn post(draft: &mut [u8], message: &[u8]) -> Result<Standing, Refusal>
     ensures { Posts draft.old message.now result draft.new }
 {
     if !well_formed(draft) {
-        return Posted::Refused(Refusal(1));
+        return Err(Refusal(1));
     }
-    match read(message) {
-        Reading::Refused(refusal) => Posted::Refused(refusal),
-        Reading::Message(_, field, revision) => {
-            let slot = slot_of(field);
-            let text = message_text(message);
-            match stands(slot_in(draft, slot), revision, text) {
-                Comparison::Newer => {
-                    store(draft, slot, revision, text);
-                    Posted::Newer
-                }
-                Comparison::Same => Posted::Same,
-                Comparison::Older => Posted::Older,
-                Comparison::Clash => Posted::Refused(Refusal(6)),
-            }
-        }
+    let heading = read(message)?;
+    let slot = slot_of(heading.field);
+    let text = message_text(message);
+    let standing = stands(slot_in(draft, slot), heading.revision, text)?;
+    if standing == Standing::Newer {
+        put_text(draft, slot, heading.revision, text);
     }
+    Ok(standing)
 }
 
 // Puts a draft's sheet into a buffer. Callers lend an array of their own, which the compiler knows not to overlap the draft.
@@ -218,29 +181,27 @@ pub fn put_sheet(draft: &[u8], sheet: &mut [u8])
     if sheet.len() != SHEET_SIZE {
         return;
     }
-    let mut slot: u8 = 0;
-    while slot < SLOT_COUNT {
+    for slot in 0..SLOT_COUNT {
         put(
             sheet,
             wide(slot) * CELL_SIZE,
             slot_cell(slot_in(draft, slot)),
         );
-        slot += 1;
     }
 }
 
 // "Copying a draft to a sheet drops the revisions".
-pub fn copy(draft: &[u8], sheet: &mut [u8]) -> Copied
+pub fn copy(draft: &[u8], sheet: &mut [u8]) -> Result<(), Refusal>
     ensures { Copies draft.now sheet.old result sheet.new }
 {
     if !well_formed(draft) {
-        return Copied::Refused(Refusal(1));
+        return Err(Refusal(1));
     }
     if sheet.len() != SHEET_SIZE {
-        return Copied::Refused(Refusal(7));
+        return Err(Refusal(7));
     }
     let mut cells = [0u8; SHEET_SIZE];
     put_sheet(draft, &mut cells);
-    put(sheet, 0, &cells);
-    Copied::Made
+    sheet.copy_from_slice(&cells);
+    Ok(())
 }

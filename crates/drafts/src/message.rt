@@ -66,11 +66,7 @@ impl Version {
     pub fn head_size(self) -> usize
         ensures { result ≡ head_size self.0 }
     {
-        if self.0 == 2 {
-            HEAD_MOST
-        } else {
-            HEAD_MOST - 1
-        }
+        self.body_place() + TEXT_PLACE
     }
 
     // Whether a message of this version may be of a party: "the client when writing version 1" may not.
@@ -81,16 +77,12 @@ impl Version {
     }
 }
 
+// What a message says beside its text.
 #[derive(Clone, Copy)]
-pub enum Reading {
-    Message(Version, Field, Revision),
-    Refused(Refusal),
-}
-
-#[derive(Clone, Copy)]
-pub enum Written {
-    Bytes(usize),
-    Refused(Refusal),
+pub struct Heading {
+    pub version: Version,
+    pub field: Field,
+    pub revision: Revision,
 }
 
 // L.
@@ -153,33 +145,38 @@ fn field_and_revision(message: &[u8], version: Version) -> &[u8]
 }
 
 // The version, the field and the revision of a message; `message_text` has its text.
-pub fn read(message: &[u8]) -> Reading
+pub fn read(message: &[u8]) -> Result<Heading, Refusal>
     ensures { Reads message.now result }
 {
     if !framed(message) {
-        return Reading::Refused(Refusal(2));
+        return Err(Refusal(2));
     }
     let version = Version(at(message, 2));
     if !version.known() {
-        return Reading::Refused(Refusal(3));
+        return Err(Refusal(3));
     }
     if !version.takes(message.len()) {
-        return Reading::Refused(Refusal(2));
+        return Err(Refusal(2));
     }
     let body = field_and_revision(message, version);
     let party = party_of(message);
     if !party.known() {
-        return Reading::Refused(Refusal(13));
+        return Err(Refusal(13));
     }
     let field = Field(at(body, 0));
     if slot_of(field) == SLOT_COUNT {
-        return Reading::Refused(Refusal(4));
+        return Err(Refusal(4));
     }
     let number = body_revision(body);
     if number == 0 {
-        return Reading::Refused(Refusal(5));
+        return Err(Refusal(5));
     }
-    Reading::Message(version, field, Revision { number, party })
+    let revision = Revision { number, party };
+    Ok(Heading {
+        version,
+        field,
+        revision,
+    })
 }
 
 // The text of a message, as a part of it: the bytes behind its head, none where there are none.
@@ -190,80 +187,65 @@ pub fn message_text(message: &[u8]) -> &[u8]
     part(body, TEXT_PLACE, body.len())
 }
 
-// The bytes before a text of n bytes, at the start of an array that has room for the longest head.
-fn head(version: Version, field: Field, revision: Revision, n: usize) -> [u8; HEAD_MOST]
+// The bytes before a text of n bytes, at the start of an array that has room for the longest head. The field of version 1 stands where the
+// party of version 2 does.
+fn head(heading: Heading, n: usize) -> [u8; HEAD_MOST]
     requires { n ≤ text_max }
-    ensures { take (head_size version.0) result ≡ head_bytes version.0 field.0 revision n }
+    ensures { take (head_size heading.version.0) result ≡ head_bytes heading.version.0 heading.field.0 heading.revision n }
 {
+    let Heading {
+        version,
+        field,
+        revision,
+    } = heading;
+    let l = version.head_size() - 2 + n;
     let d = bytes_of_4(revision.number);
-    if version.0 == 2 {
-        [
-            0,
-            (n + LEAST_L + 1) as u8,
-            version.0,
-            revision.party.0,
-            field.0,
-            d[0],
-            d[1],
-            d[2],
-            d[3],
-        ]
-    } else {
-        [
-            0,
-            (n + LEAST_L) as u8,
-            version.0,
-            field.0,
-            d[0],
-            d[1],
-            d[2],
-            d[3],
-            0,
-        ]
-    }
+    let mut head = [0u8; HEAD_MOST];
+    put(&mut head, 0, &[0, l as u8, version.0, revision.party.0]);
+    put(&mut head, version.body_place(), &[field.0, d[0], d[1], d[2], d[3]]);
+    head
 }
 
 // Puts a message's head and its text at the buffer's start.
-fn put_message(version: Version, field: Field, revision: Revision, text: &[u8], buffer: &mut [u8])
+fn put_message(heading: Heading, text: &[u8], buffer: &mut [u8])
     requires { length text.now ≤ text_max }
-    ensures { buffer.new ≡ put_at (put_at buffer.old 0 (head_bytes version.0 field.0 revision (length text.now))) (head_size version.0) text.now }
+    ensures { buffer.new ≡ put_at (put_at buffer.old 0 (head_bytes heading.version.0 heading.field.0 heading.revision (length text.now))) (head_size heading.version.0) text.now }
 {
-    let size = version.head_size();
-    let h = head(version, field, revision, text.len());
+    let size = heading.version.head_size();
+    let h = head(heading, text.len());
     put(buffer, 0, part(&h, 0, size));
     put(buffer, size, text);
 }
 
-// Writes a message at the buffer's start, and leaves the rest.
-pub fn write(
-    version: Version,
-    field: Field,
-    revision: Revision,
-    text: &[u8],
-    buffer: &mut [u8],
-) -> Written
-    ensures { Writes version.0 field.0 revision text.now buffer.old result buffer.new }
+// Writes a message at the buffer's start, and leaves the rest. It answers how many bytes the message has.
+pub fn write(heading: Heading, text: &[u8], buffer: &mut [u8]) -> Result<usize, Refusal>
+    ensures { Writes heading text.now buffer.old result buffer.new }
 {
     let n = text.len();
     if TEXT_MAX < n {
-        return Written::Refused(Refusal(2));
+        return Err(Refusal(2));
     }
+    let Heading {
+        version,
+        field,
+        revision,
+    } = heading;
     if !version.known() {
-        return Written::Refused(Refusal(3));
+        return Err(Refusal(3));
     }
     if !version.allows(revision.party) {
-        return Written::Refused(Refusal(13));
+        return Err(Refusal(13));
     }
     if slot_of(field) == SLOT_COUNT {
-        return Written::Refused(Refusal(4));
+        return Err(Refusal(4));
     }
     if revision.number == 0 {
-        return Written::Refused(Refusal(5));
+        return Err(Refusal(5));
     }
     let size = version.head_size();
     if buffer.len() < n + size {
-        return Written::Refused(Refusal(7));
+        return Err(Refusal(7));
     }
-    put_message(version, field, revision, text, buffer);
-    Written::Bytes(n + size)
+    put_message(heading, text, buffer);
+    Ok(n + size)
 }
