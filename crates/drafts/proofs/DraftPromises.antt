@@ -1,7 +1,7 @@
 -- What the functions of drafts come to, by each way out of them.
 use mathlib.Core.Path.{◌≡◌, refl, sym, ap, ◌∙◌}
 use mathlib.Core.Logic.{◌↔◌, ⊎_elim}
-use mathlib.Core.Bool.{Bool, true, false, cond, not, ◌&&◌, true≢false}
+use mathlib.Core.Bool.{Bool, true, false, cond, not, ◌&&◌, true≢false, false≢true}
 use mathlib.Core.List.Memᴰ
 use mathlib.Core.List.{List, [], ◌∷◌, ◌++◌, Memᴰ}
 use Prim.Native.Nat.{ℕ, ◌+◌, ◌*◌, ◌<◌, ◌≤◌}
@@ -30,6 +30,8 @@ use Rattle.drafts.specs.History.{posted_all}
 use Rattle.drafts.specs.Working.Steps.{text_put, sheet_into}
 use Rattle.drafts.specs.Promises.{Reads, Postings, Stands, newer as is-newer, same as is_same, older as is-older, clash as is-clash, Posts, Copies}
 use Rattle.drafts.specs.declared.revision.Revision.{Revision}
+use denote.Enum.Bare.{sameb}
+use Rattle.drafts.specs.contracts.revision.Standing.{the_type}
 use Rattle.drafts.specs.declared.revision.Standing.{Standing}
 use Rattle.texts.specs.declared.answers.Refusal.{Refusal}
 use Rattle.drafts.specs.declared.revision.Standing.TheVariants.{Newer, Same, Older}
@@ -139,6 +141,17 @@ posts-by d m r e h p q = record {
   reached = λ b f. (messages_in d slot_count, reached d b f);
 }
 
+-- the one refusal of a comparison
+clash-among : (x y z : Bool) (c n : Refusal) → cond x (Ok Newer) (cond y (Ok Older) (cond z (Ok Same) (Err c))) ≡ Err n → c ≡ n
+clash-among true y z c n e = let o : ◌≡◌ {A = ℕ} 0 1 = cc in absurd (omega arith)
+clash-among false true z c n e = let o : ◌≡◌ {A = ℕ} 0 1 = cc in absurd (omega arith)
+clash-among false false true c n e = let o : ◌≡◌ {A = ℕ} 0 1 = cc in absurd (omega arith)
+clash-among false false false c n e = cc
+
+clash-is : (s : List ℕ) (v : Revision) (t : List ℕ) (n : Refusal) → slot_comparison s v t ≡ Err n → record { 0 = 6 } ≡ n
+unfolding slot_comparison
+clash-is s v t n e = clash-among (ltb (rank (slot_revision s)) (rank v)) (ltb (rank v) (rank (slot_revision s))) (same (slot_text s) t) _ n e
+
 module _ (d m : List ℕ) (h : (k : ℕ) → Fits w8 (get_or m k 0)) (b : Bool) (eb : b ≡ draft_formed d) where
   pub post-malformed : not b ≡ true → Posts d m (Err (record { 0 = 1 })) d
   unfolding posting_of posted_to post_tests
@@ -167,19 +180,34 @@ module _ (d m : List ℕ) (h : (k : ℕ) → Fits w8 (get_or m k 0)) (b : Bool) 
         stood =
             est ∙ ap (λ (x : Revision). slot_comparison s x t) found.3 ∙ ap (λ (x : List ℕ). slot_comparison s (revision_of m) x) et ∙ ap (λ (x : List ℕ). slot_comparison x (revision_of m) (message_text m)) (es ∙ ap (slot_in d) slot_is)
 
-        pub post-newer : (e : List ℕ) → st ≡ Ok Newer → e ≡ text_put d k g.revision t → Posts d m (Ok Newer) e
+        -- what a standing is answered with, and what it leaves
+        post-stood : (x : Result Standing Refusal) → st ≡ x → post_answer x ≡ answer_by (clash_test x) (word x) → (e : List ℕ) → e ≡ buffer_by (clash_test x) (draft_by x (stored d m) d) d → Posts d m x e
+        post-stood x q a e w = let p = post_read d m x formed found.0 (sym q ∙ stood) in posts-by d m x e h (a ∙ p.0) (w ∙ p.1)
+
+        put-is : text_put d k g.revision t ≡ stored d m
         unfolding stored slot_with text_put
-        post-newer e q w =
-            let p = post_read d m (Ok Newer) formed found.0 (sym q ∙ stood) in
+        put-is =
             let n = (slotted (message_field m) (readable-means m found.0).listed).1 in
             let l = length-slot g.revision t post-short in
             let z = (formed-means d formed).sized in
-            let y : e ≡ put d (k * slot_size) (slot_bytes g.revision t) = w ∙ rw (le-leb _ _ post-short) (put-fits d (k * slot_size) (slot_bytes g.revision t) (omega (arith, slot_is))) in
-            posts-by d m _ e h p.0 (y ∙ ap (λ (x : List ℕ). put d (k * slot_size) x) (ap (λ (x : Revision). slot_bytes x t) found.3 ∙ ap (slot_bytes (revision_of m)) et) ∙ ap (λ (x : ℕ). put d (x * slot_size) (slot_bytes (revision_of m) (message_text m))) slot_is ∙ p.1)
+            rw (le-leb _ _ post-short) (put-fits d (k * slot_size) (slot_bytes g.revision t) (omega (arith, slot_is)))
+            ∙ ap (λ (x : List ℕ). put d (k * slot_size) x) (ap (λ (x : Revision). slot_bytes x t) found.3 ∙ ap (slot_bytes (revision_of m)) et)
+            ∙ ap (λ (x : ℕ). put d (x * slot_size) (slot_bytes (revision_of m) (message_text m))) slot_is
 
-        -- the draft as it was
-        pub post-still : (x r : Result Standing Refusal) → st ≡ x → post_answer r ≡ answer_by (clash_test x) (word x) → d ≡ buffer_by (clash_test x) (draft_by x (stored d m) d) d → Posts d m r d
-        post-still x r q a k = let p = post_read d m x formed found.0 (sym q ∙ stood) in posts-by d m r d h (a ∙ p.0) (k ∙ p.1)
+        module _ (z : Bool) where
+          pub post-newer : (e : List ℕ) (x : Standing) → st ≡ Ok x → z ≡ sameb the_type x Newer → z ≡ true → e ≡ text_put d k g.revision t → Posts d m (Ok x) e
+          post-newer e Newer q n y w = post-stood (Ok Newer) q refl e (w ∙ put-is)
+          post-newer e Same q n y w = absurd (false≢true (sym n ∙ y))
+          post-newer e Older q n y w = absurd (false≢true (sym n ∙ y))
+
+          -- the draft as it was
+          pub post-still : (x : Standing) → st ≡ Ok x → z ≡ sameb the_type x Newer → z ≡ false → Posts d m (Ok x) d
+          post-still Newer q n y = absurd (true≢false (sym n ∙ y))
+          post-still Same q n y = post-stood (Ok Same) q refl d refl
+          post-still Older q n y = post-stood (Ok Older) q refl d refl
+
+        pub post-clash : (n : Refusal) → st ≡ Err n → Posts d m (Err n) d
+        post-clash n q = post-stood (Err n) q (ap (λ (x : Refusal). post_answer (Err x)) (sym (clash-is s g.revision t n (sym est ∙ q)))) d refl
 
 -- ---- put_sheet: the cells of the first n slots stand in what was there before
 
@@ -264,7 +292,7 @@ pub ruleset begins = (rules, slot_read, slot-made, fresh-not, fresh-made)
 
 pub ruleset puts = (rules, text-put, text-left)
 
-pub ruleset posts = (rules, post-malformed, post-unread, post-short, post-newer, post-still)
+pub ruleset posts = (rules, post-malformed, post-unread, post-short, post-newer, post-still, post-clash)
 
 pub ruleset sheets = (rules, cells-none, cells-more, cells-length, cells-all)
 

@@ -31,6 +31,7 @@ const FIRST_CELL: u8 = CELL_PLACE as u8;
 const SLOT_STEP: u8 = SLOT_SIZE as u8;
 
 // Slot i of a draft.
+#[tactic(auto, unfolding(crate::specs::Draft::slot_in))]
 fn slot_in(draft: &[u8], slot: u8) -> &[u8]
     ensures { result.now ≡ slot_in draft.now slot }
 {
@@ -39,6 +40,7 @@ fn slot_in(draft: &[u8], slot: u8) -> &[u8]
 }
 
 // The revision that a slot holds, and its party.
+#[tactic(auto, unfolding(crate::specs::Draft::slot_revision))]
 fn slot_revision(slot: &[u8]) -> Revision
     ensures { result ≡ slot_revision slot.now }
 {
@@ -55,6 +57,7 @@ pub fn revision_in(draft: &[u8], slot: u8) -> Revision
     slot_revision(slot_in(draft, slot))
 }
 
+#[tactic(auto, unfolding(crate::specs::Draft::slot_text))]
 pub fn text_in(draft: &[u8], slot: u8) -> &[u8]
     ensures { result.now ≡ slot_text (slot_in draft.now slot) }
 {
@@ -69,6 +72,7 @@ pub fn length_in(draft: &[u8], slot: u8) -> u8
 }
 
 // A slot without its revision, as a sheet has it.
+#[tactic(auto, unfolding(crate::specs::Draft::slot_cell))]
 fn slot_cell(slot: &[u8]) -> &[u8]
     ensures { result.now ≡ slot_cell slot.now }
 {
@@ -76,6 +80,7 @@ fn slot_cell(slot: &[u8]) -> &[u8]
 }
 
 // 1 for a party that is not known.
+#[tactic(auto, unfolding(crate::specs::Working::Steps::unknown_party))]
 fn unknown_party(party: Party) -> usize
     ensures { result ≡ unknown_party party.0 }
 {
@@ -84,6 +89,7 @@ fn unknown_party(party: Party) -> usize
 
 // What does not fit before a slot's text, as a number: in a slot of revision 0 the length of a text and the party, read as one, in another
 // 1 for an unknown party. Both are made before it is asked which, so that no branch stands for it.
+#[tactic(auto, unfolding(crate::specs::Working::Steps::misfit, crate::specs::Working::Steps::unknown_party))]
 fn misfit(slot: &[u8]) -> usize
     ensures { (result ≡ misfit slot.now) × (result ≤ 65535) }
 {
@@ -96,6 +102,7 @@ fn misfit(slot: &[u8]) -> usize
 // "Malformed: another size, a length above 25, a nonzero pad byte; in a draft also revision 0 with a text", and a party that is not "0 exactly
 // if the revision is 0 and otherwise 1 or 2". What does not fit is summed: a test for each slot is compiled to a branch, and which slots are
 // given is hard to foretell.
+#[tactic(auto, using(crate::proofs::Slots::forms))]
 pub fn well_formed(draft: &[u8]) -> bool
     ensures { result ≡ draft_formed draft.now }
 {
@@ -124,6 +131,7 @@ pub fn fresh(draft: &mut [u8]) -> Result<(), Refusal>
 }
 
 // How a message of a revision and a text stands to a slot.
+#[tactic(auto, unfolding(crate::specs::Draft::slot_comparison, crate::specs::Draft::slot_text))]
 fn stands(slot: &[u8], revision: Revision, text: &[u8]) -> Result<Standing, Refusal>
     ensures { result ≡ slot_comparison slot.now revision text.now }
 {
@@ -145,6 +153,7 @@ fn slot_bytes(revision: Revision, text: &[u8]) -> [u8; SLOT_SIZE]
 }
 
 // Stores a text in a slot of a draft, with a revision; one that is too long is not stored.
+#[tactic(auto, unfolding(crate::specs::Working::Steps::text_put))]
 pub fn put_text(draft: &mut [u8], slot: u8, revision: Revision, text: &[u8])
     ensures { draft.new ≡ text_put draft.old slot revision text.now }
 {
@@ -172,6 +181,7 @@ pub fn post(draft: &mut [u8], message: &[u8]) -> Result<Standing, Refusal>
 }
 
 // Puts a draft's sheet into a buffer. Callers lend an array of their own, which the compiler knows not to overlap the draft.
+#[tactic(auto, using(crate::proofs::DraftPromises::sheets))]
 pub fn put_sheet(draft: &[u8], sheet: &mut [u8])
     ensures { sheet.new ≡ sheet_into draft.now sheet.old }
 {

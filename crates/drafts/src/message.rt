@@ -52,6 +52,7 @@ impl Version {
     }
 
     // Whether a message of this version may have n bytes, of those that one of either version may have.
+    #[tactic(auto, unfolding(crate::specs::Working::Steps::takes))]
     fn takes(self, n: usize) -> bool
         ensures { result ≡ takes self.0 n }
     {
@@ -93,6 +94,7 @@ fn length_of(message: &[u8]) -> usize
 }
 
 // The party of a message: "Version 1 counts as the adviser".
+#[tactic(auto, unfolding(crate::specs::Message::party_of))]
 fn party_of(message: &[u8]) -> Party
     ensures { result.0 ≡ party_of message.now }
 {
@@ -104,6 +106,7 @@ fn party_of(message: &[u8]) -> Party
 }
 
 // The field, the revision and the text of a message, as a part of it.
+#[tactic(auto, using(crate::proofs::MessagePromises::heads))]
 fn message_body(message: &[u8]) -> &[u8]
     ensures { result.now ≡ message_body message.now }
 {
@@ -123,6 +126,7 @@ fn body_revision(body: &[u8]) -> u32
 }
 
 // A message has a size that one of either version may have, and L is the rest.
+#[tactic(auto, using(crate::proofs::MessagePromises::framing))]
 fn framed(message: &[u8]) -> bool
     ensures { result ≡ not (misframed message.now) }
 {
@@ -180,6 +184,7 @@ pub fn read(message: &[u8]) -> Result<Heading, Refusal>
 }
 
 // The text of a message, as a part of it: the bytes behind its head, none where there are none.
+#[tactic(auto, using(crate::proofs::MessagePromises::heads))]
 pub fn message_text(message: &[u8]) -> &[u8]
     ensures { result.now ≡ message_text message.now }
 {
@@ -189,6 +194,7 @@ pub fn message_text(message: &[u8]) -> &[u8]
 
 // The bytes before a text of n bytes, at the start of an array that has room for the longest head. The field of version 1 stands where the
 // party of version 2 does.
+#[tactic(auto, using(crate::proofs::MessagePromises::heads))]
 fn head(heading: Heading, n: usize) -> [u8; HEAD_MOST]
     requires { n ≤ text_max }
     ensures { take (head_size heading.version.0) result ≡ head_bytes heading.version.0 heading.field.0 heading.revision n }
