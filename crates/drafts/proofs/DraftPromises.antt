@@ -45,7 +45,7 @@ use Rattle.drafts.proofs.Held.{held_by}
 use Rattle.drafts.proofs.Reaching.{messages_in, reached}
 use Rattle.drafts.proofs.DraftSheets.{length-cell, length-cells, length-sheet, sheet-made, sheet-into}
 use Rattle.drafts.proofs.Slots.{length-slot, party-small, formed-means}
-use Rattle.drafts.proofs.SlotBytes.{slot_read, slot-made}
+use Rattle.drafts.proofs.SlotBytes.{slot-made}
 use Rattle.drafts.proofs.Freshening.{fresh-not, fresh-made}
 
 -- ---- post
@@ -157,9 +157,9 @@ module _ (d m : List ℕ) (h : (k : ℕ) → Fits w8 (get_or m k 0)) (b : Bool) 
   unfolding posting_of posted_to post_tests
   post-malformed n = posts-by d m _ d h (rw (← eb, not-true b n)) (rw (← eb, not-true b n))
 
-  module _ (nb : not b ≡ false) (rd : Result Heading Refusal) (R : Reads m rd) where
+  module _ (nb : b ≡ true) (rd : Result Heading Refusal) (R : Reads m rd) where
     formed : draft_formed d ≡ true
-    formed = sym eb ∙ not-false b nb
+    formed = sym eb ∙ nb
 
     pub post-unread : (n : Refusal) → rd ≡ Err n → Posts d m (Err n) d
     post-unread n e = let p = not-read d m n.0 formed (ap read_answer (sym e) ∙ R.answer) in posts-by d m _ d h p.0 p.1
@@ -277,20 +277,7 @@ copy-made d s b o x e ee ex lo z eb nb =
     let ed : x ≡ draft_sheet d = ex ∙ sheet-into d o sized lo in
     ee ∙ ed
 
--- ---- the ways out of `put_text`
-
-module _ (d : List ℕ) (i : ℕ) (v : Revision) (t : List ℕ) where
-  pub text-put : (e : List ℕ) → length t ≤ text_max → e ≡ put_at d (i * slot_size) (slot_bytes v t) → e ≡ text_put d i v t
-  unfolding text_put
-  text-put e l q = rw (le-leb _ _ l) q
-
-  pub text-left : text_max < length t → d ≡ text_put d i v t
-  unfolding text_put
-  text-left l = rw (lt-leb _ _ l)
-
-pub ruleset begins = (rules, slot_read, slot-made, fresh-not, fresh-made)
-
-pub ruleset puts = (rules, text-put, text-left)
+pub ruleset begins = (rules, slot-made, fresh-not, fresh-made)
 
 pub ruleset posts = (rules, post-malformed, post-unread, post-short, post-newer, post-still, post-clash)
 

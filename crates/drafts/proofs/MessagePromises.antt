@@ -118,43 +118,18 @@ window-fits m x t w ex hx et ht =
     omega (arith, f, ltb-false (length_of m) (least_l w) (neither (ltb (length_of m) (least_l w)) _ d).0, placed w)
 
 -- the sums that the code makes
-pub length-fits : (m : List ℕ) → ((k : ℕ) → Fits w8 (get_or m k 0)) → (l : ℕ) → l ≡ length_of m → Fits w64 (l + 2)
-length-fits m h l e = record { fits = omega (arith, (h 0).fits, (h 1).fits) }
-
-pub place-fits : (w s k : ℕ) → s ≡ body_place w → k ≤ text_max → Fits w64 (s + k)
-place-fits w s k e l = record { fits = omega (arith, placed w) }
-
 pub sum_fits : (w s k : ℕ) → s ≡ head_size w → k ≤ text_max → Fits w64 (k + s)
 sum_fits w s k e l = record { fits = omega (arith, placed w) }
 
-pub ruleset framing = (rules, length-fits, framed-short, framed-long, framed-rest, takes-second, takes_first)
+pub ruleset framing = (rules, framed-short, framed-long, framed-rest)
 
 pub ruleset reading = (tested, frame-as, version-as, size-as, party-as, listed-as, number-as, values-as)
 
 -- ---- parts of a message
 
-module _ (w : ℕ) where
-  pub place-second : w ≡ 2 → 4 ≡ body_place w
-  place-second e = rw e
-
-  pub place-first : (w ≡ 2 → ⊥) → 3 ≡ body_place w
-  place-first n = rw (ne_eqb w 2 n)
-
-  module _ (m : List ℕ) (ew : w ≡ version_of m) where
-    pub party-second : w ≡ 2 → (p : ℕ) → p ≡ get_or m 3 0 → p ≡ party_of m
-    unfolding party_of
-    party-second e p ep = rw (← ew, e) ep
-
-    pub party-first : (w ≡ 2 → ⊥) → adviser ≡ party_of m
-    unfolding party_of
-    party-first n = rw (← ew, ne_eqb w 2 n)
-
 rest-is : (m t : List ℕ) (k : ℕ) → t ≡ between m k (length m) → t ≡ drop k m
 unfolding between
 rest-is m t k e = let l = length-drop k m in e ∙ take_all (length m - k) (drop k m) (omega arith)
-
-pub window-is : (m : List ℕ) (w k : ℕ) → k ≡ body_place w → take (k + text_place - k) (drop k m) ≡ take text_place (drop (body_place w) m)
-window-is m w k e = let z : k + text_place - k ≡ text_place = omega arith in rw (z, e)
 
 pub body_is : (m t : List ℕ) (w k : ℕ) → w ≡ version_of m → k ≡ body_place w → t ≡ between m k (length m) → t ≡ message_body m
 unfolding message_body
@@ -216,9 +191,6 @@ pub head-made : (w f n : ℕ) (v : Revision) (d x y : List ℕ) (l k : ℕ) → 
 unfolding head_bytes opening put_at put
 head-made w f n v d x y l k ed ek el ex ey = cases (eqb w 2) (λ t. rw (ey, ex, ek, el, ed, t)) (λ t. rw (ey, ex, ek, el, ed, t))
 
-pub head-length : (w n s : ℕ) → s ≡ head_size w → n ≤ text_max → (2 ≤ s) × (s - 2 + n ≡ n + least_l w) × (s - 2 + n ≤ 32)
-head-length w n s e h = (omega (arith, placed w), omega (arith, placed w), omega (arith, placed w))
-
 pub head-put : (w f : ℕ) (v : Revision) (t b d c x e : List ℕ) (s : ℕ) → s ≡ head_size w → take (head_size w) d ≡ head_bytes w f v (length t) → c ≡ between d 0 s → x ≡ put_at b 0 c → e ≡ put_at x s t
     → e ≡ put_at (put_at b 0 (head_bytes w f v (length t))) (head_size w) t
 unfolding between
@@ -252,6 +224,6 @@ message-put w f v t b e s ee es u =
     let c = head_bytes w f v (length t) in
     ee ∙ put_next b c t (put_at b 0 c) (head_size w) (length-head w f v (length t)) (omega arith) (put-fits b 0 c (omega (arith, length-head w f v (length t))))
 
-pub ruleset heads = (rules, place-second, place-first, party-second, party-first, head-made, head-put, window-is, body_is, text-is, place-fits)
+pub ruleset heads = (rules, head-made, head-put, body_is, text-is)
 
 pub ruleset writing = (rules, tested, sum_fits, known_as, allowed-as, field-as, room_as, size_is, message-put)

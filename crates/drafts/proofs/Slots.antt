@@ -111,36 +111,6 @@ pub misfit-more : (d s : List ℕ) (n k m : ℕ) → k ≡ misfit_all d n → s 
 unfolding misfit_all
 misfit-more d s n k m e es em = rw (add-one n, e, em, es)
 
--- the ways out of `unknown_party`
-module _ (p : ℕ) (b : Bool) (e : b ≡ known_party p) where
-  pub unknown-not : b ≡ true → 0 ≡ unknown_party p
-  unfolding unknown_party
-  unknown-not t = rw (← e, t)
-
-  pub unknown-is : b ≡ false → 1 ≡ unknown_party p
-  unfolding unknown_party
-  unknown-is f = rw (← e, f)
-
-unknown-most : (p : ℕ) → unknown_party p ≤ 1
-unfolding unknown_party
-unknown-most p = cases (known_party p) (λ t. rw t (omega arith)) (λ f. rw f (omega arith))
-
-party-byte : (s : List ℕ) → ((k : ℕ) → Fits w8 (get_or s k 0)) → (slot_revision s).party.0 < 256
-unfolding slot_revision
-party-byte s h = (h revision_size).fits
-
--- the ways out of `misfit`
-module _ (s : List ℕ) (v : Revision) (ev : v ≡ slot_revision s) where
-  pub misfit-zero : ((k : ℕ) → Fits w8 (get_or s k 0)) → (a n : ℕ) → a ≡ get_or s cell_place 0 → n ≡ big (a ∷ v.party.0 ∷ []) → v.number ≡ 0 → (n ≡ misfit s) × (n ≤ 65535)
-  unfolding misfit
-  misfit-zero h a n ea en z =
-      let p : v.party.0 < 256 = rw ev (party-byte s h) in
-      (rw (← ev, eq-eqb _ _ z, ← ea) en, omega (arith, (h cell_place).fits))
-
-  pub misfit-given : (m : ℕ) → m ≡ unknown_party v.party.0 → (v.number ≡ 0 → ⊥) → (m ≡ misfit s) × (m ≤ 65535)
-  unfolding misfit
-  misfit-given m e z = (rw (← ev, ne_eqb _ _ z) e, omega (arith, unknown-most v.party.0))
-
 pub record Formed (d : List ℕ) : Type 0 where
   pub sized : length d ≡ draft_size
   pub slot : (i : ℕ) → i < slot_count → slot_formed (slot_in d i) ≡ true
@@ -255,4 +225,4 @@ module _ (d : List ℕ) (z : length d ≡ draft_size) (q : Bool) (e : q ≡ cell
       (λ u. formed-by d (record { sized = z; slot = λ i j. slot_at i j ∙ and2 _ _ (cells-each slot_size d slot_count cell_place (sym e ∙ not-false q t) i j) (eq-eqb _ _ (sum-none d slot_count (all ∙ eqb-true _ _ u) i j)) }))
       (λ u. eq-eqb _ _ (sym all ∙ (both-formed u).1))
 
-pub ruleset forms = (rules, formed-other, cells-not, unknown-not, unknown-is, misfit-none, misfit-more, tested)
+pub ruleset forms = (rules, formed-other, cells-not, misfit-none, misfit-more, tested)
