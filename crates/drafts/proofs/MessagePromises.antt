@@ -32,7 +32,7 @@ use Rattle.drafts.specs.declared.message.Heading.{Heading}
 use Rattle.texts.specs.declared.answers.Refusal.{Refusal}
 use Rattle.drafts.proofs.Messages.{revision-is, placed, neither, frame-means, read_found, writable, written-by, message-of, is-message, written-again, length-head, length-message}
 use Rattle.drafts.proofs.ReadBack.{read_back}
-use Rattle.drafts.proofs.Sizes.{twice, framed-short, framed-long, framed-rest, takes-second, takes_first, takes-is}
+use Rattle.drafts.proofs.Sizes.{twice, framed-short, framed-long, framed-rest, takes-is}
 
 -- ---- read
 
