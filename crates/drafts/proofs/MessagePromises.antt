@@ -1,8 +1,8 @@
 -- The promises of `read` and `write`, and their ways out.
 use mathlib.Core.Path.{◌≡◌, sym, ap, ◌∙◌}
-use mathlib.Core.Bool.{Bool, false, not}
+use mathlib.Core.Bool.{Bool, true, false, not}
 use mathlib.Core.List.{List, [], ◌∷◌}
-use Prim.Native.Nat.{ℕ, ◌+◌, ◌-◌, ◌≤◌}
+use Prim.Native.Nat.{ℕ, ◌+◌, ◌-◌, ◌≤◌, ◌<◌}
 use native.Mathlib.Omega.{arith}
 use borrow.Author.Tests.{ne_eqb, ltb-false}
 use borrow.Author.Rules.{rules}
@@ -11,7 +11,7 @@ use mir.Syntax.{w8, w32, w64}
 use mir.Val.{Fits}
 use lib.Dec.{eqb, ltb}
 use lib.ListN.{length, take, drop, get_or, replicate, length-drop}
-use lib.Seq.{take_all, get_or-take}
+use lib.Seq.{take_all, get_or-take, get_or-drop}
 use Rattle.texts.specs.Answers.{success}
 use Rattle.texts.specs.Texts.{between}
 use Rattle.texts.specs.Numbers.{big, bytes_of, bytes_at}
@@ -93,28 +93,39 @@ module _ (m : List ℕ) (z : Bool) where
     unfolding message_body
     field_is = ap (λ (x : List ℕ). get_or x 0 0) ec ∙ get_or-take text_place (drop (body_place w) m) 0 0 (omega arith) ∙ rw ew
 
-    number_is : big (bytes_at c revision_place revision_size) ≡ (revision_of m).number
-    unfolding message_body revision_of
-    number_is =
-        ap (λ (x : List ℕ). big (bytes_at x revision_place revision_size)) ec
-        ∙ rw (get_or-take text_place (drop (body_place w) m) 1 0 (omega arith), get_or-take text_place (drop (body_place w) m) 2 0 (omega arith), get_or-take text_place (drop (body_place w) m) 3 0 (omega arith), get_or-take text_place (drop (body_place w) m) 4 0 (omega arith), ew)
+    number_at : (i : ℕ) → i < revision_size → get_or (between c revision_place text_place) i 0 ≡ get_or (message_body m) (revision_place + i) 0
+    unfolding message_body between
+    number_at i h =
+        get_or-take revision_size (drop revision_place c) i 0 h
+        ∙ get_or-drop revision_place c i 0
+        ∙ ap (λ (x : List ℕ). get_or x (revision_place + i) 0) ec
+        ∙ get_or-take text_place (drop (body_place w) m) (revision_place + i) 0 (omega arith)
+        ∙ rw ew
+
+    number_is : big (bytes_at (between c revision_place text_place) 0 revision_size) ≡ (revision_of m).number
+    unfolding revision_of
+    number_is = rw (number_at 0 (omega arith), number_at 1 (omega arith), number_at 2 (omega arith), number_at 3 (omega arith))
 
     pub listed-as : (f k : ℕ) → k ≡ slot_of f → f ≡ get_or c 0 0 → eqb k slot_count ≡ z → eqb (slot_of (message_field m)) slot_count ≡ z
     listed-as f k ek ef h = field-as (message_field m) f k z ek (ef ∙ field_is) h
 
-    pub number-as : (n : ℕ) → n ≡ big (bytes_at c revision_place revision_size) → eqb n 0 ≡ z → eqb (revision_of m).number 0 ≡ z
-    number-as n en h = rw (← number_is, ← en) h
+    module _ (b : List ℕ) (eb : b ≡ between c revision_place text_place) (n : ℕ) (en : n ≡ big (bytes_at b 0 revision_size)) where
+      given_is : n ≡ (revision_of m).number
+      given_is = en ∙ ap (λ (x : List ℕ). big (bytes_at x 0 revision_size)) eb ∙ number_is
 
-    pub values-as : (f n : ℕ) (p : Party) → f ≡ get_or c 0 0 → n ≡ big (bytes_at c revision_place revision_size) → p.0 ≡ party_of m
-        → success (read_values w f (record { number = n; party = p })) ≡ success (read_values (version_of m) (message_field m) (revision_of m))
-    unfolding revision_of
-    values-as f n p ef en ep = rw (← ew, ef, en, ← ep, field_is, number_is)
+      pub number-as : eqb n 0 ≡ z → eqb (revision_of m).number 0 ≡ z
+      number-as h = rw (← given_is) h
+
+      pub values-as : (f : ℕ) (p : Party) → f ≡ get_or c 0 0 → p.0 ≡ party_of m
+          → success (read_values w f (record { number = n; party = p })) ≡ success (read_values (version_of m) (message_field m) (revision_of m))
+      unfolding revision_of
+      values-as f p ef ep = rw (← ew, ef, ← ep, field_is, given_is)
 
 -- a version that takes the size of a message leaves room for its field and its revision
-pub window-fits : (m : List ℕ) (x t : Bool) (w : ℕ) → x ≡ not (misframed m) → not x ≡ false → t ≡ takes w (length m) → not t ≡ false → body_place w + text_place ≤ length m
+pub window-fits : (m : List ℕ) (x t : Bool) (w : ℕ) → x ≡ not (misframed m) → x ≡ true → t ≡ takes w (length m) → t ≡ true → body_place w + text_place ≤ length m
 window-fits m x t w ex hx et ht =
-    let f = frame-means m (sym (twice (misframed m)) ∙ rw (← ex) hx) in
-    let d : disallowed w (length_of m) ≡ false = sym (twice (disallowed w (length_of m))) ∙ rw (← (takes-is (length m) (length_of m) f.0 f.1 f.2 w), ← et) ht in
+    let f = frame-means m (sym (twice (misframed m)) ∙ ap not (sym ex ∙ hx)) in
+    let d : disallowed w (length_of m) ≡ false = sym (twice (disallowed w (length_of m))) ∙ ap not (sym (takes-is (length m) (length_of m) f.0 f.1 f.2 w) ∙ sym et ∙ ht) in
     omega (arith, f, ltb-false (length_of m) (least_l w) (neither (ltb (length_of m) (least_l w)) _ d).0, placed w)
 
 -- the sums that the code makes
@@ -184,12 +195,13 @@ writes-by g t b r e h p q = record {
         )
 
 -- the head: in version 1 the field is put over the party
-pub head-made : (w f n : ℕ) (v : Revision) (d x y : List ℕ) (l k : ℕ) → d ≡ bytes_of revision_size v.number → k ≡ body_place w → l ≡ n + least_l w
+pub head-made : (w f n : ℕ) (v : Revision) (d x y z : List ℕ) (l k : ℕ) → d ≡ bytes_of revision_size v.number → k ≡ body_place w → l ≡ n + least_l w
     → x ≡ put_at (replicate 9 0) 0 (0 ∷ l ∷ w ∷ v.party.0 ∷ [])
-    → y ≡ put_at x k (f ∷ get_or d 0 0 ∷ get_or d 1 0 ∷ get_or d 2 0 ∷ get_or d 3 0 ∷ [])
-    → take (head_size w) y ≡ head_bytes w f v n
+    → y ≡ put_at x k (f ∷ [])
+    → z ≡ put_at y (k + revision_place) d
+    → take (head_size w) z ≡ head_bytes w f v n
 unfolding head_bytes opening put_at put
-head-made w f n v d x y l k ed ek el ex ey = cases (eqb w 2) (λ t. rw (ey, ex, ek, el, ed, t)) (λ t. rw (ey, ex, ek, el, ed, t))
+head-made w f n v d x y z l k ed ek el ex ey ez = cases (eqb w 2) (λ t. rw (ez, ey, ex, ek, el, ed, t)) (λ t. rw (ez, ey, ex, ek, el, ed, t))
 
 pub head-put : (w f : ℕ) (v : Revision) (t b d c x e : List ℕ) (s : ℕ) → s ≡ head_size w → take (head_size w) d ≡ head_bytes w f v (length t) → c ≡ between d 0 s → x ≡ put_at b 0 c → e ≡ put_at x s t
     → e ≡ put_at (put_at b 0 (head_bytes w f v (length t))) (head_size w) t

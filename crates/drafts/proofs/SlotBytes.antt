@@ -18,14 +18,14 @@ use Rattle.drafts.proofs.Messages.{revision-is}
 -- ---- the bytes of a slot
 
 -- the text begins behind the cell's length, a byte
-pub slot-made : (v : Revision) (t d x y : List ℕ) → length t ≤ text_max → d ≡ bytes_of revision_size v.number
-    → x ≡ put_at (replicate slot_size 0) 0 (get_or d 0 0 ∷ get_or d 1 0 ∷ get_or d 2 0 ∷ get_or d 3 0 ∷ v.party.0 ∷ length t ∷ []) → y ≡ put_at x (cell_place + 1) t → y ≡ slot_bytes v t
-unfolding slot_bytes cell
-slot-made v t d x y l ed ex ey =
-    let z : List ℕ = replicate slot_size 0 in
-    let s : List ℕ = get_or d 0 0 ∷ get_or d 1 0 ∷ get_or d 2 0 ∷ get_or d 3 0 ∷ v.party.0 ∷ length t ∷ [] in
-    let fx : x ≡ put z 0 s = ex ∙ put-fits z 0 s (omega arith) in
-    let fy : y ≡ put z 0 (s ++ t) = ey ∙ put_next z s t x (cell_place + 1) refl (omega arith) fx in
+pub slot-made : (v : Revision) (t d x y z : List ℕ) → length t ≤ text_max → d ≡ bytes_of revision_size v.number → x ≡ put_at (replicate slot_size 0) 0 d
+    → y ≡ put_at x revision_size (v.party.0 ∷ length t ∷ []) → z ≡ put_at y (cell_place + 1) t → z ≡ slot_bytes v t
+unfolding slot_bytes cell put put_at
+slot-made v t d x y z l ed ex ey ez =
+    let o : List ℕ = replicate slot_size 0 in
+    let s : List ℕ = bytes_of revision_size v.number ++ (v.party.0 ∷ length t ∷ []) in
+    let fy : y ≡ put o 0 s = rw (ey, ex, ed) in
+    let fz : z ≡ put o 0 (s ++ t) = ez ∙ put_next o s t y (cell_place + 1) refl (omega arith) fy in
     let n : slot_size ≡ cell_place + 1 + length t + (text_max - length t) = omega arith in
     let m : length (s ++ t) ≡ cell_place + 1 + length t = omega arith in
-    fy ∙ ap (λ (k : ℕ). put (replicate k 0) 0 (s ++ t)) n ∙ put-zeros (s ++ t) (cell_place + 1 + length t) (text_max - length t) m ∙ rw ed
+    fz ∙ ap (λ (k : ℕ). put (replicate k 0) 0 (s ++ t)) n ∙ put-zeros (s ++ t) (cell_place + 1 + length t) (text_max - length t) m

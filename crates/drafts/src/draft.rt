@@ -7,12 +7,12 @@ ghost use Rattle.drafts.specs.Working.Steps.{length_in, unknown_party, misfit, t
 ghost use Rattle.drafts.specs.Promises.{Freshens, Posts, Copies};
 
 use crate::message::{REVISION_SIZE, message_text, read};
-use crate::revision::{Party, Revision, Standing};
+use crate::revision::{Party, Revision, Standing, revision_number};
 use sheets::sheet::{CELL_SIZE, SHEET_SIZE, SLOT_COUNT, TEXT_MAX, cell_text, cells_ok, slot_of};
 use texts::answers::Refusal;
 use texts::buffers::{clear, put};
 use texts::comparisons::equals;
-use texts::numbers::{bytes_of_4, number_of_2, number_of_4};
+use texts::numbers::{bytes_of_4, number_of_2};
 use texts::parts::{at, part, wide};
 
 // A slot is a revision, its party and a sheet's cell: where the cell begins, and the text in it.
@@ -45,7 +45,7 @@ fn slot_revision(slot: &[u8]) -> Revision
     ensures { result ≡ slot_revision slot.now }
 {
     Revision {
-        number: number_of_4(at(slot, 0), at(slot, 1), at(slot, 2), at(slot, 3)),
+        number: revision_number(slot),
         party: Party(at(slot, REVISION_SIZE)),
     }
 }
@@ -144,10 +144,9 @@ fn slot_bytes(revision: Revision, text: &[u8]) -> [u8; SLOT_SIZE]
     requires { length text.now ≤ text_max }
     ensures { result ≡ slot_bytes revision text.now }
 {
-    let d = bytes_of_4(revision.number);
-    let head = [d[0], d[1], d[2], d[3], revision.party.0, text.len() as u8];
     let mut slot = [0u8; SLOT_SIZE];
-    put(&mut slot, 0, &head);
+    put(&mut slot, 0, &bytes_of_4(revision.number));
+    put(&mut slot, REVISION_SIZE, &[revision.party.0, text.len() as u8]);
     put(&mut slot, TEXT_PLACE, text);
     slot
 }

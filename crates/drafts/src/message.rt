@@ -1,17 +1,16 @@
 // Messages: reading and writing.
 ghost use Rattle.std.specs.Prelude.{◌≡◌, not, ◌+◌, ◌≤◌, length, take, drop};
 ghost use Rattle.texts.specs.Working.Writing.{put_at};
-ghost use Rattle.texts.specs.Numbers.{big, bytes_at};
 ghost use Rattle.sheets.specs.Sheet.{text_max};
 ghost use Rattle.drafts.specs.Message.{known_version, body_place, head_size, revision_place, revision_size, text_place, length_of, misframed, party_of, message_body, message_text, allowed, head_bytes};
 ghost use Rattle.drafts.specs.Working.Steps.{takes};
 ghost use Rattle.drafts.specs.Promises.{Reads, Writes};
 
-use crate::revision::{ADVISER, Party, Revision};
+use crate::revision::{ADVISER, Party, Revision, revision_number};
 use sheets::sheet::{Field, SLOT_COUNT, TEXT_MAX, slot_of};
 use texts::answers::Refusal;
 use texts::buffers::put;
-use texts::numbers::{bytes_of_4, number_of_2, number_of_4};
+use texts::numbers::{bytes_of_4, number_of_2};
 use texts::parts::{at, part};
 
 // What both versions have behind the version, and in version 2 the party: the field in one byte, "revision in four bytes", and the text.
@@ -113,18 +112,6 @@ fn message_body(message: &[u8]) -> &[u8]
     part(message, Version(at(message, 2)).body_place(), message.len())
 }
 
-// The revision in it.
-fn body_revision(body: &[u8]) -> u32
-    ensures { result ≡ big (bytes_at body.now revision_place revision_size) }
-{
-    number_of_4(
-        at(body, REVISION_PLACE),
-        at(body, REVISION_PLACE + 1),
-        at(body, REVISION_PLACE + 2),
-        at(body, REVISION_PLACE + 3),
-    )
-}
-
 // A message has a size that one of either version may have, and L is the rest.
 #[tactic(auto, using(crate::proofs::MessagePromises::framing))]
 fn framed(message: &[u8]) -> bool
@@ -171,7 +158,7 @@ pub fn read(message: &[u8]) -> Result<Heading, Refusal>
     if slot_of(field) == SLOT_COUNT {
         return Err(Refusal(4));
     }
-    let number = body_revision(body);
+    let number = revision_number(part(body, REVISION_PLACE, TEXT_PLACE));
     if number == 0 {
         return Err(Refusal(5));
     }
@@ -205,10 +192,11 @@ fn head(heading: Heading, n: usize) -> [u8; HEAD_MOST]
         revision,
     } = heading;
     let l = version.head_size() - 2 + n;
-    let d = bytes_of_4(revision.number);
+    let place = version.body_place();
     let mut head = [0u8; HEAD_MOST];
     put(&mut head, 0, &[0, l as u8, version.0, revision.party.0]);
-    put(&mut head, version.body_place(), &[field.0, d[0], d[1], d[2], d[3]]);
+    put(&mut head, place, &[field.0]);
+    put(&mut head, place + REVISION_PLACE, &bytes_of_4(revision.number));
     head
 }
 

@@ -1,9 +1,13 @@
 // Revisions of a field.
 ghost use Rattle.std.specs.Prelude.{◌≡◌};
+ghost use Rattle.texts.specs.Numbers.{big, bytes_at};
 ghost use Rattle.drafts.specs.Revision.{known_party, rank, comparison};
+ghost use Rattle.drafts.specs.Message.{revision_size};
 
 use std::cmp::Ordering;
 use texts::answers::Refusal;
+use texts::numbers::number_of_4;
+use texts::parts::at;
 
 pub const CLIENT: u8 = 1;
 
@@ -27,6 +31,13 @@ impl Party {
 pub struct Revision {
     pub number: u32,
     pub party: Party,
+}
+
+// The number of a revision, of the bytes that begin with it in a message or in a slot.
+pub fn revision_number(bytes: &[u8]) -> u32
+    ensures { result ≡ big (bytes_at bytes.now 0 revision_size) }
+{
+    number_of_4(at(bytes, 0), at(bytes, 1), at(bytes, 2), at(bytes, 3))
 }
 
 // How a message stands to what its slot holds.
