@@ -84,7 +84,7 @@ fn slot_cell(slot: &[u8]) -> &[u8]
 fn unknown_party(party: Party) -> usize
     ensures { result ≡ unknown_party party.0 }
 {
-    if party.known() { 0 } else { 1 }
+    usize::from(!party.known())
 }
 
 // What does not fit before a slot's text, as a number: in a slot of revision 0 the length of a text and the party, read as one, in another

@@ -41,7 +41,7 @@ impl Version {
     fn known(self) -> bool
         ensures { result ≡ known_version self.0 }
     {
-        (self.0 == 1) | (self.0 == 2)
+        self.0 == 1 || self.0 == 2
     }
 
     fn body_place(self) -> usize
@@ -73,7 +73,7 @@ impl Version {
     fn allows(self, party: Party) -> bool
         ensures { result ≡ allowed self.0 party.0 }
     {
-        party.known() & ((self.0 == 2) | (party.0 == ADVISER))
+        party.known() && (self.0 == 2 || party.0 == ADVISER)
     }
 }
 
@@ -117,13 +117,7 @@ fn message_body(message: &[u8]) -> &[u8]
 fn framed(message: &[u8]) -> bool
     ensures { result ≡ not (misframed message.now) }
 {
-    if message.len() < LEAST_L + 2 {
-        return false;
-    }
-    if MOST_L + 2 < message.len() {
-        return false;
-    }
-    length_of(message) + 2 == message.len()
+    (LEAST_L + 2..=MOST_L + 2).contains(&message.len()) && length_of(message) + 2 == message.len()
 }
 
 // The field and the revision of a message.

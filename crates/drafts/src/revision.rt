@@ -21,7 +21,7 @@ impl Party {
     pub fn known(self) -> bool
         ensures { result ≡ known_party self.0 }
     {
-        (self.0 == CLIENT) | (self.0 == ADVISER)
+        self.0 == CLIENT || self.0 == ADVISER
     }
 }
 
