@@ -146,7 +146,11 @@ fn slot_bytes(revision: Revision, text: &[u8]) -> [u8; SLOT_SIZE]
 {
     let mut slot = [0u8; SLOT_SIZE];
     put(&mut slot, 0, &bytes_of_4(revision.number));
-    put(&mut slot, REVISION_SIZE, &[revision.party.0, text.len() as u8]);
+    put(
+        &mut slot,
+        REVISION_SIZE,
+        &[revision.party.0, text.len() as u8],
+    );
     put(&mut slot, TEXT_PLACE, text);
     slot
 }

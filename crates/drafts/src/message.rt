@@ -190,7 +190,11 @@ fn head(heading: Heading, n: usize) -> [u8; HEAD_MOST]
     let mut head = [0u8; HEAD_MOST];
     put(&mut head, 0, &[0, l as u8, version.0, revision.party.0]);
     put(&mut head, place, &[field.0]);
-    put(&mut head, place + REVISION_PLACE, &bytes_of_4(revision.number));
+    put(
+        &mut head,
+        place + REVISION_PLACE,
+        &bytes_of_4(revision.number),
+    );
     head
 }
 
