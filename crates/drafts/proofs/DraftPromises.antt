@@ -7,7 +7,7 @@ use mathlib.Core.List.{List, [], ◌∷◌, ◌++◌, Memᴰ}
 use Prim.Native.Nat.{ℕ, ◌+◌, ◌*◌, ◌<◌, ◌≤◌}
 use native.Mathlib.Numerals.{add-one}
 use native.Mathlib.Omega.{arith}
-use borrow.Author.Tests.{lt-ltb, le-ltb, ltb-true, ltb-false, eq-eqb, eqb-true, not-true, not-false, le-leb, lt-leb}
+use borrow.Author.Tests.{ltb-true, ltb-false, eq-eqb, eqb-true, not-true, not-false, le-leb}
 use borrow.Author.Rules.{rules}
 use mir.Syntax.{w8}
 use mir.Val.{Fits}
@@ -21,9 +21,8 @@ use Rattle.texts.specs.Buffers.{put}
 use Rattle.texts.specs.Working.Writing.{put_at}
 use Rattle.texts.proofs.Puts.{put-fits, length-put, put-none, put_next, put_whole}
 use Rattle.sheets.specs.Sheet.{slot_count, text_max, cell_size, sheet_size, slot_of}
-use Rattle.sheets.specs.declared.sheet.Field.{Field}
 use Rattle.texts.specs.Answers.{Answer, success, refusal, number_of, passes, answer_by, buffer_by}
-use Rattle.drafts.specs.Revision.{rank, comparison}
+use Rattle.drafts.specs.Revision.{rank}
 use Rattle.drafts.specs.Message.{IsMessage, version_of, message_field, revision_of, message_text, read_tests, readable, reading_of, read_answer}
 use Rattle.drafts.specs.Draft.{slot_size, draft_size, slot_in, slot_revision, slot_cell, slot_text, slot_bytes, slot_with, draft_formed, fresh_draft, slot_comparison, comparison_of, word, draft_by, post_tests, posting_of, stored, posted_to, post_answer, cells, draft_sheet, copy_tests, copying_of, copied_to, copy_answer}
 use Rattle.drafts.specs.History.{posted_all}
@@ -34,6 +33,9 @@ use denote.Enum.Bare.{sameb}
 use Rattle.drafts.specs.contracts.revision.Standing.{the_type}
 use Rattle.drafts.specs.declared.revision.Standing.{Standing}
 use Rattle.texts.specs.declared.answers.Refusal.{Refusal}
+use Rattle.texts.specs.declared.answers.Refusal.TheVariants.{Malformed, Clash}
+use Rattle.texts.specs.Refusals.{refusal_number}
+use Rattle.drafts.proofs.Refused.{refusal_of, refusal-of}
 use Rattle.drafts.specs.declared.revision.Standing.TheVariants.{Newer, Same, Older}
 use Rattle.drafts.specs.declared.message.Heading.{Heading}
 use Rattle.std.specs.Prelude.{Result, Ok, Err}
@@ -43,7 +45,7 @@ use Rattle.drafts.proofs.Ranks.{clash_test, below_by, rank_same}
 use Rattle.drafts.proofs.EndSlots.{post_read, posted-more}
 use Rattle.drafts.proofs.Held.{held_by}
 use Rattle.drafts.proofs.Reaching.{messages_in, reached}
-use Rattle.drafts.proofs.DraftSheets.{length-cell, length-cells, length-sheet, sheet-made, sheet-into}
+use Rattle.drafts.proofs.DraftSheets.{length-cell, length-cells, sheet-made, sheet-into}
 use Rattle.drafts.proofs.Slots.{length-slot, party-small, formed-means}
 use Rattle.drafts.proofs.SlotBytes.{slot-made}
 use Rattle.drafts.proofs.Freshening.{fresh-not, fresh-made}
@@ -61,14 +63,14 @@ left-more d m e b q ms L = record {
 -- what was returned, by the answer
 posted_of : Answer → Result Standing Refusal
 posted_of (success vs) = cond (eqb (get_or vs 0 0) 110) (Ok Newer) (cond (eqb (get_or vs 0 0) 115) (Ok Same) (Ok Older))
-posted_of (refusal n vs) = Err (record { 0 = n })
+posted_of (refusal n vs) = Err (refusal_of n)
 
 posted-of : (r : Result Standing Refusal) (a : Answer) → post_answer r ≡ a → r ≡ posted_of a
 unfolding posted_of
 posted-of (Ok Newer) a p = ap posted_of p
 posted-of (Ok Same) a p = ap posted_of p
 posted-of (Ok Older) a p = ap posted_of p
-posted-of (Err n) a p = ap posted_of p
+posted-of (Err n) a p = ap Err (sym (refusal-of n)) ∙ ap posted_of p
 
 -- by the revision, the party and the text of the slot
 stands_by : (s : List ℕ) (v : Revision) (t : List ℕ) → (slot_revision s).party.0 < 256 → v.party.0 < 256
@@ -102,7 +104,7 @@ module _ (d m : List ℕ) (r : Result Standing Refusal) (p : post_answer r ≡ p
       old (Ok Older) h = refl
       old (Err n) h = refl
 
-  post-formed : (r ≡ Err (record { 0 = 1 })) ↔ (draft_formed d ≡ false)
+  post-formed : (r ≡ Err Malformed) ↔ (draft_formed d ≡ false)
   unfolding posting_of post_tests read_tests posted_of
   post-formed = (
     λ h.
@@ -113,9 +115,9 @@ module _ (d m : List ℕ) (r : Result Standing Refusal) (p : post_answer r ≡ p
   )
 
   module _ (w : draft_formed d ≡ true) where
-    post-refused : (n : ℕ) → reading_of m ≡ refusal n [] → r ≡ Err (record { 0 = n })
+    post-refused : (n : Refusal) → reading_of m ≡ refusal (refusal_number n) [] → r ≡ Err n
     unfolding posted_of
-    post-refused n h = posted-of r (refusal n []) (p ∙ sym (not-read d m n w (sym h)).0)
+    post-refused n h = posted-of r (refusal (refusal_number n) []) (p ∙ sym (not-read d m (refusal_number n) w (sym h)).0) ∙ ap Err (refusal-of n)
 
     post-stands : (u f : ℕ) (v : Revision) (t : List ℕ) → IsMessage m u f v t → Stands (slot_in d (slot_of f)) v t r
     unfolding comparison_of reading_of readable
@@ -148,12 +150,12 @@ clash-among false true z c n e = let o : ◌≡◌ {A = ℕ} 0 1 = cc in absurd 
 clash-among false false true c n e = let o : ◌≡◌ {A = ℕ} 0 1 = cc in absurd (omega arith)
 clash-among false false false c n e = cc
 
-clash-is : (s : List ℕ) (v : Revision) (t : List ℕ) (n : Refusal) → slot_comparison s v t ≡ Err n → record { 0 = 6 } ≡ n
+clash-is : (s : List ℕ) (v : Revision) (t : List ℕ) (n : Refusal) → slot_comparison s v t ≡ Err n → Clash ≡ n
 unfolding slot_comparison
 clash-is s v t n e = clash-among (ltb (rank (slot_revision s)) (rank v)) (ltb (rank v) (rank (slot_revision s))) (same (slot_text s) t) _ n e
 
 module _ (d m : List ℕ) (h : (k : ℕ) → Fits w8 (get_or m k 0)) (b : Bool) (eb : b ≡ draft_formed d) where
-  pub post-malformed : not b ≡ true → Posts d m (Err (record { 0 = 1 })) d
+  pub post-malformed : not b ≡ true → Posts d m (Err Malformed) d
   unfolding posting_of posted_to post_tests
   post-malformed n = posts-by d m _ d h (rw (← eb, not-true b n)) (rw (← eb, not-true b n))
 
@@ -162,7 +164,7 @@ module _ (d m : List ℕ) (h : (k : ℕ) → Fits w8 (get_or m k 0)) (b : Bool) 
     formed = sym eb ∙ nb
 
     pub post-unread : (n : Refusal) → rd ≡ Err n → Posts d m (Err n) d
-    post-unread n e = let p = not-read d m n.0 formed (ap read_answer (sym e) ∙ R.answer) in posts-by d m _ d h p.0 p.1
+    post-unread n e = let p = not-read d m (refusal_number n) formed (ap read_answer (sym e) ∙ R.answer) in posts-by d m _ d h p.0 p.1
 
     module _ (g : Heading) (er : rd ≡ Ok g) (t : List ℕ) (et : t ≡ message_text m) where
       found : (readable m ≡ true) × (g.version.0 ≡ version_of m) × (g.field.0 ≡ message_field m) × (g.revision ≡ revision_of m)
@@ -244,7 +246,7 @@ sheet-other d s n =
 
 copied-made : (r : Result Unit Refusal) → copy_answer r ≡ success [] → r ≡ Ok tt
 copied-made (Ok tt) e = refl
-copied-made (Err n) e = absurd (no-success n.0 [] [] e)
+copied-made (Err n) e = absurd (no-success (refusal_number n) [] [] e)
 
 copy-means : (d s : List ℕ) (r : Result Unit Refusal) → copy_answer r ≡ copying_of d s → r ≡ Ok tt → (draft_formed d ≡ true) × (length s ≡ sheet_size)
 unfolding copying_of copy_tests

@@ -11,8 +11,9 @@ use Rattle.drafts.specs.Draft.{draft_size, fresh_draft, begin_tests, beginning_o
 use Rattle.drafts.specs.History.{posted_all}
 use Rattle.drafts.specs.Promises.{Freshens}
 use Rattle.std.specs.Prelude.{Ok, Err}
+use Rattle.texts.specs.declared.answers.Refusal.TheVariants.{Malformed}
 
-pub fresh-not : (d : List ℕ) → (length d ≡ draft_size → ⊥) → Freshens d (Err (record { 0 = 1 })) d
+pub fresh-not : (d : List ℕ) → (length d ≡ draft_size → ⊥) → Freshens d (Err Malformed) d
 unfolding beginning_of begun_from begin_tests
 fresh-not d e = record {
   answer = simp (ne_eqb (length d) draft_size e);

@@ -4,7 +4,7 @@ use mathlib.Core.Bool.{Bool, true, false, not}
 use mathlib.Core.List.{List, [], ◌∷◌}
 use Prim.Native.Nat.{ℕ, ◌+◌, ◌-◌, ◌≤◌, ◌<◌}
 use native.Mathlib.Omega.{arith}
-use borrow.Author.Tests.{ne_eqb, ltb-false}
+use borrow.Author.Tests.{ltb-false}
 use borrow.Author.Rules.{rules}
 use Rattle.std.specs.Prelude.{Result, Ok, Err}
 use mir.Syntax.{w8, w32, w64}
@@ -21,8 +21,7 @@ use Rattle.texts.specs.Working.Writing.{put_at}
 use Rattle.texts.proofs.Puts.{put-fits, put_next, mid-put, drop-put}
 use Rattle.texts.proofs.Refusals.{no-success, succeeds, succeeded, unchanged, Way, way_out, tested}
 use Rattle.sheets.specs.Sheet.{slot_count, slot_of, text_max}
-use Rattle.sheets.specs.declared.sheet.Field.{Field}
-use Rattle.drafts.specs.Revision.{adviser, known_party}
+use Rattle.drafts.specs.Revision.{known_party}
 use Rattle.drafts.specs.Message.{known_version, opening, body_place, revision_place, revision_size, text_place, head_size, least_l, IsMessage, length_of, version_of, party_of, message_body, message_field, revision_of, message_text, misframed, disallowed, read_tests, read_values, reading_of, read_answer, head_bytes, message_of, allowed, write_tests, writing_of, written_of, write_answer}
 use Rattle.drafts.specs.Promises.{Reads, Writes}
 use Rattle.drafts.specs.Working.Steps.{takes}
@@ -30,6 +29,7 @@ use Rattle.drafts.specs.declared.revision.Party.{Party}
 use Rattle.drafts.specs.declared.revision.Revision.{Revision}
 use Rattle.drafts.specs.declared.message.Heading.{Heading}
 use Rattle.texts.specs.declared.answers.Refusal.{Refusal}
+use Rattle.texts.specs.Refusals.{refusal_number}
 use Rattle.drafts.proofs.Messages.{revision-is, placed, neither, frame-means, read_found, writable, written-by, message-of, is-message, written-again, length-head, length-message}
 use Rattle.drafts.proofs.ReadBack.{read_back}
 use Rattle.drafts.proofs.Sizes.{twice, framed-short, framed-long, framed-rest, takes-is}
@@ -41,7 +41,7 @@ heading-is g h p q r = λ i. record { version = record { 0 = p i }; field = reco
 
 reading-made : (r : Result Heading Refusal) (h : Heading) → read_answer r ≡ success (read_values h.version.0 h.field.0 h.revision) → r ≡ Ok h
 reading-made (Ok g) h e = ap Ok (heading-is g h (cc) (cc) (revision-is g.revision _ _ (cc) (cc)))
-reading-made (Err n) h e = absurd (no-success n.0 [] _ e)
+reading-made (Err n) h e = absurd (no-success (refusal_number n) [] _ e)
 
 -- the promise of `read`, from its equation
 reads-by : (m : List ℕ) (r : Result Heading Refusal) → ((k : ℕ) → Fits w8 (get_or m k 0)) → read_answer r ≡ reading_of m → Reads m r
@@ -154,7 +154,7 @@ text-is m b t eb e = rest-is b t text_place e ∙ rw eb
 
 written-made : (w : Result ℕ Refusal) (n : ℕ) → write_answer w ≡ success (n ∷ []) → w ≡ Ok n
 written-made (Ok k) n e = cc
-written-made (Err k) n e = absurd (no-success k.0 [] _ e)
+written-made (Err k) n e = absurd (no-success (refusal_number k) [] _ e)
 
 -- the promise of `write`, from its two equations
 writes-by : (g : Heading) (t b : List ℕ) (r : Result ℕ Refusal) (e : List ℕ) → Fits w32 g.revision.number → write_answer r ≡ writing_of g.version.0 g.field.0 g.revision t b → e ≡ written_of g.version.0 g.field.0 g.revision t b → Writes g t b r e

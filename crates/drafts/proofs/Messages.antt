@@ -16,11 +16,9 @@ use Rattle.texts.specs.Numbers.{Bytes, big, bytes_of, bytes_at}
 use Rattle.texts.specs.Buffers.{put}
 use Rattle.texts.proofs.Big.{big-bytes, each_at, bytes-big}
 use Rattle.sheets.specs.Sheet.{fields, slot_count, place_of, slot_of, text_max}
-use Rattle.sheets.specs.declared.sheet.Field.{Field}
 use Rattle.drafts.specs.Revision.{client, adviser, known_party, Known, is-client, is-adviser, ◌by◌}
 use Rattle.drafts.specs.Message.{known_version, opening, body_place, revision_place, revision_size, text_place, head_size, least_l, most_l, Speaks, first, second, IsMessage, Writable, length_of, version_of, party_of, message_body, message_field, revision_of, message_text, misframed, read_tests, readable, read_values, reading_of, read_answer, head_bytes, message_of, allowed, write_tests, writing_of, written_of}
 use Rattle.drafts.specs.declared.revision.Revision.{Revision}
-use Rattle.drafts.specs.declared.message.Version.{Version}
 use Rattle.drafts.specs.declared.message.Heading.{Heading}
 use Rattle.std.specs.Prelude.{Ok}
 use Rattle.texts.proofs.Bools.{cases, both}

@@ -12,6 +12,7 @@ use Rattle.drafts.specs.declared.revision.Revision.{Revision}
 use Rattle.drafts.specs.declared.revision.Standing.{Standing}
 use Rattle.drafts.specs.declared.revision.Standing.TheVariants.{Newer, Same, Older}
 use Rattle.texts.specs.declared.answers.Refusal.{Refusal}
+use Rattle.texts.specs.Refusals.{refusal_number}
 
 -- a slot: "revision (4, big-endian, 0 = never given)", "a party byte after its revision", "text length (1), text padded with zero bytes to
 -- 25": a sheet's cell ends it
@@ -79,7 +80,7 @@ begun_from d = buffer_by (begin_tests d) fresh_draft d
 
 abbrev pub begin_answer : Result Unit Refusal → Answer
 begin_answer (Ok u) = success []
-begin_answer (Err n) = refusal n.0 []
+begin_answer (Err n) = refusal (refusal_number n) []
 
 -- "Posting a message, by its revision against the slot's", and by the party
 unfoldable pub slot_comparison : List ℕ → Revision → Text → Result Standing Refusal
@@ -123,7 +124,7 @@ abbrev pub post_answer : Result Standing Refusal → Answer
 post_answer (Ok Newer) = success (bytes "newer")
 post_answer (Ok Same) = success (bytes "same")
 post_answer (Ok Older) = success (bytes "older")
-post_answer (Err n) = refusal n.0 []
+post_answer (Err n) = refusal (refusal_number n) []
 
 -- "Copying a draft to a sheet drops the revisions; what it gives is the draft's sheet": the first n cells, and all 15
 unfoldable pub cells : List ℕ → ℕ → List ℕ
@@ -145,4 +146,4 @@ copied_to d s = buffer_by (copy_tests d s) (draft_sheet d) s
 
 abbrev pub copy_answer : Result Unit Refusal → Answer
 copy_answer (Ok u) = success []
-copy_answer (Err n) = refusal n.0 []
+copy_answer (Err n) = refusal (refusal_number n) []

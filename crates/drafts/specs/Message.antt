@@ -10,6 +10,7 @@ use Rattle.drafts.specs.Revision.{adviser, known_party, Known, ◌by◌}
 use Rattle.drafts.specs.declared.revision.Revision.{Revision}
 use Rattle.drafts.specs.declared.message.Heading.{Heading}
 use Rattle.texts.specs.declared.answers.Refusal.{Refusal}
+use Rattle.texts.specs.Refusals.{refusal_number}
 
 abbrev pub known_version : ℕ → Bool
 known_version w = eqb w 1 || eqb w 2
@@ -126,7 +127,7 @@ reading_of m = answer_by (read_tests m) (read_values (version_of m) (message_fie
 
 abbrev pub read_answer : Result Heading Refusal → Answer
 read_answer (Ok h) = success (read_values h.version.0 h.field.0 h.revision)
-read_answer (Err n) = refusal n.0 []
+read_answer (Err n) = refusal (refusal_number n) []
 
 -- the bytes before a text of n bytes; L is at most 32, so that its first byte is 0
 unfoldable pub head_bytes : ℕ → ℕ → Revision → ℕ → List ℕ
@@ -168,4 +169,4 @@ written_of w f v t b = buffer_by (write_tests w f v t b) (put b 0 (message_of w 
 
 abbrev pub write_answer : Result ℕ Refusal → Answer
 write_answer (Ok n) = success (n ∷ [])
-write_answer (Err n) = refusal n.0 []
+write_answer (Err n) = refusal (refusal_number n) []

@@ -14,6 +14,8 @@ use Rattle.drafts.specs.declared.revision.Standing.{Standing}
 use Rattle.drafts.specs.declared.revision.Standing.TheVariants.{Newer, Same, Older}
 use Rattle.drafts.specs.declared.message.Heading.{Heading}
 use Rattle.texts.specs.declared.answers.Refusal.{Refusal}
+use Rattle.texts.specs.declared.answers.Refusal.TheVariants.{Malformed, Clash}
+use Rattle.texts.specs.Refusals.{refusal_number}
 
 -- reading m returned r
 pub record Reads (m : List ℕ) (r : Result Heading Refusal) : Type 0 where
@@ -89,7 +91,7 @@ pub data Stands (s : List ℕ) (v : Revision) (t : List ℕ) : Result Standing R
   newer : slot_revision s below v → Stands s v t (Ok Newer)
   same : slot_revision s ≡ v → slot_text s ≡ t → Stands s v t (Ok Same)
   older : v below slot_revision s → Stands s v t (Ok Older)
-  clash : slot_revision s ≡ v → (slot_text s ≡ t → ⊥) → Stands s v t (Err (record { 0 = 6 }))
+  clash : slot_revision s ≡ v → (slot_text s ≡ t → ⊥) → Stands s v t (Err Clash)
 
 -- posting m to d returned r and left e: one message more, after those that left d
 pub record Posts (d m : List ℕ) (r : Result Standing Refusal) (e : List ℕ) : Type 0 where
@@ -97,8 +99,8 @@ pub record Posts (d m : List ℕ) (r : Result Standing Refusal) (e : List ℕ) :
   pub draft : e ≡ posted_to d m
   -- "A refused call changes none of them"; "the last two change nothing"
   pub refused : (r ≡ Ok Newer → ⊥) → e ≡ d
-  pub malformed : (r ≡ Err (record { 0 = 1 })) ↔ (draft_formed d ≡ false)
-  pub unread : draft_formed d ≡ true → (n : ℕ) → reading_of m ≡ refusal n [] → r ≡ Err (record { 0 = n })
+  pub malformed : (r ≡ Err Malformed) ↔ (draft_formed d ≡ false)
+  pub unread : draft_formed d ≡ true → (n : Refusal) → reading_of m ≡ refusal (refusal_number n) [] → r ≡ Err n
   pub stands : draft_formed d ≡ true → (w f : ℕ) (v : Revision) (t : List ℕ) → IsMessage m w f v t → Stands (slot_in d (slot_of f)) v t r
   pub after : (ms : List (List ℕ)) → Postings ms d → Postings (ms ++ (m ∷ [])) e
   pub held : (ms : List (List ℕ)) → Postings ms d → Held (ms ++ (m ∷ [])) e

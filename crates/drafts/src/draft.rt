@@ -3,7 +3,7 @@ ghost use Rattle.std.specs.Prelude.{◌≡◌, ◌*◌, ◌≤◌, length};
 ghost use Rattle.texts.specs.Working.Writing.{put_at};
 ghost use Rattle.sheets.specs.Sheet.{text_max};
 ghost use Rattle.drafts.specs.Draft.{slot_size, slot_in, slot_revision, slot_cell, slot_text, draft_formed, slot_comparison, slot_bytes};
-ghost use Rattle.drafts.specs.Working.Steps.{length_in, unknown_party, misfit, text_put, sheet_into};
+ghost use Rattle.drafts.specs.Working.Steps.{length_in, head_fits, text_put, sheet_into};
 ghost use Rattle.drafts.specs.Promises.{Freshens, Posts, Copies};
 
 use crate::message::{REVISION_SIZE, message_text, read};
@@ -12,8 +12,8 @@ use sheets::sheet::{CELL_SIZE, SHEET_SIZE, SLOT_COUNT, TEXT_MAX, cell_text, cell
 use texts::answers::Refusal;
 use texts::buffers::{clear, put};
 use texts::comparisons::equals;
-use texts::numbers::{bytes_of_4, number_of_2};
-use texts::parts::{at, part, wide};
+use texts::numbers::{bytes_of, number_of};
+use texts::parts::{at, part};
 
 // A slot is a revision, its party and a sheet's cell: where the cell begins, and the text in it.
 const CELL_PLACE: usize = REVISION_SIZE + 1;
@@ -35,7 +35,7 @@ const SLOT_STEP: u8 = SLOT_SIZE as u8;
 fn slot_in(draft: &[u8], slot: u8) -> &[u8]
     ensures { result.now ≡ slot_in draft.now slot }
 {
-    let a = wide(slot) * SLOT_SIZE;
+    let a = usize::from(slot) * SLOT_SIZE;
     part(draft, a, a + SLOT_SIZE)
 }
 
@@ -68,7 +68,7 @@ pub fn text_in(draft: &[u8], slot: u8) -> &[u8]
 pub fn length_in(draft: &[u8], slot: u8) -> u8
     ensures { result ≡ length_in draft.now slot }
 {
-    at(draft, wide(slot) * SLOT_SIZE + CELL_PLACE)
+    at(draft, usize::from(slot) * SLOT_SIZE + CELL_PLACE)
 }
 
 // A slot without its revision, as a sheet has it.
@@ -79,29 +79,19 @@ fn slot_cell(slot: &[u8]) -> &[u8]
     part(slot, CELL_PLACE, SLOT_SIZE)
 }
 
-// 1 for a party that is not known.
-#[tactic(auto, unfolding(crate::specs::Working::Steps::unknown_party))]
-fn unknown_party(party: Party) -> usize
-    ensures { result ≡ unknown_party party.0 }
-{
-    usize::from(!party.known())
-}
-
-// What does not fit before a slot's text, as a number: in a slot of revision 0 the length of a text and the party, read as one, in another
-// 1 for an unknown party. Both are made before it is asked which, so that no branch stands for it.
-#[tactic(auto, unfolding(crate::specs::Working::Steps::misfit, crate::specs::Working::Steps::unknown_party))]
-fn misfit(slot: &[u8]) -> usize
-    ensures { (result ≡ misfit slot.now) × (result ≤ 65535) }
+// What stands before a slot's text fits it: a party "0 exactly if the revision is 0 and otherwise 1 or 2", and no text at revision 0.
+#[tactic(auto, unfolding(crate::specs::Working::Steps::head_fits))]
+fn fits(slot: &[u8]) -> bool
+    ensures { result ≡ head_fits slot.now }
 {
     let revision = slot_revision(slot);
-    let given = number_of_2(at(slot, CELL_PLACE), revision.party.0);
-    let unknown = unknown_party(revision.party);
-    if revision.number == 0 { given } else { unknown }
+    let none = (revision.party.0 == 0) & (at(slot, CELL_PLACE) == 0);
+    let known = revision.party.known();
+    if revision.number == 0 { none } else { known }
 }
 
-// "Malformed: another size, a length above 25, a nonzero pad byte; in a draft also revision 0 with a text", and a party that is not "0 exactly
-// if the revision is 0 and otherwise 1 or 2". What does not fit is summed: a test for each slot is compiled to a branch, and which slots are
-// given is hard to foretell.
+// "Malformed: another size, a length above 25, a nonzero pad byte; in a draft also revision 0 with a text", and a party that does not fit.
+// No slot's answer ends the loop: which slots are given is hard to foretell.
 #[tactic(auto, using(crate::proofs::Slots::forms))]
 pub fn well_formed(draft: &[u8]) -> bool
     ensures { result ≡ draft_formed draft.now }
@@ -112,11 +102,11 @@ pub fn well_formed(draft: &[u8]) -> bool
     if !cells_ok(draft, FIRST_CELL, SLOT_STEP) {
         return false;
     }
-    let mut sum = 0;
+    let mut fit = true;
     for slot in 0..SLOT_COUNT {
-        sum += misfit(slot_in(draft, slot));
+        fit &= fits(slot_in(draft, slot));
     }
-    sum == 0
+    fit
 }
 
 // "Fresh: all zero".
@@ -124,7 +114,7 @@ pub fn fresh(draft: &mut [u8]) -> Result<(), Refusal>
     ensures { Freshens draft.old result draft.new }
 {
     if draft.len() != DRAFT_SIZE {
-        return Err(Refusal(1));
+        return Err(Refusal::Malformed);
     }
     clear(draft);
     Ok(())
@@ -145,7 +135,7 @@ fn slot_bytes(revision: Revision, text: &[u8]) -> [u8; SLOT_SIZE]
     ensures { result ≡ slot_bytes revision text.now }
 {
     let mut slot = [0u8; SLOT_SIZE];
-    put(&mut slot, 0, &bytes_of_4(revision.number));
+    put(&mut slot, 0, &bytes_of::<4>(u64::from(revision.number)));
     put(
         &mut slot,
         REVISION_SIZE,
@@ -162,7 +152,7 @@ pub fn put_text(draft: &mut [u8], slot: u8, revision: Revision, text: &[u8])
 {
     if text.len() <= TEXT_MAX {
         let bytes = slot_bytes(revision, text);
-        put(draft, wide(slot) * SLOT_SIZE, &bytes);
+        put(draft, usize::from(slot) * SLOT_SIZE, &bytes);
     }
 }
 
@@ -171,7 +161,7 @@ pub fn post(draft: &mut [u8], message: &[u8]) -> Result<Standing, Refusal>
     ensures { Posts draft.old message.now result draft.new }
 {
     if !well_formed(draft) {
-        return Err(Refusal(1));
+        return Err(Refusal::Malformed);
     }
     let heading = read(message)?;
     let slot = slot_of(heading.field);
@@ -197,7 +187,7 @@ pub fn put_sheet(draft: &[u8], sheet: &mut [u8])
     for slot in 0..SLOT_COUNT {
         put(
             sheet,
-            wide(slot) * CELL_SIZE,
+            usize::from(slot) * CELL_SIZE,
             slot_cell(slot_in(draft, slot)),
         );
     }
@@ -208,10 +198,10 @@ pub fn copy(draft: &[u8], sheet: &mut [u8]) -> Result<(), Refusal>
     ensures { Copies draft.now sheet.old result sheet.new }
 {
     if !well_formed(draft) {
-        return Err(Refusal(1));
+        return Err(Refusal::Malformed);
     }
     if sheet.len() != SHEET_SIZE {
-        return Err(Refusal(7));
+        return Err(Refusal::WrongSize);
     }
     let mut cells = [0u8; SHEET_SIZE];
     put_sheet(draft, &mut cells);

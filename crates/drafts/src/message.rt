@@ -10,7 +10,7 @@ use crate::revision::{ADVISER, Party, Revision, revision_number};
 use sheets::sheet::{Field, SLOT_COUNT, TEXT_MAX, slot_of};
 use texts::answers::Refusal;
 use texts::buffers::put;
-use texts::numbers::{bytes_of_4, number_of_2};
+use texts::numbers::{bytes_of, number_of};
 use texts::parts::{at, part};
 
 // What both versions have behind the version, and in version 2 the party: the field in one byte, "revision in four bytes", and the text.
@@ -89,7 +89,7 @@ pub struct Heading {
 fn length_of(message: &[u8]) -> usize
     ensures { result ≡ length_of message.now }
 {
-    number_of_2(at(message, 0), at(message, 1))
+    number_of([at(message, 0), at(message, 1)]) as usize
 }
 
 // The party of a message: "Version 1 counts as the adviser".
@@ -134,27 +134,27 @@ pub fn read(message: &[u8]) -> Result<Heading, Refusal>
     ensures { Reads message.now result }
 {
     if !framed(message) {
-        return Err(Refusal(2));
+        return Err(Refusal::BadLength);
     }
     let version = Version(at(message, 2));
     if !version.known() {
-        return Err(Refusal(3));
+        return Err(Refusal::UnknownVersion);
     }
     if !version.takes(message.len()) {
-        return Err(Refusal(2));
+        return Err(Refusal::BadLength);
     }
     let body = field_and_revision(message, version);
     let party = party_of(message);
     if !party.known() {
-        return Err(Refusal(13));
+        return Err(Refusal::UnknownParty);
     }
     let field = Field(at(body, 0));
     if slot_of(field) == SLOT_COUNT {
-        return Err(Refusal(4));
+        return Err(Refusal::UnknownField);
     }
     let number = revision_number(part(body, REVISION_PLACE, TEXT_PLACE));
     if number == 0 {
-        return Err(Refusal(5));
+        return Err(Refusal::NoRevision);
     }
     let revision = Revision { number, party };
     Ok(Heading {
@@ -193,7 +193,7 @@ fn head(heading: Heading, n: usize) -> [u8; HEAD_MOST]
     put(
         &mut head,
         place + REVISION_PLACE,
-        &bytes_of_4(revision.number),
+        &bytes_of::<4>(u64::from(revision.number)),
     );
     head
 }
@@ -215,7 +215,7 @@ pub fn write(heading: Heading, text: &[u8], buffer: &mut [u8]) -> Result<usize, 
 {
     let n = text.len();
     if TEXT_MAX < n {
-        return Err(Refusal(2));
+        return Err(Refusal::BadLength);
     }
     let Heading {
         version,
@@ -223,20 +223,20 @@ pub fn write(heading: Heading, text: &[u8], buffer: &mut [u8]) -> Result<usize, 
         revision,
     } = heading;
     if !version.known() {
-        return Err(Refusal(3));
+        return Err(Refusal::UnknownVersion);
     }
     if !version.allows(revision.party) {
-        return Err(Refusal(13));
+        return Err(Refusal::UnknownParty);
     }
     if slot_of(field) == SLOT_COUNT {
-        return Err(Refusal(4));
+        return Err(Refusal::UnknownField);
     }
     if revision.number == 0 {
-        return Err(Refusal(5));
+        return Err(Refusal::NoRevision);
     }
     let size = version.head_size();
     if buffer.len() < n + size {
-        return Err(Refusal(7));
+        return Err(Refusal::WrongSize);
     }
     put_message(heading, text, buffer);
     Ok(n + size)

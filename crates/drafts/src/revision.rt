@@ -6,7 +6,7 @@ ghost use Rattle.drafts.specs.Message.{revision_size};
 
 use std::cmp::Ordering;
 use texts::answers::Refusal;
-use texts::numbers::number_of_4;
+use texts::numbers::number_of;
 use texts::parts::at;
 
 pub const CLIENT: u8 = 1;
@@ -37,7 +37,7 @@ pub struct Revision {
 pub fn revision_number(bytes: &[u8]) -> u32
     ensures { result ≡ big (bytes_at bytes.now 0 revision_size) }
 {
-    number_of_4(at(bytes, 0), at(bytes, 1), at(bytes, 2), at(bytes, 3))
+    number_of([at(bytes, 0), at(bytes, 1), at(bytes, 2), at(bytes, 3)]) as u32
 }
 
 // How a message stands to what its slot holds.
@@ -64,7 +64,7 @@ impl Revision {
             Ordering::Greater => Ok(Standing::Newer),
             Ordering::Less => Ok(Standing::Older),
             Ordering::Equal if same_text => Ok(Standing::Same),
-            Ordering::Equal => Err(Refusal(6)),
+            Ordering::Equal => Err(Refusal::Clash),
         }
     }
 }
