@@ -14,8 +14,7 @@ use Rattle.texts.proofs.Refusals.{none_of, succeeded, Way, way_out}
 use Rattle.amounts.specs.Amount.{most_kopecks, is_amount}
 use Rattle.amounts.specs.Charge.{chargeable, rounded, raised_to, lowered_to, limited, charge_tests, charging, charge_answer, InRange, IsCharge, Charges}
 use Rattle.amounts.specs.declared.amount.Kopecks.{Kopecks}
-use Rattle.amounts.specs.declared.charge.Charged.{Charged}
-use Rattle.amounts.specs.declared.charge.Charged.TheVariants.{Made, Refused}
+use Rattle.std.specs.Prelude.{Result, Ok, Err}
 use Rattle.amounts.proofs.Ranges.{sole, no_number, amount-is, is-amount}
 
 -- the product fits in 64 bits, and so does what is added
@@ -115,20 +114,20 @@ module _ (a r l g : ℕ) where
       (in-range (not-false _ (none_of (charge_tests a r l g) q.0).0), z)
 
   -- a charge that is made, and a refusal
-  holds_by : (x : Charged) → charge_answer x ≡ charging a r l g → (c : Kopecks) → x ≡ Made c → InRange a r l g × IsCharge a r l g c.0
+  holds_by : (x : Result Kopecks Refusal) → charge_answer x ≡ charging a r l g → (c : Kopecks) → x ≡ Ok c → InRange a r l g × IsCharge a r l g c.0
   unfolding charge_answer
   holds_by x e c h =
       let q = made_of c.0 (sym e ∙ ap charge_answer h) in
       (q.0, subst (IsCharge a r l g) (sym q.1) (is-charge q.0))
 
-  number_by : (x : Charged) → charge_answer x ≡ charging a r l g → (n : Refusal) → x ≡ Refused n → (n.0 ≡ 14) × (InRange a r l g → ⊥)
+  number_by : (x : Result Kopecks Refusal) → charge_answer x ≡ charging a r l g → (n : Refusal) → x ≡ Err n → (n.0 ≡ 14) × (InRange a r l g → ⊥)
   unfolding charging charge_tests charge_answer
   number_by x e n h =
       let q = sole (chargeable a r l g) 14 n.0 _ [] (sym e ∙ ap charge_answer h) in
       (q.0, λ i. true≢false (sym (range-in i) ∙ q.1))
 
   -- the promise, from the equation that the code is proved to meet
-  charges-by : (x : Charged) → charge_answer x ≡ charging a r l g → Charges a r l g x
+  charges-by : (x : Result Kopecks Refusal) → charge_answer x ≡ charging a r l g → Charges a r l g x
   unfolding charging charge_tests
   charges-by x e = record {
     answer = e;
@@ -152,7 +151,7 @@ module _ (a r l g : ℕ) where
 
 -- ---- the ways out of `charge`
 
-pub charge-out : (k a r l g : ℕ) (x : Charged) → Way (limited l g (rounded a r) ∷ []) [] [] (charge_answer x) [] (Charges a r l g x) k (charge_tests a r l g)
+pub charge-out : (k a r l g : ℕ) (x : Result Kopecks Refusal) → Way (limited l g (rounded a r) ∷ []) [] [] (charge_answer x) [] (Charges a r l g x) k (charge_tests a r l g)
 unfolding charging
 charge-out k a r l g x = way_out _ [] [] _ [] _ k (charge_tests a r l g) (λ p q. charges-by a r l g x p)
 

@@ -13,10 +13,8 @@ use Rattle.texts.proofs.Bools.{both, and2}
 use Rattle.texts.proofs.Refusals.{Way, way_out}
 use Rattle.amounts.specs.Amount.{most_kopecks, is_amount}
 use Rattle.amounts.specs.Part.{is_year, partable, quotient_of, remainder_of, part_tests, parting, part_answer, PartRange, IsPart, Parts}
-use Rattle.amounts.specs.declared.amount.Kopecks.{Kopecks}
-use Rattle.amounts.specs.declared.part.Remainder.{Remainder}
-use Rattle.amounts.specs.declared.part.Parted.{Parted}
-use Rattle.amounts.specs.declared.part.Parted.TheVariants.{Made, Refused}
+use Rattle.std.specs.Prelude.{Result, Ok, Err}
+use Rattle.amounts.specs.declared.part.Portion.{Portion}
 use Rattle.amounts.proofs.Ranges.{sole, no_number, amount-is, is-amount, year-is, is-year, year-bound}
 
 -- the product fits in 64 bits
@@ -61,13 +59,13 @@ module _ (a d y : ℕ) where
       let p = is-part i in
       (i, record { exactly = (λ k. sym zq k * y + sym zr k) ∙ p.exactly; below = subst (λ (n : ℕ). n < y) zr p.below })
 
-  module _ (x : Parted) (e : part_answer x ≡ parting a d y) where
+  module _ (x : Result Portion Refusal) (e : part_answer x ≡ parting a d y) where
     -- a part that is made, and a refusal
-    holds_by : (q : Kopecks) (r : Remainder) → x ≡ Made q r → PartRange a d y × IsPart a d y q.0 r.0
+    holds_by : (p : Portion) → x ≡ Ok p → PartRange a d y × IsPart a d y p.kopecks.0 p.remainder.0
     unfolding part_answer
-    holds_by q r h = made_of q.0 r.0 (sym e ∙ ap part_answer h)
+    holds_by p h = made_of p.kopecks.0 p.remainder.0 (sym e ∙ ap part_answer h)
 
-    number_by : (n : Refusal) → x ≡ Refused n → (n.0 ≡ 15) × (PartRange a d y → ⊥)
+    number_by : (n : Refusal) → x ≡ Err n → (n.0 ≡ 15) × (PartRange a d y → ⊥)
     unfolding parting part_tests part_answer
     number_by n h =
         let q = sole (partable a d y) 15 n.0 _ [] (sym e ∙ ap part_answer h) in
@@ -94,7 +92,7 @@ module _ (a d y : ℕ) where
 
 -- ---- the ways out of `part`
 
-pub part_out : (k a d y : ℕ) (x : Parted) → Way (quotient_of a d y ∷ remainder_of a d y ∷ []) [] [] (part_answer x) [] (Parts a d y x) k (part_tests a d y)
+pub part_out : (k a d y : ℕ) (x : Result Portion Refusal) → Way (quotient_of a d y ∷ remainder_of a d y ∷ []) [] [] (part_answer x) [] (Parts a d y x) k (part_tests a d y)
 unfolding parting
 part_out k a d y x = way_out _ [] [] _ [] _ k (part_tests a d y) (λ p q. parts-by a d y x p)
 

@@ -18,8 +18,8 @@ use Rattle.texts.proofs.Refusals.{Way, way_out}
 use Rattle.amounts.specs.Amount.{most_kopecks, is_amount}
 use Rattle.amounts.specs.Part.{is_year, quotient_of}
 use Rattle.amounts.specs.Shares.{total, all_some, are_periods, sharable, shares_from, places_of, share_tests, sharing, shared_to, share_answer, ShareRange, AreShares, Shares}
-use Rattle.amounts.specs.declared.shares.Shared.{Shared}
-use Rattle.amounts.specs.declared.shares.Shared.TheVariants.{Made, Refused}
+use Rattle.std.specs.Prelude.{Result, Ok, Err, sum}
+use Rattle.std.proofs.lemmas.List.Recursion.{is_sum_by}
 use Rattle.amounts.proofs.Ranges.{sole, no_number, amount-is, is-amount, year-is, is-year, year-bound}
 
 zeros-total : (k n : ℕ) → total (take k (replicate n 0)) ≡ 0
@@ -149,7 +149,7 @@ module _ (a y : ℕ) (ps : List ℕ) where
       record { some = m.0; most = m.1; years = year-is y p.1; first = q.0; last = q.1; days = some_at ps q.2; whole = q.3 }
 
   -- the promise, from the equations that the code is proved to meet
-  module _ (b e : List ℕ) (x : Shared) (ha : share_answer x ≡ sharing a y ps) (he : e ≡ shared_to a y ps b) where
+  module _ (b e : List ℕ) (x : Result Unit Refusal) (ha : share_answer x ≡ sharing a y ps) (he : e ≡ shared_to a y ps b) where
     in-range : number_of (share_answer x) ≡ 0 → sharable a y ps ≡ true
     unfolding sharing share_tests
     in-range z = no_number (sharable a y ps) 15 [] (λ k. omega arith) (ap number_of (sym ha) ∙ z)
@@ -172,11 +172,11 @@ module _ (a y : ℕ) (ps : List ℕ) where
         let q = sole (sharable a y ps) 15 n [] vs (sym ha ∙ h) in
         (q.0, λ i. true≢false (sym (range-share i) ∙ q.1), he ∙ simp q.1)
 
-    holds_by : x ≡ Made → ShareRange a y ps × AreShares a y ps e
+    holds_by : x ≡ Ok tt → ShareRange a y ps × AreShares a y ps e
     unfolding share_answer
     holds_by h = let k = ap share_answer h in (share-range (in-range (ap number_of k)), shared-by k)
 
-    number_by : (n : Refusal) → x ≡ Refused n → (n.0 ≡ 15) × (ShareRange a y ps → ⊥) × (e ≡ b)
+    number_by : (n : Refusal) → x ≡ Err n → (n.0 ≡ 15) × (ShareRange a y ps → ⊥) × (e ≡ b)
     unfolding share_answer
     number_by n h = refused-by n.0 [] (ap share_answer h)
 
@@ -189,7 +189,7 @@ module _ (a y : ℕ) (ps : List ℕ) where
 
 -- ---- the ways out of `shares`
 
-pub share-out : (k a y : ℕ) (ps b : List ℕ) (x : Shared) (e : List ℕ) → Way [] (places_of a y ps) b (share_answer x) e (Shares a y ps b x e) k (share_tests a y ps)
+pub share-out : (k a y : ℕ) (ps b : List ℕ) (x : Result Unit Refusal) (e : List ℕ) → Way [] (places_of a y ps) b (share_answer x) e (Shares a y ps b x e) k (share_tests a y ps)
 unfolding sharing shared_to
 share-out k a y ps b x e = way_out _ _ _ _ e _ k (share_tests a y ps) (shares-by a y ps b e x)
 
@@ -244,6 +244,10 @@ module _ (a y : ℕ) (ps : List ℕ) (i : ℕ) (places : List ℕ) (days : ℕ) 
       ∙ e
       ∙ sets-eq (shares_from a y 0 ps) zeros 0 (omega (arith, shares-length a y 0 ps, few))
       ∙ ap (λ (l : List ℕ). shares_from a y 0 ps ++ l) (drop-zeros 12 (0 + length (shares_from a y 0 ps)) ∙ ap (λ (k : ℕ). replicate {A = ℕ} (12 - k) 0) (zero-add _ ∙ shares-length a y 0 ps))
+
+-- the sum that the code makes
+pub sum-total : (ps : List ℕ) (s : ℕ) → s ≡ sum ps → s ≡ total ps
+sum-total ps s e = e ∙ sym (is_sum_by total (λ (x : ℕ). x) refl (λ _ _. refl) ps)
 
 pub sum-start : (ps : List ℕ) → total ps ≡ 0 + total (drop 0 ps)
 sum-start ps = sym (zero-add (total ps))

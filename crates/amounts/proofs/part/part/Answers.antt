@@ -12,19 +12,19 @@ pub quotient_of-whole-requires : goal.quotient_of-whole-requires
 quotient_of-whole-requires c =
     let a = c.args in
     let r = ranged a.amount.0 a.days.0 a.year.0 _ c.is_partable.ensures c.if-not-is_partable.false-raw in
-    (r.0, omega (arith, r.1, c.wide-d.ensures.0), omega (arith, r.2, c.wide-y.ensures.0))
+    (r.0, omega (arith, r.1, c.from-d.ensures), omega (arith, r.2, c.from-y.ensures))
 
 pub remainder_of-rest-requires : goal.remainder_of-rest-requires
 remainder_of-rest-requires c =
     let a = c.args in
     let r = ranged a.amount.0 a.days.0 a.year.0 _ c.is_partable.ensures c.if-not-is_partable.false-raw in
-    (r.0, omega (arith, r.1, c.wide-d.ensures.0), omega (arith, r.2, c.wide-y.ensures.0))
+    (r.0, omega (arith, r.1, c.from-d.ensures), omega (arith, r.2, c.from-y.ensures))
 
 pub overflow_cast-result : goal.overflow_cast-result
 overflow_cast-result c =
     let a = c.args in
     let r = ranged a.amount.0 a.days.0 a.year.0 _ c.is_partable.ensures c.if-not-is_partable.false-raw in
-    record { fits = omega (arith, r.3, c.remainder_of-rest.ensures.1, c.wide-y.ensures.0) }
+    record { fits = omega (arith, r.3, c.remainder_of-rest.ensures.1, c.from-y.ensures) }
 
 pub returns : goal.returns
 unfolding part_tests part_answer

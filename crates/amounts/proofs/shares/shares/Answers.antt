@@ -15,7 +15,7 @@ returns-then-not-is_sharable c = search (tested, share-out 0)
 pub shares_of-requires : goal.shares_of-requires
 shares_of-requires c =
     let a = c.args in
-    subst (λ (y : ℕ). (is_amount a.amount.0 ≡ true) × (is_year y ≡ true) × (are_periods y a.periods.now ≡ true)) (sym c.wide.ensures.0)
+    subst (λ (y : ℕ). (is_amount a.amount.0 ≡ true) × (is_year y ≡ true) × (are_periods y a.periods.now ≡ true)) (sym c.from.ensures)
     (asked a.amount.0 a.year.0 a.periods.now _ c.is_sharable.ensures c.if-not-is_sharable.false-raw)
 
 pub returns : goal.returns

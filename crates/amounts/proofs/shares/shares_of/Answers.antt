@@ -11,17 +11,17 @@ loop-i-init c =
 
 pub overflow_add-days : goal.overflow_add-days
 overflow_add-days c =
-    record { fits = omega (arith, days-bound c.args.amount c.args.year c.args.periods.now c.requires c.loop-i.i c.loop-i.days _ c.loop-i.invariant.1 c.loop-i-test.true c.wide-days.ensures.0) }
+    record { fits = omega (arith, days-bound c.args.amount c.args.year c.args.periods.now c.requires c.loop-i.i c.loop-i.days _ c.loop-i.invariant.1 c.loop-i-test.true c.from-days.ensures) }
 
 pub quotient_of-running-requires : goal.quotient_of-running-requires
 quotient_of-running-requires c =
     let b = bounds c.args.amount c.args.year c.args.periods.now c.requires in
-    (b.0, days-bound c.args.amount c.args.year c.args.periods.now c.requires c.loop-i.i c.loop-i.days _ c.loop-i.invariant.1 c.loop-i-test.true c.wide-days.ensures.0, b.1)
+    (b.0, days-bound c.args.amount c.args.year c.args.periods.now c.requires c.loop-i.i c.loop-i.days _ c.loop-i.invariant.1 c.loop-i-test.true c.from-days.ensures, b.1)
 
 pub overflow_sub-places : goal.overflow_sub-places
 overflow_sub-places c =
     let b = bounds c.args.amount c.args.year c.args.periods.now c.requires in
-    let r = quotient-rises c.args.amount c.args.year b.1 c.loop-i.days (c.loop-i.days + c.wide-days.result) (omega arith) in
+    let r = quotient-rises c.args.amount c.args.year b.1 c.loop-i.days (c.loop-i.days + c.from-days.result) (omega arith) in
     omega (arith, r, c.loop-i.invariant.2, c.quotient_of-running.ensures)
 
 pub bounds-places-i : goal.bounds-places-i
@@ -30,10 +30,10 @@ bounds-places-i c = let b = bounds c.args.amount c.args.year c.args.periods.now 
 pub loop-i-preserved : goal.loop-i-preserved
 loop-i-preserved c = (
   omega arith,
-  sum_more c.args.periods.now c.loop-i.i c.loop-i.days _ c.loop-i.invariant.1 c.loop-i-test.true c.wide-days.ensures.0,
+  sum_more c.args.periods.now c.loop-i.i c.loop-i.days _ c.loop-i.invariant.1 c.loop-i-test.true c.from-days.ensures,
   c.quotient_of-running.ensures,
   share-more c.args.amount c.args.year c.args.periods.now c.loop-i.i c.loop-i.places c.loop-i.days c.loop-i.invariant.3 c.loop-i-test.true _ _ _
-      (ap (λ (n : ℕ). c.loop-i.days + n) c.wide-days.ensures.0) c.quotient_of-running.ensures c.loop-i.invariant.2,
+      (ap (λ (n : ℕ). c.loop-i.days + n) c.from-days.ensures) c.quotient_of-running.ensures c.loop-i.invariant.2,
 )
 
 pub returns : goal.returns
