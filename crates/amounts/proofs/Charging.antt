@@ -1,9 +1,9 @@
 -- What a charge promises, by its definition, and the ways through `charge`.
 use mathlib.Core.Path.{◌≡◌, refl, sym, ap, ◌∙◌, subst}
-use mathlib.Core.Bool.{Bool, true, false, not, cond, ◌&&◌, true≢false}
+use mathlib.Core.Bool.{Bool, true, false, cond, ◌&&◌, true≢false}
 use mathlib.Core.List.{[], ◌∷◌}
-use Prim.Native.Nat.{ℕ, ◌*◌, ◌≤◌}
-use native.Mathlib.Nat.{mul-le-mul, mul-le-mul_right}
+use Prim.Native.Nat.{ℕ, ◌≤◌}
+use native.Mathlib.Nat.{mul-le-mul_right}
 use native.Mathlib.Omega.{arith}
 use borrow.Author.Tests.{leb-true, le-leb, ltb-true, ltb-false, not-false}
 use lib.Dec.{leb, ltb}
@@ -16,10 +16,6 @@ use Rattle.amounts.specs.Charge.{chargeable, rounded, raised_to, lowered_to, lim
 use Rattle.amounts.specs.declared.amount.Kopecks.{Kopecks}
 use Rattle.std.specs.Prelude.{Result, Ok, Err}
 use Rattle.amounts.proofs.Ranges.{sole, no_number, amount-is, is-amount}
-
--- the product fits in 64 bits, and so does what is added
-pub product-fits : (a r : ℕ) → a ≤ most_kopecks → r ≤ 10000 → a * r ≤ 10000000000000000
-product-fits a r h k = mul-le-mul h k
 
 -- ---- the limits
 
@@ -144,10 +140,6 @@ module _ (a r l g : ℕ) where
         let o2 : rounded a r ≤ rounded m r = omega (arith, o1) in
         omega (arith, p, q1, limited-rises l g (rounded a r) (rounded m r) o2);
   }
-
-  -- w is what `is_chargeable` answered
-  pub ranged : (w : Bool) → w ≡ chargeable a r l g → not w ≡ false → (a ≤ most_kopecks) × (r ≤ 10000)
-  ranged w hw h = let i = in-range (sym hw ∙ not-false w h) in (i.most, i.rates)
 
 -- ---- the ways out of `charge`
 

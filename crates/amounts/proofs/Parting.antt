@@ -1,25 +1,21 @@
 -- What a part promises, by its definition, and the ways through `part`.
 use mathlib.Core.Path.{◌≡◌, sym, ap, ◌∙◌, subst}
-use mathlib.Core.Bool.{Bool, true, false, not, ◌&&◌, true≢false}
+use mathlib.Core.Bool.{true, ◌&&◌, true≢false}
 use mathlib.Core.List.{[], ◌∷◌}
-use Prim.Native.Nat.{ℕ, ◌+◌, ◌*◌, ◌≤◌, ◌<◌}
-use native.Mathlib.Nat.{mul-le-mul, div-add-mod', mod-lt}
+use Prim.Native.Nat.{ℕ, ◌+◌, ◌*◌, ◌<◌}
+use native.Mathlib.Nat.{div-add-mod', mod-lt}
 use native.Mathlib.Omega.{arith}
-use borrow.Author.Tests.{leb-true, le-leb, not-false}
+use borrow.Author.Tests.{leb-true, le-leb}
 use lib.Dec.{leb}
 use Rattle.texts.specs.Answers.{success, number_of}
 use Rattle.texts.specs.declared.answers.Refusal.{Refusal}
 use Rattle.texts.proofs.Bools.{both, and2}
 use Rattle.texts.proofs.Refusals.{Way, way_out}
-use Rattle.amounts.specs.Amount.{most_kopecks, is_amount}
+use Rattle.amounts.specs.Amount.{is_amount}
 use Rattle.amounts.specs.Part.{is_year, partable, quotient_of, remainder_of, part_tests, parting, part_answer, PartRange, IsPart, Parts}
 use Rattle.std.specs.Prelude.{Result, Ok, Err}
 use Rattle.amounts.specs.declared.part.Portion.{Portion}
 use Rattle.amounts.proofs.Ranges.{sole, no_number, amount-is, is-amount, year-is, is-year, year-bound}
-
--- the product fits in 64 bits
-pub days-fit : (a d : ℕ) → a ≤ most_kopecks → d ≤ 366 → a * d ≤ 366000000000000
-days-fit a d h k = mul-le-mul h k
 
 module _ (a d y : ℕ) where
   part-range : partable a d y ≡ true → PartRange a d y
@@ -82,13 +78,6 @@ module _ (a d y : ℕ) where
       holds = holds_by;
       number = number_by;
     }
-
-  -- w is what `is_partable` answered
-  pub ranged : (w : Bool) → w ≡ partable a d y → not w ≡ false → (a ≤ most_kopecks) × (d ≤ 366) × (0 < y) × (y ≤ 366)
-  ranged w hw h =
-      let i = part-range (sym hw ∙ not-false w h) in
-      let b = year-bound y i.years in
-      (i.most, omega (arith, i.last, b.1), b.0, b.1)
 
 -- ---- the ways out of `part`
 

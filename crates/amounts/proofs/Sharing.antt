@@ -1,21 +1,20 @@
 -- What shares promise, by their definition; the loops and the ways through `shares`.
 use mathlib.Core.Path.{◌≡◌, refl, sym, ap, ◌∙◌, subst}
-use mathlib.Core.Bool.{Bool, true, false, not, ◌&&◌, true≢false}
+use mathlib.Core.Bool.{true, ◌&&◌, true≢false}
 use mathlib.Core.List.{List, [], ◌∷◌, ◌++◌}
 use Prim.Native.Nat.{ℕ, zero, suc, ◌+◌, ◌-◌, ◌*◌, ◌/◌, ◌≤◌, ◌<◌}
 use native.Mathlib.Nat.{zero-add, mul-zero, zero-div, mul-le-mul_left, le-div_iff_mul-le, div-mul-le_self, mul-div_cancel}
-use native.Mathlib.Numerals.{add-one}
 use native.Mathlib.Omega.{arith}
-use borrow.Author.Tests.{leb-true, le-leb, eqb-true, eq-eqb, not-false}
+use borrow.Author.Tests.{leb-true, le-leb, eqb-true, eq-eqb}
 use lib.Dec.{leb, eqb}
-use lib.ListN.{length, take, drop, get_or, set, replicate, length-append, length-replicate, drop_of_length-le}
-use lib.Seq.{take_all, drop-cons, sets, sets-eq, get_or-append-add}
+use lib.ListN.{length, take, drop, get_or, replicate, length-append, length-replicate, drop_of_length-le}
+use lib.Seq.{take_all, sets, sets-eq, get_or-append-add}
 use Rattle.texts.specs.Texts.{every}
 use Rattle.texts.specs.Answers.{success, refusal, number_of}
 use Rattle.texts.specs.declared.answers.Refusal.{Refusal}
 use Rattle.texts.proofs.Bools.{both, and2}
 use Rattle.texts.proofs.Refusals.{Way, way_out}
-use Rattle.amounts.specs.Amount.{most_kopecks, is_amount}
+use Rattle.amounts.specs.Amount.{is_amount}
 use Rattle.amounts.specs.Part.{is_year, quotient_of}
 use Rattle.amounts.specs.Shares.{total, all_some, are_periods, sharable, shares_from, places_of, share_tests, sharing, shared_to, share_answer, ShareRange, AreShares, Shares}
 use Rattle.std.specs.Prelude.{Result, Ok, Err, sum}
@@ -183,10 +182,6 @@ module _ (a y : ℕ) (ps : List ℕ) where
     shares-by : Shares a y ps b x e
     shares-by = record { answer = ha; places = he; exactly = (λ z. share-range (in-range z), accepted); refused = λ n vs h. let q = refused-by n vs h in (q.0, q.2); shared = shared-by; holds = holds_by; number = number_by }
 
-  -- w is what `is_sharable` answered
-  pub asked : (w : Bool) → w ≡ sharable a y ps → not w ≡ false → (is_amount a ≡ true) × (is_year y ≡ true) × (are_periods y ps ≡ true)
-  asked w hw h = parts-of (sym hw ∙ not-false w h)
-
 -- ---- the ways out of `shares`
 
 pub share-out : (k a y : ℕ) (ps b : List ℕ) (x : Result Unit Refusal) (e : List ℕ) → Way [] (places_of a y ps) b (share_answer x) e (Shares a y ps b x e) k (share_tests a y ps)
@@ -198,16 +193,6 @@ shared a y z ps e he ez = rw (← ez) he
 
 -- ---- the loops
 
-module _ (ps : List ℕ) (i : ℕ) where
-  pub sum_more : (s p : ℕ) → total ps ≡ s + total (drop i ps) → i < length ps → p ≡ get_or ps i 0 → total ps ≡ s + p + total (drop (i + 1) ps)
-  sum_more s p e h q =
-      let d : total (drop i ps) ≡ get_or ps i 0 + total (drop (suc i) ps) = ap total (drop-cons ps i 0 h) in
-      let n : total (drop (i + 1) ps) ≡ total (drop (suc i) ps) = ap (λ (j : ℕ). total (drop j ps)) (add-one i) in
-      omega (arith, e, d, n, q)
-
-  pub sum_done : (s : ℕ) → total ps ≡ s + total (drop i ps) → length ps ≤ i → s ≡ total ps
-  sum_done s e h = let d : total (drop i ps) ≡ 0 = ap total (drop_of_length-le ps h) in omega (arith, e, d)
-
 -- the shares so far are in the places, and those of the periods from i on will be put behind them
 abbrev pub zeros : List ℕ
 zeros = replicate 12 0
@@ -215,13 +200,6 @@ zeros = replicate 12 0
 module _ (a y : ℕ) (ps : List ℕ) (i : ℕ) (places : List ℕ) (days : ℕ) where
   abbrev pub Putting : Type 0
   Putting = sets places i (shares_from a y days (drop i ps)) ≡ sets zeros 0 (shares_from a y 0 ps)
-
-  pub share-more : Putting → i < length ps → (d q b : ℕ) → d ≡ days + get_or ps i 0 → q ≡ quotient_of a d y → b ≡ quotient_of a days y
-      → sets (set places i (q - b)) (i + 1) (shares_from a y d (drop (i + 1) ps)) ≡ sets zeros 0 (shares_from a y 0 ps)
-  share-more e h d q b ed eq eb =
-      (λ j. sets (set places i ((eq ∙ ap (λ (n : ℕ). quotient_of a n y) ed) j - eb j)) (add-one i j) (shares_from a y (ed j) (drop (add-one i j) ps)))
-      ∙ sym (ap (λ (l : List ℕ). sets places i (shares_from a y days l)) (drop-cons ps i 0 h))
-      ∙ e
 
   drop-zeros : (n m : ℕ) → drop m (replicate {A = ℕ} n 0) ≡ replicate (n - m) 0
   drop-zeros n zero = ap (λ (k : ℕ). replicate {A = ℕ} k 0) (less_none n)
@@ -248,20 +226,3 @@ module _ (a y : ℕ) (ps : List ℕ) (i : ℕ) (places : List ℕ) (days : ℕ) 
 -- the sum that the code makes
 pub sum-total : (ps : List ℕ) (s : ℕ) → s ≡ sum ps → s ≡ total ps
 sum-total ps s e = e ∙ sym (is_sum_by total (λ (x : ℕ). x) refl (λ _ _. refl) ps)
-
-pub sum-start : (ps : List ℕ) → total ps ≡ 0 + total (drop 0 ps)
-sum-start ps = sym (zero-add (total ps))
-
--- what `shares_of` asks for, as bounds
-module _ (a y : ℕ) (ps : List ℕ) (p : (is_amount a ≡ true) × (is_year y ≡ true) × (are_periods y ps ≡ true)) where
-  pub bounds : (a ≤ most_kopecks) × (0 < y) × (y ≤ 366) × (length ps ≤ 12) × (total ps ≡ y)
-  bounds =
-      let b = year-bound y (year-is y p.1) in
-      let q = periods-are y ps p.2 in
-      ((amount-is a p.0).1, b.0, b.1, q.1, q.3)
-
-  -- the days of the periods up to i are at most those of the year
-  pub days-bound : (i days d : ℕ) → total ps ≡ days + total (drop i ps) → i < length ps → d ≡ get_or ps i 0 → days + d ≤ 366
-  days-bound i days d e h q =
-      let m = sum_more ps i days d e h q in
-      omega (arith, m, bounds.2, bounds.4)

@@ -44,7 +44,12 @@ fn lower(charge: u64, greatest: u64) -> u64
 }
 
 // The charge, or 14.
-pub fn charge(amount: Kopecks, rate: Rate, least: Kopecks, greatest: Kopecks) -> Result<Kopecks, Refusal>
+pub fn charge(
+    amount: Kopecks,
+    rate: Rate,
+    least: Kopecks,
+    greatest: Kopecks,
+) -> Result<Kopecks, Refusal>
     ensures { Charges amount.0 rate.0 least.0 greatest.0 result }
 {
     if !is_chargeable(amount, rate, least, greatest) {

@@ -60,7 +60,12 @@ fn shares_of(amount: u64, year: u64, periods: &[u32]) -> [u64; 12]
 }
 
 // The shares are in the places, or 15.
-pub fn shares(amount: Kopecks, year: Days, periods: &[u32], places: &mut [u64; 12]) -> Result<(), Refusal>
+pub fn shares(
+    amount: Kopecks,
+    year: Days,
+    periods: &[u32],
+    places: &mut [u64; 12],
+) -> Result<(), Refusal>
     ensures { Shares amount.0 year.0 periods.now places.old result places.new }
 {
     if !is_sharable(amount, year, periods) {
