@@ -8,6 +8,7 @@ use native.Mathlib.Omega.{arith}
 use borrow.Author.Tests.{leb-true, le-leb, ltb-true, ltb-false, not-false}
 use lib.Dec.{leb, ltb}
 use Rattle.texts.specs.Answers.{success, number_of}
+use Rattle.texts.specs.Refusals.{refusal_number}
 use Rattle.texts.specs.declared.answers.Refusal.{Refusal}
 use Rattle.texts.proofs.Bools.{both, and2}
 use Rattle.texts.proofs.Refusals.{none_of, succeeded, Way, way_out}
@@ -116,10 +117,10 @@ module _ (a r l g : ℕ) where
       let q = made_of c.0 (sym e ∙ ap charge_answer h) in
       (q.0, subst (IsCharge a r l g) (sym q.1) (is-charge q.0))
 
-  number_by : (x : Result Kopecks Refusal) → charge_answer x ≡ charging a r l g → (n : Refusal) → x ≡ Err n → (n.0 ≡ 14) × (InRange a r l g → ⊥)
+  number_by : (x : Result Kopecks Refusal) → charge_answer x ≡ charging a r l g → (n : Refusal) → x ≡ Err n → (refusal_number n ≡ 14) × (InRange a r l g → ⊥)
   unfolding charging charge_tests charge_answer
   number_by x e n h =
-      let q = sole (chargeable a r l g) 14 n.0 _ [] (sym e ∙ ap charge_answer h) in
+      let q = sole (chargeable a r l g) 14 (refusal_number n) _ [] (sym e ∙ ap charge_answer h) in
       (q.0, λ i. true≢false (sym (range-in i) ∙ q.1))
 
   -- the promise, from the equation that the code is proved to meet

@@ -8,6 +8,7 @@ use native.Mathlib.Omega.{arith}
 use borrow.Author.Tests.{leb-true, le-leb}
 use lib.Dec.{leb}
 use Rattle.texts.specs.Answers.{success, number_of}
+use Rattle.texts.specs.Refusals.{refusal_number}
 use Rattle.texts.specs.declared.answers.Refusal.{Refusal}
 use Rattle.texts.proofs.Bools.{both, and2}
 use Rattle.texts.proofs.Refusals.{Way, way_out}
@@ -61,10 +62,10 @@ module _ (a d y : ℕ) where
     unfolding part_answer
     holds_by p h = made_of p.kopecks.0 p.remainder.0 (sym e ∙ ap part_answer h)
 
-    number_by : (n : Refusal) → x ≡ Err n → (n.0 ≡ 15) × (PartRange a d y → ⊥)
+    number_by : (n : Refusal) → x ≡ Err n → (refusal_number n ≡ 15) × (PartRange a d y → ⊥)
     unfolding parting part_tests part_answer
     number_by n h =
-        let q = sole (partable a d y) 15 n.0 _ [] (sym e ∙ ap part_answer h) in
+        let q = sole (partable a d y) 15 (refusal_number n) _ [] (sym e ∙ ap part_answer h) in
         (q.0, λ i. true≢false (sym (range-part i) ∙ q.1))
 
     -- the promise, from the equation that the code is proved to meet

@@ -1,14 +1,12 @@
 -- The one test that refuses, and the range of an amount and of a year's length, taken apart.
-use mathlib.Core.Path.{◌≡◌, refl, sym, ap}
-use mathlib.Core.Bool.{Bool, true, false, not, ◌&&◌, ◌||◌}
+use mathlib.Core.Path.{◌≡◌, refl, sym}
+use mathlib.Core.Bool.{Bool, true, false, not, ◌||◌}
 use mathlib.Core.List.{List, [], ◌∷◌}
 use mathlib.Core.Logic.{◌⊎◌, inl, inr}
 use Prim.Native.Nat.{ℕ, ◌≤◌, ◌<◌}
 use native.Mathlib.Omega.{arith}
 use borrow.Author.Tests.{leb-true, le-leb, eqb-true}
 use lib.Dec.{leb, eqb}
-use Rattle.std.specs.List.{list_all}
-use Rattle.texts.specs.Texts.{every}
 use Rattle.texts.specs.Answers.{refusal, number_of, ◌refuses◌, answer_by}
 use Rattle.texts.proofs.Bools.{both, and2}
 use Rattle.texts.proofs.Refusals.{no-success}
@@ -47,8 +45,3 @@ is-year y (inr e) = rw e
 pub year-bound : (y : ℕ) → (y ≡ 365) ⊎ (y ≡ 366) → (0 < y) × (y ≤ 366)
 year-bound y (inl e) = (omega (arith, e), omega (arith, e))
 year-bound y (inr e) = (omega (arith, e), omega (arith, e))
-
-pub every-list_all : (p : ℕ → Bool) (t : List ℕ) → list_all p t ≡ every p t
-unfolding every
-every-list_all p [] = refl
-every-list_all p (x ∷ xs) = ap (λ (b : Bool). p x && b) (every-list_all p xs)

@@ -11,6 +11,7 @@ use lib.ListN.{length, take, drop, get_or, replicate, length-append, length-repl
 use lib.Seq.{take_all, sets, sets-eq, get_or-append-add}
 use Rattle.texts.specs.Texts.{every}
 use Rattle.texts.specs.Answers.{success, refusal, number_of}
+use Rattle.texts.specs.Refusals.{refusal_number}
 use Rattle.texts.specs.declared.answers.Refusal.{Refusal}
 use Rattle.texts.proofs.Bools.{both, and2}
 use Rattle.texts.proofs.Refusals.{Way, way_out}
@@ -18,6 +19,7 @@ use Rattle.amounts.specs.Amount.{is_amount}
 use Rattle.amounts.specs.Part.{is_year, quotient_of}
 use Rattle.amounts.specs.Shares.{total, all_some, are_periods, sharable, shares_from, places_of, share_tests, sharing, shared_to, share_answer, ShareRange, AreShares, Shares}
 use Rattle.std.specs.Prelude.{Result, Ok, Err, sum}
+use Rattle.std.proofs.lemmas.List.{drop-replicate}
 use Rattle.std.proofs.lemmas.List.Recursion.{is_sum_by}
 use Rattle.amounts.proofs.Ranges.{sole, no_number, amount-is, is-amount, year-is, is-year, year-bound}
 
@@ -175,9 +177,9 @@ module _ (a y : ℕ) (ps : List ℕ) where
     unfolding share_answer
     holds_by h = let k = ap share_answer h in (share-range (in-range (ap number_of k)), shared-by k)
 
-    number_by : (n : Refusal) → x ≡ Err n → (n.0 ≡ 15) × (ShareRange a y ps → ⊥) × (e ≡ b)
+    number_by : (n : Refusal) → x ≡ Err n → (refusal_number n ≡ 15) × (ShareRange a y ps → ⊥) × (e ≡ b)
     unfolding share_answer
-    number_by n h = refused-by n.0 [] (ap share_answer h)
+    number_by n h = refused-by (refusal_number n) [] (ap share_answer h)
 
     shares-by : Shares a y ps b x e
     shares-by = record { answer = ha; places = he; exactly = (λ z. share-range (in-range z), accepted); refused = λ n vs h. let q = refused-by n vs h in (q.0, q.2); shared = shared-by; holds = holds_by; number = number_by }
@@ -201,27 +203,13 @@ module _ (a y : ℕ) (ps : List ℕ) (i : ℕ) (places : List ℕ) (days : ℕ) 
   abbrev pub Putting : Type 0
   Putting = sets places i (shares_from a y days (drop i ps)) ≡ sets zeros 0 (shares_from a y 0 ps)
 
-  drop-zeros : (n m : ℕ) → drop m (replicate {A = ℕ} n 0) ≡ replicate (n - m) 0
-  drop-zeros n zero = ap (λ (k : ℕ). replicate {A = ℕ} k 0) (less_none n)
-    where
-      less_none : (n : ℕ) → n ≡ n - 0
-      less_none n = omega arith
-  drop-zeros zero (suc m) = ap (λ (k : ℕ). replicate {A = ℕ} k 0) (none-less m)
-    where
-      none-less : (m : ℕ) → 0 ≡ 0 - suc m
-      none-less m = omega arith
-  drop-zeros (suc n) (suc m) = drop-zeros n m ∙ ap (λ (k : ℕ). replicate {A = ℕ} k 0) (both-less n m)
-    where
-      both-less : (n m : ℕ) → n - m ≡ suc n - suc m
-      both-less n m = omega arith
-
   pub share-done : Putting → length ps ≤ i → length ps ≤ 12 → places ≡ places_of a y ps
   unfolding places_of
   share-done e h few =
       sym (ap (λ (l : List ℕ). sets places i (shares_from a y days l)) (drop_of_length-le ps h))
       ∙ e
       ∙ sets-eq (shares_from a y 0 ps) zeros 0 (omega (arith, shares-length a y 0 ps, few))
-      ∙ ap (λ (l : List ℕ). shares_from a y 0 ps ++ l) (drop-zeros 12 (0 + length (shares_from a y 0 ps)) ∙ ap (λ (k : ℕ). replicate {A = ℕ} (12 - k) 0) (zero-add _ ∙ shares-length a y 0 ps))
+      ∙ ap (λ (l : List ℕ). shares_from a y 0 ps ++ l) (drop-replicate (0 + length (shares_from a y 0 ps)) 12 0 ∙ ap (λ (k : ℕ). replicate {A = ℕ} (12 - k) 0) (zero-add _ ∙ shares-length a y 0 ps))
 
 -- the sum that the code makes
 pub sum-total : (ps : List ℕ) (s : ℕ) → s ≡ sum ps → s ≡ total ps

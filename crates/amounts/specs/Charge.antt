@@ -1,6 +1,7 @@
 -- R-10: the bank's charge, and what it promises.
 use Rattle.std.specs.Prelude.{◌≡◌, ◌↔◌, Bool, not, cond, ◌&&◌, List, [], ◌∷◌, ℕ, ◌+◌, ◌*◌, ◌/◌, ◌≤◌, ◌<◌, leb, ltb, Result, Ok, Err}
 use Rattle.texts.specs.Answers.{Answer, success, refusal, number_of, Test, ◌refuses◌, answer_by}
+use Rattle.texts.specs.Refusals.{refusal_number}
 use Rattle.texts.specs.declared.answers.Refusal.{Refusal}
 use Rattle.amounts.specs.Amount.{most_kopecks, is_amount}
 use Rattle.amounts.specs.declared.amount.Kopecks.{Kopecks}
@@ -35,7 +36,7 @@ charging amount rate least greatest = answer_by (charge_tests amount rate least 
 -- the paper's number and values for each case
 unfoldable pub charge_answer : Result Kopecks Refusal → Answer
 charge_answer (Ok c) = success (c.0 ∷ [])
-charge_answer (Err n) = refusal n.0 []
+charge_answer (Err n) = refusal (refusal_number n) []
 
 -- what the arguments must be, said one by one
 pub record InRange (amount rate least greatest : ℕ) : Type 0 where
@@ -66,6 +67,6 @@ pub record Charges (amount rate least greatest : ℕ) (x : Result Kopecks Refusa
   pub charged : (c : ℕ) → charge_answer x ≡ success (c ∷ []) → IsCharge amount rate least greatest c
   -- the same of each case itself, whatever numbers stand for it
   pub holds : (c : Kopecks) → x ≡ Ok c → InRange amount rate least greatest × IsCharge amount rate least greatest c.0
-  pub number : (n : Refusal) → x ≡ Err n → (n.0 ≡ 14) × (InRange amount rate least greatest → ⊥)
+  pub number : (n : Refusal) → x ≡ Err n → (refusal_number n ≡ 14) × (InRange amount rate least greatest → ⊥)
   -- it never falls when the amount rises
   pub rises : (more c d : ℕ) → amount ≤ more → charge_answer x ≡ success (c ∷ []) → charging more rate least greatest ≡ success (d ∷ []) → c ≤ d

@@ -1,6 +1,7 @@
 -- R-11: part of a year, and what it promises.
 use Rattle.std.specs.Prelude.{◌≡◌, Bool, not, ◌&&◌, ◌||◌, List, [], ◌∷◌, ◌⊎◌, ◌↔◌, ℕ, ◌+◌, ◌*◌, ◌/◌, ◌%◌, ◌≤◌, ◌<◌, leb, eqb, Result, Ok, Err}
 use Rattle.texts.specs.Answers.{Answer, success, refusal, number_of, Test, ◌refuses◌, answer_by}
+use Rattle.texts.specs.Refusals.{refusal_number}
 use Rattle.texts.specs.declared.answers.Refusal.{Refusal}
 use Rattle.amounts.specs.Amount.{most_kopecks, is_amount}
 use Rattle.amounts.specs.declared.part.Portion.{Portion}
@@ -29,7 +30,7 @@ parting amount days year = answer_by (part_tests amount days year) (quotient_of 
 -- the paper's number and values for each case
 unfoldable pub part_answer : Result Portion Refusal → Answer
 part_answer (Ok p) = success (p.kopecks.0 ∷ p.remainder.0 ∷ [])
-part_answer (Err n) = refusal n.0 []
+part_answer (Err n) = refusal (refusal_number n) []
 
 -- what the arguments must be, said one by one
 pub record PartRange (amount days year : ℕ) : Type 0 where
@@ -53,4 +54,4 @@ pub record Parts (amount days year : ℕ) (x : Result Portion Refusal) : Type 0 
   pub parted : (q r : ℕ) → part_answer x ≡ success (q ∷ r ∷ []) → IsPart amount days year q r
   -- the same of each case itself, whatever numbers stand for it
   pub holds : (p : Portion) → x ≡ Ok p → PartRange amount days year × IsPart amount days year p.kopecks.0 p.remainder.0
-  pub number : (n : Refusal) → x ≡ Err n → (n.0 ≡ 15) × (PartRange amount days year → ⊥)
+  pub number : (n : Refusal) → x ≡ Err n → (refusal_number n ≡ 15) × (PartRange amount days year → ⊥)

@@ -2,6 +2,7 @@
 use Rattle.std.specs.Prelude.{◌≡◌, Bool, not, ◌&&◌, List, [], ◌∷◌, ◌++◌, ◌⊎◌, ◌↔◌, ℕ, ◌+◌, ◌-◌, ◌≤◌, ◌<◌, leb, eqb, length, take, get_or, replicate, Result, Ok, Err}
 use Rattle.texts.specs.Texts.{every}
 use Rattle.texts.specs.Answers.{Answer, success, refusal, number_of, Test, ◌refuses◌, answer_by, buffer_by}
+use Rattle.texts.specs.Refusals.{refusal_number}
 use Rattle.texts.specs.declared.answers.Refusal.{Refusal}
 use Rattle.amounts.specs.Amount.{most_kopecks, is_amount}
 use Rattle.amounts.specs.Part.{is_year, quotient_of}
@@ -49,7 +50,7 @@ shared_to amount year ps b = buffer_by (share_tests amount year ps) (places_of a
 -- the paper's number for each case
 unfoldable pub share_answer : Result Unit Refusal → Answer
 share_answer (Ok u) = success []
-share_answer (Err n) = refusal n.0 []
+share_answer (Err n) = refusal (refusal_number n) []
 
 -- what the arguments must be, said one by one
 pub record ShareRange (amount year : ℕ) (ps : List ℕ) : Type 0 where
@@ -80,4 +81,4 @@ pub record Shares (amount year : ℕ) (ps b : List ℕ) (x : Result Unit Refusal
   pub shared : share_answer x ≡ success [] → AreShares amount year ps e
   -- the same of each case itself, whatever number stands for it
   pub holds : x ≡ Ok tt → ShareRange amount year ps × AreShares amount year ps e
-  pub number : (n : Refusal) → x ≡ Err n → (n.0 ≡ 15) × (ShareRange amount year ps → ⊥) × (e ≡ b)
+  pub number : (n : Refusal) → x ≡ Err n → (refusal_number n ≡ 15) × (ShareRange amount year ps → ⊥) × (e ≡ b)

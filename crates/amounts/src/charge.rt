@@ -6,7 +6,7 @@ use crate::amount::{Kopecks, MOST_KOPECKS, is_amount};
 use texts::answers::Refusal;
 
 // In hundredths of a percent.
-#[derive(Clone, Copy)]
+#[derive(Clone, Copy, Debug, PartialEq, Eq)]
 pub struct Rate(pub u64);
 
 // "a rate of 0 to 10,000 hundredths of a percent"
@@ -53,7 +53,7 @@ pub fn charge(
     ensures { Charges amount.0 rate.0 least.0 greatest.0 result }
 {
     if !is_chargeable(amount, rate, least, greatest) {
-        return Err(Refusal(14));
+        return Err(Refusal::BadCharge);
     }
     let raised = raise(round_half_up(amount.0, rate.0), least.0);
     Ok(Kopecks(lower(raised, greatest.0)))

@@ -5,15 +5,15 @@ ghost use Rattle.amounts.specs.Part.{is_year, partable, quotient_of, remainder_o
 use crate::amount::{Kopecks, is_amount};
 use texts::answers::Refusal;
 
-#[derive(Clone, Copy)]
+#[derive(Clone, Copy, Debug, PartialEq, Eq)]
 pub struct Days(pub u32);
 
 // What is left of a kopeck, in parts of which the year's length makes one.
-#[derive(Clone, Copy)]
+#[derive(Clone, Copy, Debug, PartialEq, Eq)]
 pub struct Remainder(pub u32);
 
 // The part of the days: whole kopecks, and the remainder.
-#[derive(Clone, Copy)]
+#[derive(Clone, Copy, Debug, PartialEq, Eq)]
 pub struct Portion {
     pub kopecks: Kopecks,
     pub remainder: Remainder,
@@ -53,7 +53,7 @@ pub fn part(amount: Kopecks, days: Days, year: Days) -> Result<Portion, Refusal>
     ensures { Parts amount.0 days.0 year.0 result }
 {
     if !is_partable(amount, days, year) {
-        return Err(Refusal(15));
+        return Err(Refusal::BadPart);
     }
     let d = u64::from(days.0);
     let y = u64::from(year.0);

@@ -69,7 +69,7 @@ pub fn shares(
     ensures { Shares amount.0 year.0 periods.now places.old result places.new }
 {
     if !is_sharable(amount, year, periods) {
-        return Err(Refusal(15));
+        return Err(Refusal::BadPart);
     }
     *places = shares_of(amount.0, u64::from(year.0), periods);
     Ok(())

@@ -1,7 +1,7 @@
 use Rattle.std.proofs.Common.{rules, leb, ◌∙◌}
 use Rattle.std.proofs.lemmas.Iterator.{YieldsList-from_slice}
 use Rattle.std.proofs.lemmas.Iterator.Search.{all_from_yields_List}
-use Rattle.amounts.proofs.Ranges.{every-list_all}
+use Rattle.texts.proofs.Std.{every-list_all}
 use Rattle.amounts.proofs.shares.all_some.Goals as goal
 
 pub returns : goal.returns
