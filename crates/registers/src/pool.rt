@@ -6,7 +6,7 @@ ghost use Rattle.registers.specs.Register.{line_size, inn_size, kopecks_size, mo
 ghost use Rattle.registers.specs.Pool.{output_size, more, less, Pools};
 ghost use Rattle.registers.specs.Working.Parts.{big_at, Finds, Hinted};
 
-use crate::lines::{INN_SIZE, LINE_SIZE, inn_at, is_register, kopecks_at, number_at, total_of};
+use crate::lines::{INN_SIZE, LINE_SIZE, inn_of, is_register, kopecks_of, number_at, total_of};
 use amounts::amount::Kopecks;
 use texts::answers::Refusal;
 use texts::buffers::put;
