@@ -27,11 +27,11 @@ pub enum Refusal {
     Unfit,
 }
 
-impl Refusal {
-    pub fn number(self) -> u8
-        ensures { result ≡ refusal_number self }
-    {
-        match self {
+impl From<Refusal> for u8 {
+    ghost from_gives = { λ refusal n. n ≡ refusal_number refusal };
+
+    fn from(refusal: Refusal) -> u8 {
+        match refusal {
             Refusal::Malformed => 1,
             Refusal::BadLength => 2,
             Refusal::UnknownVersion => 3,
