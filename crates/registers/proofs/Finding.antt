@@ -1,5 +1,6 @@
 -- Looking for a number before its hint: what the loop keeps; and the hints, one more for each new number.
-use mathlib.Core.Path.{◌≡◌, refl, ◌∙◌}
+use mathlib.Core.Path.{◌≡◌, refl, sym, ap, ◌∙◌}
+use mathlib.Core.Bool.{false≢true}
 use mathlib.Core.Logic.{⊎_elim}
 use mathlib.Core.List.{List}
 use Prim.Native.Nat.{ℕ, zero, suc, ◌+◌, ◌-◌, ◌%◌, ◌≤◌, ◌<◌}
@@ -8,11 +9,8 @@ use native.Mathlib.Nat.{eq-or-lt_of_le}
 use native.Mathlib.Omega.{arith}
 use lib.ListN.{length, get_or, set, replicate, length-set}
 use lib.Seq.{get_or-set_same, get_or-set_other}
+use Rattle.std.specs.Prelude.{Some, None, is_some}
 use Rattle.registers.specs.Working.Parts.{Finds, Hinted}
-
--- a remainder is a place among the hints
-pub hint-place : (n : ℕ) → n % 2048 < 2048
-hint-place n = omega arith
 
 module _ (ns : List ℕ) (count n : ℕ) where
   -- n is not among those from j on
@@ -23,17 +21,17 @@ module _ (ns : List ℕ) (count n : ℕ) where
   pub find-start : (hints : List ℕ) → Hinted ns hints count → Finding (get_or hints (n % 2048) 0)
   find-start hints h = record { within = h.within (n % 2048); before = λ k l e. rw e at (h.behind k l) }
 
-  pub find_none : (j : ℕ) → j ≤ 0 → Finding j → Finds ns count n count
-  find_none j z f = record { within = omega arith; found = λ l. absurd (omega arith); missing = λ w k l e. absurd (omega (arith, z, f.before k l e)) }
+  pub find_none : (j : ℕ) → j ≤ 0 → Finding j → Finds ns count n None
+  find_none j z f = record { found = λ k e. absurd (false≢true (ap is_some e)); missing = λ e k l q. absurd (omega (arith, z, f.before k l q)) }
 
   module _ (j : ℕ) (p : 0 < j) (f : Finding j) where
-    pub find-hit : get_or ns (j - 1) 0 ≡ n → Finds ns count n (j - 1)
-    find-hit e = record { within = omega (arith, f.within); found = λ l. e; missing = λ w. absurd (omega (arith, p, w, f.within)) }
+    pub find-hit : get_or ns (j - 1) 0 ≡ n → Finds ns count n (Some (j - 1))
+    find-hit e = record { found = λ i q. let z : i ≡ j - 1 = cc in rw z (omega (arith, p, f.within), e); missing = λ q. absurd (false≢true (sym (ap is_some q))) }
 
     pub find-miss : (get_or ns (j - 1) 0 ≡ n → ⊥) → Finding (j - 1)
     find-miss no_hit = record {
-      within = omega (arith, f.within);
-      before = λ k l e. ⊎_elim (λ q. absurd (no_hit (rw q at e))) (λ m. m) (eq-or-lt_of_le (let m : k ≤ j - 1 = omega (arith, f.before k l e) in m));
+      within = omega (arith, p, f.within);
+      before = λ i l e. ⊎_elim (λ q. absurd (no_hit (rw q at e))) (λ m. m) (eq-or-lt_of_le (let m : i ≤ j - 1 = omega (arith, p, f.before i l e) in m));
     }
 
 zeros : (m d : ℕ) → get_or (replicate {A = ℕ} m 0) d 0 ≡ 0

@@ -65,5 +65,9 @@ pub(crate) fn total_of(register: &[u8]) -> Kopecks
     ensures { (result.0 ≡ total_of (lines_of register.now)) × (result.0 ≤ most_lines * most_kopecks) }
 {
     let (lines, _) = register.as_chunks::<LINE_SIZE>();
-    Kopecks(lines.iter().map(|line| kopecks_of(line).0).sum())
+    let mut sum: u64 = 0;
+    for line in lines {
+        sum += kopecks_of(line).0;
+    }
+    Kopecks(sum)
 }
