@@ -24,10 +24,12 @@ use Rattle.registers.specs.declared.pool.Unpooled.{Unpooled}
 use Rattle.registers.specs.declared.pool.Unpooled.TheVariants.{Differs, Refused}
 use Rattle.registers.proofs.Pooling.{pooled-total, is-pool}
 use Rattle.registers.proofs.Registers.{whole_of, lines-all, total-most, is-register, register-is}
-use Rattle.registers.proofs.Differences.{Difference}
 use Rattle.registers.proofs.Outputs.{lines_long, pooled-sized, at_most, read-inn, read-sum}
 
--- the difference as an integer
+-- the signed difference of two amounts
+abbrev Difference : ℕ → ℕ → ℤ → Type 0
+Difference t a r = (more r ≡ t - a) × (less r ≡ a - t)
+
 signed-sum : (s a : ℕ) (d : ℤ) → Difference s a d → pos s ≡ pos a +ℤ d
 signed-sum s a (pos m) (y, z) = let q : s ≡ a + m = omega arith in ap pos q
 signed-sum s a (negsuc m) (y, z) =

@@ -8,7 +8,7 @@ use Rattle.registers.specs.Register.{line_of}
 use Rattle.texts.specs.Working.Writing.{put_at}
 use Rattle.registers.specs.Working.Parts.{line_at}
 use Rattle.registers.proofs.Registers.{chunk_at}
-use Rattle.registers.proofs.Outputs.{none_yet, all-pooled, Turn, table-room, add-asked, sum-grown, line-copied}
+use Rattle.registers.proofs.Outputs.{none_yet, all-pooled, Turn, add-asked, sum-grown, line-copied}
 use Rattle.registers.proofs.pool.pool_lines.Goals as goal
 use Rattle.registers.proofs.pool.pool_lines.Goals.{In-loop-line, After-place_of, in-Some, in-None}
 
@@ -36,12 +36,6 @@ loop-line-init c = none_yet _ _ _ _ c.requires c.none-inns.ensures.0 c.none-inns
 
 pub add-requires : goal.add-requires
 add-requires c = add-asked (turn (goal.at.add-requires c).After-place_of) c.in-Some.place c.in-Some.is c.kopecks_of.result.0 (c.kopecks_of.ensures ∙ kopecks (goal.at.add-requires c).In-loop-line _)
-
-pub overflow_mul-inns : goal.overflow_mul-inns
-overflow_mul-inns c = record { fits = omega (arith, table-room (turn (goal.at.overflow_mul-inns c).After-place_of)) }
-
-pub push-requires : goal.push-requires
-push-requires c = table-room (turn (goal.at.push-requires c).After-place_of)
 
 pub loop-line-preserved : goal.loop-line-preserved
 loop-line-preserved c =
