@@ -32,12 +32,9 @@ impl Inns {
         ensures { Finds self.now.numbers self.now.count number result }
     {
         let hint = usize::from(self.hints[number % HINTS]);
-        for place in (0..hint).rev() {
-            if self.numbers[place] == number {
-                return Some(place);
-            }
-        }
-        None
+        self.numbers[..hint]
+            .iter()
+            .rposition(|known| *known == number)
     }
 
     // Puts a number behind the others.

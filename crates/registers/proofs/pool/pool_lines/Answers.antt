@@ -45,7 +45,7 @@ loop-line-preserved c =
     elim c.match-place_of.branch [
       | in-Some w ↦ rw (w.inns-is, w.output-is) (sum-grown t w.in-Some.place w.in-Some.is w.kopecks_of.result.0 _ (w.kopecks_of.ensures ∙ kopecks k _) w.add.ensures)
       | in-None w ↦ rw (w.inns-is, w.output-is, w.push.ensures.0, w.push.ensures.1)
-      (line-copied t w.in-None.is (λ j. (c.type_inv.register j).fits) _ (w.put.ensures ∙ ap (put_at l.output (l.inns.count * 20)) (bytes k _)))
+          (line-copied t w.in-None.is (λ j. (c.type_inv.register j).fits) _ (w.put.ensures ∙ ap (put_at l.output (l.inns.count * 20)) (bytes k _)))
     ]
 
 pub returns : goal.returns
