@@ -38,10 +38,7 @@ fn difference(total: Kopecks, amount: Kopecks) -> i64
     requires { (total.0 ≤ most_order) × (amount.0 ≤ most_order) }
     ensures { (more result ≡ total.0 - amount.0) × (less result ≡ amount.0 - total.0) }
 {
-    if amount.0 <= total.0 {
-        return (total.0 - amount.0) as i64;
-    }
-    0 - (amount.0 - total.0) as i64
+    total.0 as i64 - amount.0 as i64
 }
 
 // Adds to the sum of a pooled line.
@@ -85,7 +82,7 @@ pub fn pool(register: &[u8], amount: Kopecks, output: &mut [u8]) -> Result<usize
         return Err(Unpooled::Refused(Refusal::BadRegister));
     }
     let total = total_of(register);
-    if total.0 != amount.0 {
+    if total != amount {
         return Err(Unpooled::Differs(difference(total, amount)));
     }
     Ok(pool_lines(register, output))
