@@ -12,12 +12,12 @@ use lib.ListN.{length, get_or, get_or-append, get_or-eq_default}
 use lib.Seq.{get_or-append-add}
 use Rattle.std.specs.Int.{from_bool}
 use Rattle.texts.specs.Quoted.{Text, words}
-use Rattle.texts.specs.Texts.{every, any, are, among, same, between, value_of, value, number, ◌is_one_of◌}
+use Rattle.texts.specs.Texts.{every, any, same, between, value_of, value, number, ◌is_one_of◌}
 use Rattle.sheets.specs.Forms.{person, document, pension, date}
 use Rattle.sheets.specs.Lists.{statuses, letter_pairs, basis_texts, zero_texts}
 use Rattle.sheets.specs.Working.Entries.{basis_count, zero_count, row_of, place_in, count_in, status_at}
 use Rattle.sheets.specs.Working.Facts.{numbers_of, standing_by, standing_of, basis_of, document_of, day_of, facts_by, Read}
-use Rattle.sheets.specs.Dates.{listed, force_of, texts_in, status_texts, status_count}
+use Rattle.sheets.specs.Dates.{force_of, texts_in, status_texts, status_count}
 use Rattle.sheets.specs.Sheet.{Sheet}
 use Rattle.sheets.specs.declared.dates.Dates.{Dates}
 use Rattle.sheets.specs.declared.facts.Facts.{Facts}
@@ -34,6 +34,12 @@ pub in_list : {A : Type 0} (g : Text → A) (d : A) (ts : List Text) (k : ℕ) �
 in_list g d [] k h = absurd (omega arith)
 in_list g d (t ∷ ts) zero h = refl
 in_list g d (t ∷ ts) (suc k) h = in_list g d ts k (omega arith)
+
+-- and the same at any place, where past the end stands what is made of the blank
+pub mapped : {A : Type 0} (g : Text → A) (ts : List Text) (k : ℕ) → get_or (map g ts) k (g []) ≡ g (get_or ts k [])
+mapped g [] k = refl
+mapped g (t ∷ ts) zero = refl
+mapped g (t ∷ ts) (suc k) = mapped g ts k
 
 past-list : (ts : List Text) (k : ℕ) → length ts ≤ k → [] ≡ get_or ts k []
 past-list ts k h = sym (get_or-eq_default ts [] h)
