@@ -3,7 +3,7 @@ ghost use Rattle.std.specs.Prelude.{◌≡◌, []};
 ghost use Rattle.drafts.specs.Promises.{Postings};
 ghost use Rattle.orders.specs.Stream.{piece_of, ends_stream, messages_of, Streams};
 
-use crate::complete::{Completed, complete};
+use crate::complete::{Filled, Incomplete, complete};
 use drafts::draft::{DRAFT_SIZE, fresh, post};
 use drafts::message::{Reading, read};
 use sheets::dates::Dates;
@@ -54,7 +54,7 @@ pub fn gather(input: &[u8]) -> [u8; DRAFT_SIZE]
 }
 
 // Demand 3 of an input: its messages are posted to a fresh draft, one after another, and the draft is completed.
-pub fn complete_stream(input: &[u8], sheet: &mut [u8], dates: Dates) -> Completed
+pub fn complete_stream(input: &[u8], sheet: &mut [u8], dates: Dates) -> Result<Filled, Incomplete>
     ensures { Streams dates input.now sheet.old result sheet.new }
 {
     let draft = gather(input);
