@@ -1,24 +1,40 @@
-use Rattle.std.proofs.Common.{◌≡◌, ◌≤◌, ◌*◌, length, ℕ, ◌+◌, ◌-◌, ◌<◌}
-use Rattle.texts.specs.Texts.{blank}
-use Rattle.sheets.specs.Sheet.{Sheet, text_of}
+use mathlib.Core.Path.{◌≡◌}
+use mathlib.Core.List.{List, [], ◌∷◌}
+use Prim.Native.Nat.{ℕ, ◌+◌, ◌-◌, ◌*◌, ◌≤◌}
+use Rattle.sheets.specs.Sheet.{Sheet}
 use Rattle.sheets.specs.Working.Entries.{basis_count, zero_count}
-use Rattle.sheets.specs.Dates.{status_count}
 use Rattle.sheets.specs.declared.dates.Dates.{Dates}
-use Rattle.sheets.specs.Working.Facts.{Read}
-use Rattle.fillings.specs.Fillings.{width}
-use Rattle.orders.specs.Working.Search.{Payment}
-use Rattle.orders.specs.Working.Quick.{KeepsFixed, rest_picks}
-use Rattle.orders.specs.Working.Found.{found_of, pace_of}
+use Rattle.sheets.specs.declared.facts.Facts.{Facts}
+use Rattle.fillings.specs.Filled.{tally}
+use Rattle.fillings.specs.Working.Places.{places}
+use Rattle.fillings.proofs.Levels.{Picks, Left}
+use Rattle.orders.specs.Working.Search.{passes_at, Payment}
+use Rattle.orders.specs.Working.Quick.{skips}
+use Rattle.orders.proofs.Passing.{rest, of_basis, of_status}
 use Rattle.orders.proofs.search.walk_kept.Given as goal
 
+-- Each loop's invariant: what looking through the level's picks finds is what looking through those that are left finds, of every sheet
+-- that the facts were read of; and so many statuses were skipped.
+-- of a level's N places k have been gone through, n₀ fillings passed before and n now, no more than a bound
+abbrev pub Level : Facts → (List ℕ → List ℕ) → Picks → ℕ → ℕ → ℕ → ℕ → Type 0 → ℕ → Type 0
+Level f h R N n₀ k n bound most = (k ≤ N) × bound × ((D : Dates) (u : Sheet) → Payment D f u → Left (passes_at D u) h R N n₀ k n) × (N ≤ most)
+
+-- the statuses of those gone through that were skipped
+abbrev pub Skipped : Facts → ℕ → ℕ → Type 0
+Skipped f k a = (D : Dates) (u : Sheet) → Payment D f u → k ≡ tally (skips D u) (places a 0)
+
 abbrev pub invariant-loop-d : goal.invariant-loop-d
-invariant-loop-d l = ?
+invariant-loop-d l =
+    Level l.f (λ (t : List ℕ). l.a ∷ l.b ∷ l.c ∷ t) (rest []) l.n109 l.initial.count l.d l.count (l.count + l.b-end * of_basis ≤ l.a * of_status + of_status + l.b * of_basis + l.c * zero_count + l.d) zero_count
 
 abbrev pub invariant-loop-c : goal.invariant-loop-c
-invariant-loop-c l = ?
+invariant-loop-c l =
+    Level l.f (λ (t : List ℕ). l.a ∷ l.b ∷ t) (rest (l.n109 ∷ [])) l.n108 l.initial.count l.c l.count (l.count + l.b-end * of_basis ≤ l.a * of_status + of_status + l.b * of_basis + l.c * zero_count) zero_count
 
 abbrev pub invariant-loop-b : goal.invariant-loop-b
-invariant-loop-b l = ?
+invariant-loop-b l =
+    Level l.f (λ (t : List ℕ). l.a ∷ t) (rest (l.n108 ∷ l.n109 ∷ [])) l.b-end l.initial.count l.b l.count (l.count + l.b-end * of_basis ≤ l.a * of_status + of_status + l.b * of_basis) basis_count
 
 abbrev pub invariant-loop-a : goal.invariant-loop-a
-invariant-loop-a l = ?
+invariant-loop-a l =
+    Level l.f (λ (t : List ℕ). t) (rest (l.n106 ∷ l.n108 ∷ l.n109 ∷ [])) l.n101 l.initial.count l.a l.count (l.count ≤ l.a * of_status) 23 × (l.skipped ≤ l.a) × Skipped l.f l.skipped l.a
