@@ -28,7 +28,9 @@ use Rattle.sheets.specs.declared.dates.Dates.{Dates}
 use Rattle.orders.specs.Complete.{completing, completed, complete_answer}
 use Rattle.orders.specs.Whole.{Whole, Completes}
 use Rattle.orders.specs.Stream.{piece_of, ends_stream, pieces, messages_of, Parted, finished, stops, goes_on, Streams}
-use Rattle.orders.specs.declared.complete.Completed.{Completed}
+use Rattle.orders.specs.declared.complete.Filled.{Filled}
+use Rattle.orders.specs.declared.complete.Incomplete.{Incomplete}
+use Rattle.std.specs.Prelude.{Result}
 use Rattle.orders.proofs.Whole.{left-formed}
 
 -- ---- a piece
@@ -207,7 +209,7 @@ module _ (i : List ℕ) (k : ℕ) (h : k < length i) (s m : List ℕ) (es : s �
 
 -- ---- the whole
 
-pub streamed : (D : Dates) (i b d : List ℕ) (r : Completed) (t : List ℕ) → Postings (messages_of i) d → Completes D d b r t → Streams D i b r t
+pub streamed : (D : Dates) (i b d : List ℕ) (r : Result Filled Incomplete) (t : List ℕ) → Postings (messages_of i) d → Completes D d b r t → Streams D i b r t
 streamed D i b d r t L C = record {
   answer = C.answer ∙ ap (λ (x : List ℕ). completing D x b) L.draft;
   sheet = C.sheet ∙ ap (λ (x : List ℕ). completed D x b) L.draft;

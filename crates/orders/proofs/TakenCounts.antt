@@ -40,7 +40,9 @@ use Rattle.orders.specs.Whole.{Completes}
 use Rattle.orders.specs.Working.Search.{passes_at, picks, first_pick}
 use Rattle.orders.specs.Working.Entering.{base_of, picked_of}
 use Rattle.orders.specs.TakeUp.{in_set, greatest, fit, spared, take_tests, taking, taken_into, TakesUp}
-use Rattle.orders.specs.declared.complete.Completed.{Completed}
+use Rattle.orders.specs.declared.complete.Filled.{Filled}
+use Rattle.orders.specs.declared.complete.Incomplete.{Incomplete}
+use Rattle.std.specs.Prelude.{Result}
 use Rattle.orders.specs.declared.take_up.TakenUp.{TakenUp}
 use Rattle.orders.specs.declared.take_up.TakenUp.TheVariants.{Made}
 use Rattle.orders.proofs.Keeping.{first-is}
@@ -227,7 +229,7 @@ module _ (b : List ℕ) (z : length b ≡ 390) where
   taken-again n e T c size = T.again refl b 97 31816 7 answered filled c size
 
   -- and `complete`'s, with 101 "04" of the revision 5
-  chosen-again : (r : Completed) (t : List ℕ) → Completes D (draft order) b r t → (c : List ℕ) → length c ≡ 390 → CompletesAgain D (chosen_by (status ∷ [])) (draft order) b 97 (posted_from (draft order) (status ∷ [])) c
+  chosen-again : (r : Result Filled Incomplete) (t : List ℕ) → Completes D (draft order) b r t → (c : List ℕ) → length c ≡ 390 → CompletesAgain D (chosen_by (status ∷ [])) (draft order) b 97 (posted_from (draft order) (status ∷ [])) c
   chosen-again r t C c size = C.again 97 31816 7 (C.answer ∙ answered) (status ∷ []) (subst (λ (x : List ℕ). Choice D (draft order) x (status ∷ [])) (sym (C.sheet ∙ filled)) chosen) c size
 
   -- and `take_up` does take up 101 and 106
