@@ -62,9 +62,9 @@ pub record Prepared (d u : List ℕ) : Type 0 where
   pub size : length (draft_sheet d) ≡ sheet_size
   pub base : u ≡ base_of (draft_sheet d)
 
-pub prepared : (d : List ℕ) (w : Bool) → w ≡ draft_formed d → not w ≡ false → (o s : List ℕ) → length o ≡ sheet_size → s ≡ sheet_into d o → (u : List ℕ) → u ≡ base_of s → Prepared d u
-prepared d w hw h o s lo hs u hu =
-    let formed : draft_formed d ≡ true = sym hw ∙ not-false w h in
+pub prepared : (d : List ℕ) → true ≡ draft_formed d → (o s : List ℕ) → length o ≡ sheet_size → s ≡ sheet_into d o → (u : List ℕ) → u ≡ base_of s → Prepared d u
+prepared d f o s lo hs u hu =
+    let formed : draft_formed d ≡ true = sym f in
     let sheet : s ≡ draft_sheet d = hs ∙ sheet-into d o (formed-means d formed).sized lo in
     record { formed = formed; size = length-draftSheet d formed; base = hu ∙ ap base_of sheet }
 

@@ -6,7 +6,7 @@ use Rattle.orders.proofs.quick.ready.Goals.{After-facts_of_payment}
 
 -- what is known of the draft once its facts were asked
 begun : (c : After-facts_of_payment) → Prepared c.args.draft.now c.fill_zeros.new.sheet
-begun c = prepared _ _ c.well_formed-2.ensures c.if-not-well_formed.false-raw _ _ c.told-work c.put_sheet.ensures _ c.fill_zeros.ensures
+begun c = prepared _ c.if-not-well_formed.ensures _ _ c.told-work c.put_sheet.ensures _ c.fill_zeros.ensures
 
 pub returns-then-not-well_formed : goal.returns-then-not-well_formed
 returns-then-not-well_formed c = ready-1 _ _ _ c.if-not-well_formed.ensures
