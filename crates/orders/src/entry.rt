@@ -11,6 +11,7 @@ use sheets::dates::{Dates, are_fit};
 use sheets::entries::{basis_row, status_row, zero_row};
 use sheets::sheet::{Field, SLOT_COUNT, slot_of};
 use texts::answers::Refusal;
+use texts::parts::wide;
 
 // The entry's length and its bytes; the second is 0 where there is none.
 #[derive(Clone, Copy)]
@@ -29,16 +30,33 @@ pub(crate) enum Entries {
     Statuses,
 }
 
-// Which list the field of a slot has, if any.
+// By slot, which list its field has, if any.
+const LISTS: [Option<Entries>; 15] = [
+    None,
+    None,
+    None,
+    Some(Entries::Zero),
+    Some(Entries::Zero),
+    None,
+    Some(Entries::Statuses),
+    Some(Entries::Zero),
+    None,
+    Some(Entries::Zero),
+    Some(Entries::Zero),
+    Some(Entries::Bases),
+    Some(Entries::Zero),
+    Some(Entries::Zeros),
+    Some(Entries::Zeros),
+];
+
 pub(crate) fn list_in(slot: u8) -> Option<Entries>
     ensures { (D : Dates) → texts_by D result ≡ list_of D slot }
 {
-    match slot {
-        3 | 4 | 7 | 9 | 10 | 12 => Some(Entries::Zero),
-        13 | 14 => Some(Entries::Zeros),
-        11 => Some(Entries::Bases),
-        6 => Some(Entries::Statuses),
-        _ => None,
+    let slot = wide(slot);
+    if slot < LISTS.len() {
+        LISTS[slot]
+    } else {
+        None
     }
 }
 

@@ -97,9 +97,11 @@ pub fn take_up(draft: &mut [u8], sheet: &[u8], set: u16) -> Result<(), Untaken>
     if !sheets::sheet::well_formed(sheet) {
         return Err(Untaken::Refused(Refusal(1)));
     }
-    if let Some(slot) = first_unfit(draft, sheet, set) {
-        return Err(Untaken::Unfit(field_in(slot)));
+    match first_unfit(draft, sheet, set) {
+        Some(slot) => Err(Untaken::Unfit(field_in(slot))),
+        None => {
+            take_all(draft, sheet, set);
+            Ok(())
+        }
     }
-    take_all(draft, sheet, set);
-    Ok(())
 }

@@ -5,10 +5,10 @@ use Rattle.sheets.specs.declared.dates.Dates.{Dates}
 use Rattle.drafts.specs.Draft.{slot_in, slot_revision, draft_formed}
 use Rattle.orders.specs.TakeUp.{in_set, greatest, spared}
 
--- r is the first place of the set that is not spared, or each is
-abbrev pub FirstUnfit : Dates → List ℕ → List ℕ → ℕ → Option ℕ → Type 0
-FirstUnfit D d t set None = (i : ℕ) → i < slot_count + 1 → spared D d t set i ≡ true
-FirstUnfit D d t set (Some r) = (r < slot_count + 1) × ((i : ℕ) → i < r → spared D d t set i ≡ true) × (spared D d t set r ≡ false)
+-- the first place of the set that is not spared; none where each is
+pub record FirstUnfit (D : Dates) (d t : List ℕ) (set : ℕ) (r : Option ℕ) : Type 0 where
+  pub none : r ≡ None → (i : ℕ) → i < slot_count + 1 → spared D d t set i ≡ true
+  pub some : (u : ℕ) → r ≡ Some u → (u < slot_count + 1) × ((i : ℕ) → i < u → spared D d t set i ≡ true) × (spared D d t set u ≡ false)
 
 -- each slot of the set has a revision after its own, and a text that a message takes
 pub record Postable (d t : List ℕ) (set : ℕ) : Type 0 where
