@@ -6,4 +6,5 @@ pub mod Quick
 pub mod Found
 pub mod Entering
 pub mod Upto
+pub mod Messages
 pub mod Winners
