@@ -48,10 +48,7 @@ use Rattle.orders.specs.Again.{CompletesAgain}
 use Rattle.orders.specs.TakeUp.{in_set, greatest, fit, spared, first_unfit, take_tests, next, proposal, proposals, taking, taken_into, take_answer, TakesUp}
 use Rattle.orders.specs.declared.take_up.Untaken.{Untaken}
 use Rattle.orders.specs.declared.take_up.Untaken.TheVariants.{Unfit, Refused}
-use Rattle.orders.specs.declared.entry.Entries.{Entries}
-use Rattle.orders.specs.declared.entry.Entries.TheVariants.{Zero, Zeros, Bases, Statuses}
-use Rattle.orders.specs.Working.Listing.{texts_by}
-use Rattle.std.specs.Prelude.{Option, Some, None, Result, Ok, Err, is_some}
+use Rattle.std.specs.Prelude.{Option, Some, None, Result, Ok, Err}
 use Rattle.orders.specs.Working.Upto.{FirstUnfit, Postable}
 use Rattle.orders.proofs.Lists.{at_map, proper, some-status}
 use Rattle.orders.proofs.Whole.{length-draftSheet}
@@ -62,15 +59,6 @@ use Rattle.orders.proofs.TakingUp.{proposed-cell}
 some_one : (b : Bool) → eqb (cond {A = ℕ} b 1 0) 1 ≡ b
 some_one true = refl
 some_one false = refl
-
--- ---- has_list: a list that a slot has is not empty
-
-pub some-listed : (D : Dates) (k : ℕ) (l : Option Entries) → ((E : Dates) → texts_by E l ≡ list_of E k) → is_some l ≡ ltb 0 (length (list_of D k))
-some-listed D k None h = ap (λ (ts : List Text). ltb 0 (length ts)) (h D)
-some-listed D k (Some Zero) h = ap (λ (ts : List Text). ltb 0 (length ts)) (h D)
-some-listed D k (Some Zeros) h = ap (λ (ts : List Text). ltb 0 (length ts)) (h D)
-some-listed D k (Some Bases) h = ap (λ (ts : List Text). ltb 0 (length ts)) (h D)
-some-listed D k (Some Statuses) h = sym (some-status D) ∙ ap (λ (ts : List Text). ltb 0 (length ts)) (h D)
 
 -- ---- first_unfit
 

@@ -1,5 +1,5 @@
 use mathlib.Core.Path.{◌∙◌}
-use Rattle.orders.proofs.TakeUp.{some-listed}
+use Rattle.orders.proofs.Lists.{some-listed}
 use Rattle.orders.proofs.take_up.has_list.Goals as goal
 
 pub returns : goal.returns
