@@ -1,10 +1,10 @@
 -- What `quick` and `pretest` begin with, and what `quick` completes to.
 use mathlib.Core.Path.{◌≡◌, refl, sym, ap, ◌∙◌, subst}
-use mathlib.Core.Bool.{Bool, true, false, not, cond}
+use mathlib.Core.Bool.{Bool, true, false, cond}
 use mathlib.Core.List.{List, [], ◌∷◌}
 use Prim.Native.Nat.{ℕ}
 use native.Mathlib.Omega.{arith}
-use borrow.Author.Tests.{ne_eqb, not-false}
+use borrow.Author.Tests.{ne_eqb}
 use lib.Count.{ones}
 use lib.ListN.{length}
 use Rattle.texts.specs.Texts.{every}
@@ -27,7 +27,7 @@ use Rattle.sheets.specs.declared.dates.Dates.{Dates}
 use Rattle.fillings.specs.Fillings.{Look, found, none}
 use Rattle.fillings.specs.Working.Parts.{map_look}
 use Rattle.orders.specs.Fillings.{first_filling, set_of}
-use Rattle.orders.specs.Working.Search.{Payment, first_pick}
+use Rattle.orders.specs.Working.Search.{first_pick}
 use Rattle.orders.specs.Working.Found.{pick_of}
 use Rattle.orders.specs.Working.Entering.{base_of, picked_of}
 use Rattle.orders.specs.Complete.{budget_payment, complete_answer, counted, sheet_in, sheet_tests, complete_tests, completing, completed}

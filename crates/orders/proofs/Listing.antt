@@ -12,7 +12,6 @@ use Rattle.texts.specs.Texts.{every, any, same}
 use Rattle.texts.proofs.Bools.{both}
 use Rattle.texts.specs.Answers.{success}
 use Rattle.sheets.specs.Sheet.{slot_count, slot_of, text_max}
-use Rattle.sheets.specs.Lists.{basis_texts, zero_texts}
 use Rattle.sheets.specs.Dates.{dates_fit, texts_in, status_texts, force_of}
 use Rattle.sheets.specs.Working.Entries.{row_of}
 use Rattle.sheets.specs.declared.dates.Dates.{Dates}

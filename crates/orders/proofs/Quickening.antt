@@ -1,6 +1,6 @@
 -- R-14: the ways through `quick`.
 use mathlib.Core.Path.{◌≡◌, refl, sym, ap, ◌∙◌, subst}
-use mathlib.Core.Bool.{Bool, true, false, not}
+use mathlib.Core.Bool.{Bool, true, false}
 use mathlib.Core.List.{List, [], ◌∷◌}
 use Prim.Native.Nat.{ℕ, ◌+◌}
 use native.Mathlib.Omega.{arith}
@@ -14,8 +14,6 @@ use Rattle.sheets.specs.Dates.{dates_fit, status_count}
 use Rattle.sheets.specs.declared.dates.Dates.{Dates}
 use Rattle.sheets.specs.declared.facts.Facts.{Facts}
 use Rattle.sheets.specs.declared.sheet.Field.{Field}
-use Rattle.sheets.specs.Working.Facts.{Read}
-use Rattle.rules.specs.Rules.{budget}
 use Rattle.rules.specs.declared.rules.RuleNumber.{RuleNumber}
 use Rattle.drafts.specs.Draft.{draft_formed, draft_sheet}
 use Rattle.fillings.specs.Fillings.{width, Look, found, none}

@@ -10,20 +10,19 @@ use borrow.Author.Rules.{rules}
 use borrow.Author.Tests.{eq-eqb, ne_eqb, eqb-true}
 use lib.Dec.{eqb}
 use lib.ListN.{length, get_or, take, drop, length-take, length-drop}
-use lib.Seq.{take_all, drop-drop}
+use lib.Seq.{take_all}
 use Rattle.texts.specs.Numbers.{big}
 use Rattle.texts.specs.Texts.{between}
 use Rattle.sheets.specs.declared.sheet.Field.{Field}
 use Rattle.texts.specs.Answers.{refusal, number_of, Test, test, answer_by}
 use Rattle.texts.proofs.Bools.{cases}
 use Rattle.drafts.specs.Message.{length_of, read_tests, reading_of}
-use Rattle.drafts.specs.Promises.{Reads, Postings, Posts}
+use Rattle.drafts.specs.Promises.{Reads, Postings}
 use Rattle.drafts.specs.declared.revision.Revision.{Revision}
 use Rattle.drafts.specs.declared.message.Version.{Version}
 use Rattle.texts.specs.declared.answers.Refusal.{Refusal}
 use Rattle.drafts.specs.declared.message.Reading.{Reading}
 use Rattle.drafts.specs.declared.message.Reading.TheVariants.{Message, Refused}
-use Rattle.drafts.specs.declared.draft.Posted.{Posted}
 use Rattle.sheets.specs.declared.dates.Dates.{Dates}
 use Rattle.orders.specs.Complete.{completing, completed, complete_answer}
 use Rattle.orders.specs.Whole.{Whole, Completes}

@@ -1,20 +1,18 @@
 -- The message that wins each slot, one message at a time, and the ways through the functions that number the winners.
 use mathlib.Core.Path.{◌≡◌, refl, sym, ap, ◌∙◌}
 use mathlib.Core.Logic.{⊎_elim}
-use mathlib.Core.Bool.{Bool, true, false, true≢false}
+use mathlib.Core.Bool.{true, false, true≢false}
 use mathlib.Core.List.Memᴰ
 use mathlib.Core.List.{List, [], ◌∷◌, ◌++◌, map, Memᴰ}
 use Prim.Native.Nat.{ℕ, suc, ◌+◌, ◌≤◌, ◌<◌, max}
 use native.Mathlib.Decide.{dec_lt, ℕ_discrete}
 use native.Mathlib.Numerals.{add-one}
 use native.Mathlib.Omega.{arith}
-use borrow.Author.Rules.{rules}
 use borrow.Author.Tests.{eq-eqb, ne_eqb}
 use mir.Syntax.{w8}
 use mir.Val.{Fits}
 use lib.ListN.{length, get_or, set, length-set, length-append}
 use lib.Seq.{ext_get_or, get_or-set_same, get_or-set_other}
-use Rattle.texts.specs.Texts.{between}
 use Rattle.texts.proofs.Bools.{cases}
 use Rattle.texts.specs.declared.answers.Refusal.{Refusal}
 use Rattle.sheets.specs.Sheet.{slots, slot_count, slot_of}
@@ -33,7 +31,7 @@ use Rattle.drafts.proofs.Ranks.{rank-above, rank_below, rank-not-below}
 use Rattle.drafts.proofs.EndSlots.{named, ranked, unranked, all-slot, top, top-at, bound}
 use Rattle.texts.proofs.Refusals.{no-success}
 use Rattle.fillings.proofs.EveryFilling.{at_slots}
-use Rattle.orders.specs.Stream.{piece_of, ends_stream, messages_of}
+use Rattle.orders.specs.Stream.{messages_of}
 use Rattle.orders.specs.Origins.{number_in, origin_of, Origin, none, given, Origins}
 use Rattle.orders.specs.Working.Winners.{nobody, Won}
 use Rattle.orders.specs.declared.origins.Winner.{Winner}

@@ -1,6 +1,5 @@
 -- Whether a sheet is a budget payment, as the code asks it. A reader of the promise needs none of this.
 use Rattle.std.specs.Prelude.{◌≡◌, true, false, List, ℕ, length, Result, Ok, Err}
-use Rattle.texts.specs.declared.answers.Refusal.{Refusal}
 use Rattle.sheets.specs.Sheet.{Sheet, sheet_size}
 use Rattle.sheets.specs.Dates.{dates_fit}
 use Rattle.sheets.specs.Working.Facts.{Read}
