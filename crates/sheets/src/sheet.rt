@@ -5,7 +5,7 @@ ghost use Rattle.sheets.specs.Sheet.{slot_count, slot_of, field_in, cell_size, c
 ghost use Rattle.sheets.specs.Working.Cells.{cells_at};
 
 use texts::comparisons::all_are;
-use texts::parts::{at, part, wide};
+use texts::parts::{at, part};
 
 // "A text has 0 to 25 bytes".
 pub const TEXT_MAX: usize = 25;
@@ -59,20 +59,20 @@ pub fn slot_of(field: Field) -> u8
 pub fn field_in(slot: u8) -> Field
     ensures { result.0 ≡ field_in slot }
 {
-    Field(at(&FIELDS, wide(slot)))
+    Field(at(&FIELDS, usize::from(slot)))
 }
 
 fn cell(sheet: &[u8], slot: u8) -> &[u8]
     ensures { result.now ≡ cell_of sheet.now slot }
 {
-    let a = wide(slot) * CELL_SIZE;
+    let a = usize::from(slot) * CELL_SIZE;
     part(sheet, a, a + CELL_SIZE)
 }
 
 pub fn cell_text(c: &[u8]) -> &[u8]
     ensures { result.now ≡ cell_text c.now }
 {
-    let n = wide(at(c, 0));
+    let n = usize::from(at(c, 0));
     if n < c.len() {
         return &c[1..1 + n];
     }
@@ -93,10 +93,8 @@ fn all_zero(t: &[u8], w: usize) -> bool
         return all_are(t, 0);
     }
     let mut good = true;
-    let mut i = 0;
-    while i < w {
-        good = good & (t[i] == 0);
-        i += 1;
+    for b in t {
+        good = good & (*b == 0);
     }
     good
 }
@@ -124,7 +122,7 @@ fn is_padded(c: &[u8], n: usize) -> bool
 fn cell_ok(c: &[u8]) -> bool
     ensures { result ≡ cell_ok c.now }
 {
-    let n = wide(at(c, 0));
+    let n = usize::from(at(c, 0));
     (n <= TEXT_MAX) & is_padded(c, 1 + n)
 }
 
@@ -133,19 +131,10 @@ fn cell_ok(c: &[u8]) -> bool
 pub fn cells_ok(t: &[u8], first: u8, step: u8) -> bool
     ensures { result ≡ cells_at step slot_count t.now first }
 {
-    let mut good: u8 = 0;
-    let mut place = wide(first);
-    let mut slot: u8 = 0;
-    while slot < SLOT_COUNT {
-        if place + CELL_SIZE <= t.len() {
-            if cell_ok(&t[place..place + CELL_SIZE]) {
-                good += 1;
-            }
-        }
-        place += wide(step);
-        slot += 1;
-    }
-    good == SLOT_COUNT
+    (0..FIELD_COUNT).all(|slot| {
+        let place = usize::from(first) + slot * usize::from(step);
+        t.get(place..place + CELL_SIZE).is_some_and(cell_ok)
+    })
 }
 
 // "Malformed: another size, a length above 25, a nonzero pad byte".
