@@ -35,6 +35,12 @@ in_list g d [] k h = absurd (omega arith)
 in_list g d (t ∷ ts) zero h = refl
 in_list g d (t ∷ ts) (suc k) h = in_list g d ts k (omega arith)
 
+-- and the same at any place, where past the end stands what is made of the blank
+pub mapped : {A : Type 0} (g : Text → A) (ts : List Text) (k : ℕ) → get_or (map g ts) k (g []) ≡ g (get_or ts k [])
+mapped g [] k = refl
+mapped g (t ∷ ts) zero = refl
+mapped g (t ∷ ts) (suc k) = mapped g ts k
+
 past-list : (ts : List Text) (k : ℕ) → length ts ≤ k → [] ≡ get_or ts k []
 past-list ts k h = sym (get_or-eq_default ts [] h)
 

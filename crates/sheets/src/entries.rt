@@ -6,7 +6,7 @@ ghost use Rattle.sheets.specs.Working.Facts.{standing_of, basis_of, document_of,
 ghost use Rattle.sheets.specs.Lists.{basis_texts, zero_texts};
 ghost use Rattle.sheets.specs.Dates.{texts_in, status_texts, status_count};
 ghost use Rattle.sheets.specs.declared.dates.Dates.{Dates};
-ghost use Rattle.sheets.specs.Working.Entries.{row_of, filled_at, count_in, with_status, with_basis, with_document, with_day};
+ghost use Rattle.sheets.specs.Working.Entries.{row_of, filled_at, count_in, with_status, with_basis, with_document, with_day, TellsBlank, FillsSlot};
 
 use crate::dates::{Dates, Force, force_of};
 use crate::facts::{Basis, Day, Document, Facts, STATUSES, Standing, standing_by, standing_of};
@@ -52,10 +52,7 @@ pub fn status_row(dates: Dates, k: usize) -> [u8; 3]
 pub fn zero_row(k: usize) -> [u8; 3]
     ensures { result ≡ row_of (get_or zero_texts k []) }
 {
-    if ZERO_COUNT <= k {
-        return [0, 0, 0];
-    }
-    ZEROS[k]
+    ZEROS.get(k).copied().unwrap_or([0, 0, 0])
 }
 
 pub fn basis_row(k: usize) -> [u8; 3]
@@ -64,11 +61,10 @@ pub fn basis_row(k: usize) -> [u8; 3]
     if k < ZERO_COUNT {
         return zero_row(k);
     }
-    if BASIS_COUNT <= k {
-        return [0, 0, 0];
+    match LETTER_PAIRS.get(k - ZERO_COUNT) {
+        Some(pair) => [2, pair[0], pair[1]],
+        None => [0, 0, 0],
     }
-    let pair = LETTER_PAIRS[k - ZERO_COUNT];
-    [2, pair[0], pair[1]]
 }
 
 // The facts of an entry, which the search asks for again and again: by the status's number; "0", "00" and, for 106, the letter pairs by
@@ -128,25 +124,25 @@ pub fn status_count(f: Facts) -> usize
 }
 
 pub fn blank_status(f: Facts) -> bool
-    ensures { ((D : Dates) (s : Sheet) → Read D f s → result ≡ blank (text_of s 6)) × (result ≡ f.status.blank) }
+    ensures { TellsBlank f 6 result × (result ≡ f.status.blank) }
 {
     f.status.blank
 }
 
 pub fn blank_basis(f: Facts) -> bool
-    ensures { ((D : Dates) (s : Sheet) → Read D f s → result ≡ blank (text_of s 11)) × (result ≡ f.basis.blank) }
+    ensures { TellsBlank f 11 result × (result ≡ f.basis.blank) }
 {
     f.basis.blank
 }
 
 pub fn blank_document(f: Facts) -> bool
-    ensures { ((D : Dates) (s : Sheet) → Read D f s → result ≡ blank (text_of s 13)) × (result ≡ f.document.blank) }
+    ensures { TellsBlank f 13 result × (result ≡ f.document.blank) }
 {
     f.document.blank
 }
 
 pub fn blank_day(f: Facts) -> bool
-    ensures { ((D : Dates) (s : Sheet) → Read D f s → result ≡ blank (text_of s 14)) × (result ≡ f.day.blank) }
+    ensures { TellsBlank f 14 result × (result ≡ f.day.blank) }
 {
     f.day.blank
 }
@@ -155,31 +151,43 @@ pub fn fill_status(f: Facts, k: usize) -> Facts
     ensures { ((D : Dates) (s : Sheet) → Read D f s → Read D result (filled_at s 6 (cell (get_or (status_texts D) k [])))) × (result ≡ with_status f f k) }
 {
     Facts {
-        status: if f.status.blank { status_entry(f.force, k) } else { f.status },
+        status: if f.status.blank {
+            status_entry(f.force, k)
+        } else {
+            f.status
+        },
         ..f
     }
 }
 
 pub fn fill_basis(g: Facts, f: Facts, k: usize) -> Facts
-    ensures { ((D : Dates) (s t : Sheet) → Read D f s → Read D g t → text_of t 11 ≡ text_of s 11 → Read D result (filled_at t 11 (cell (get_or basis_texts k [])))) × (result ≡ with_basis g f k) }
+    ensures { FillsSlot g f 11 basis_texts k result × (result ≡ with_basis g f k) }
 {
     Facts {
-        basis: if f.basis.blank { basis_entry(k) } else { f.basis },
+        basis: if f.basis.blank {
+            basis_entry(k)
+        } else {
+            f.basis
+        },
         ..g
     }
 }
 
 pub fn fill_document(g: Facts, f: Facts, k: usize) -> Facts
-    ensures { ((D : Dates) (s t : Sheet) → Read D f s → Read D g t → text_of t 13 ≡ text_of s 13 → Read D result (filled_at t 13 (cell (get_or zero_texts k [])))) × (result ≡ with_document g f k) }
+    ensures { FillsSlot g f 13 zero_texts k result × (result ≡ with_document g f k) }
 {
     Facts {
-        document: if f.document.blank { document_entry(k) } else { f.document },
+        document: if f.document.blank {
+            document_entry(k)
+        } else {
+            f.document
+        },
         ..g
     }
 }
 
 pub fn fill_day(g: Facts, f: Facts, k: usize) -> Facts
-    ensures { ((D : Dates) (s t : Sheet) → Read D f s → Read D g t → text_of t 14 ≡ text_of s 14 → Read D result (filled_at t 14 (cell (get_or zero_texts k [])))) × (result ≡ with_day g f k) }
+    ensures { FillsSlot g f 14 zero_texts k result × (result ≡ with_day g f k) }
 {
     Facts {
         day: if f.day.blank { day_entry(k) } else { f.day },

@@ -10,12 +10,12 @@ ghost use Rattle.sheets.specs.declared.dates.Dates.{Dates};
 use crate::dates::{Dates, Force, force_of};
 use crate::entries::document_entry;
 use crate::forms::{
-    Status, Wanted, is_date, is_document, is_inn10, is_inn12, is_kpp, is_letter_pair, is_pension,
-    is_person, is_uin, wanted_by,
+    Status, Wanted, is_date, is_digits, is_digits_not_zero, is_document, is_inn10, is_inn12,
+    is_kpp, is_letter_pair, is_pension, is_person, is_uin, wanted_by,
 };
 use crate::sheet::{SHEET_SIZE, text};
 use texts::comparisons::{begins_with, equals, is_among};
-use texts::digits::{has_digits, has_digits_not_zero, number};
+use texts::digits::number;
 use texts::parts::part;
 
 // 14, 15 and 17 have their forms (rules 1 to 3).
@@ -153,7 +153,17 @@ pub struct Facts {
 }
 
 // What 17 begins with in class A is 03100, or one of the 64 numbers from 03212 on that are in this set, bit n for 03212 + n.
-const ACCOUNTS_A: u64 = 1154048509399274501;
+const ACCOUNTS_A: u64 = 1 << 0
+    | 1 << 2
+    | 1 << 10
+    | 1 << 12
+    | 1 << 20
+    | 1 << 22
+    | 1 << 30
+    | 1 << 32
+    | 1 << 40
+    | 1 << 50
+    | 1 << 60;
 
 const ACCOUNTS_B: [usize; 3] = [40503, 40603, 40703];
 
@@ -165,23 +175,55 @@ pub(crate) const STATUSES: [u8; 23] = [
 ];
 
 // Sets of statuses, bit n for status n: all, and the groups that rules name.
-const ALL_SET: u64 = 17072628222;
+const ALL_SET: u64 = 1 << 1
+    | 1 << 2
+    | 1 << 3
+    | 1 << 4
+    | 1 << 5
+    | 1 << 6
+    | 1 << 7
+    | 1 << 8
+    | 1 << 13
+    | 1 << 15
+    | 1 << 16
+    | 1 << 17
+    | 1 << 19
+    | 1 << 20
+    | 1 << 23
+    | 1 << 24
+    | 1 << 27
+    | 1 << 28
+    | 1 << 29
+    | 1 << 30
+    | 1 << 31
+    | 1 << 32
+    | 1 << 33;
 
-const CUSTOMS: u64 = 5637341376;
+const CUSTOMS: u64 = 1 << 6 | 1 << 7 | 1 << 16 | 1 << 17 | 1 << 28 | 1 << 30 | 1 << 32;
 
-const TREASURY: u64 = 5637349590;
+const TREASURY: u64 = 1 << 1
+    | 1 << 2
+    | 1 << 4
+    | 1 << 6
+    | 1 << 7
+    | 1 << 13
+    | 1 << 16
+    | 1 << 17
+    | 1 << 28
+    | 1 << 30
+    | 1 << 32;
 
-const COURTS: u64 = 10737418240;
+const COURTS: u64 = 1 << 31 | 1 << 33;
 
-const PERSONAL: u64 = 18350088;
+const PERSONAL: u64 = 1 << 3 | 1 << 19 | 1 << 20 | 1 << 24;
 
 fn general_of<'a>(bik: &'a [u8], bank: &'a [u8], account: &'a [u8]) -> General
     ensures { result ≡ general_of bik.now bank.now account.now }
 {
     General {
-        bik: has_digits(bik, 9),
-        bank: (bank.len() == 0) | has_digits(bank, 20),
-        account: has_digits(account, 20),
+        bik: is_digits::<9>(bik),
+        bank: (bank.len() == 0) | is_digits::<20>(bank),
+        account: is_digits::<20>(account),
     }
 }
 
@@ -233,7 +275,7 @@ fn code_of(t: &[u8]) -> Code
     Code {
         zero: equals(t, b"0"),
         uin: is_uin(t),
-        four: has_digits_not_zero(t, 4),
+        four: is_digits_not_zero::<4>(t),
     }
 }
 
@@ -242,7 +284,7 @@ fn has_ten(t: &[u8], inn: bool) -> bool
     requires { inn ≡ inn10 t.now }
     ensures { result ≡ digits10 t.now }
 {
-    inn || has_digits(t, 10)
+    inn || is_digits::<10>(t)
 }
 
 fn payer_of(t: &[u8]) -> Payer
@@ -251,12 +293,12 @@ fn payer_of(t: &[u8]) -> Payer
     let inn10 = is_inn10(t);
     Payer {
         zero: equals(t, b"0"),
-        foreign: has_digits_not_zero(t, 5),
+        foreign: is_digits_not_zero::<5>(t),
         inn10,
         inn12: is_inn12(t),
-        five: has_digits(t, 5),
+        five: is_digits::<5>(t),
         ten: has_ten(t, inn10),
-        twelve: has_digits(t, 12),
+        twelve: is_digits::<12>(t),
     }
 }
 
@@ -367,16 +409,13 @@ pub fn is_given(sheet: &[u8], slot: u8) -> bool
     !(text(sheet, slot).len() == 0)
 }
 
+// The slots of 22, 60, 61, 102 to 105 and 107.
+const FIXED: [u8; 8] = [3, 4, 5, 7, 8, 9, 10, 12];
+
 fn all_given(sheet: &[u8]) -> bool
     ensures { result ≡ every (λ (k : ℕ). not (blank (text_of sheet.now k))) fixed }
 {
-    is_given(sheet, 3)
-        & (is_given(sheet, 4)
-            & (is_given(sheet, 5)
-                & (is_given(sheet, 7)
-                    & (is_given(sheet, 8)
-                        & (is_given(sheet, 9)
-                            & (is_given(sheet, 10) & (is_given(sheet, 12) & true)))))))
+    FIXED.iter().all(|slot| is_given(sheet, *slot))
 }
 
 fn banking_of(sheet: &[u8]) -> Banking
@@ -417,9 +456,9 @@ fn classifiers_of(sheet: &[u8]) -> Classifiers
     let oktmo = text(sheet, 10);
     let office = text(sheet, 12);
     Classifiers {
-        kbk: form_of(kbk, has_digits_not_zero(kbk, 20)),
-        oktmo: form_of(oktmo, has_digits_not_zero(oktmo, 8)),
-        office: form_of(office, has_digits(office, 8)),
+        kbk: form_of(kbk, is_digits_not_zero::<20>(kbk)),
+        oktmo: form_of(oktmo, is_digits_not_zero::<8>(oktmo)),
+        office: form_of(office, is_digits::<8>(office)),
     }
 }
 

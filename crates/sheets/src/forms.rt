@@ -1,6 +1,6 @@
 // The forms of texts that several rules ask for.
 ghost use Rattle.std.specs.Prelude.{◌≡◌};
-ghost use Rattle.texts.specs.Texts.{every, same, between};
+ghost use Rattle.texts.specs.Texts.{every, between, digits, digits_not_zero};
 ghost use Rattle.sheets.specs.Forms.{uin, check_digit, inn10, inn12, digit_or_capital, kpp, letter_pair, person, allowed, document, snils_check, snils, pension, leap, month_days, gregorian, date};
 ghost use Rattle.sheets.specs.Working.Facts.{wanted_by};
 
@@ -44,10 +44,24 @@ const PERSON_TYPES: [usize; 21] = [
     1, 2, 3, 4, 5, 6, 7, 8, 9, 10, 11, 12, 13, 14, 22, 24, 25, 26, 28, 29, 30,
 ];
 
+// So many digits, as a BIK, an account or an office has: each number gets code of its own, made for it.
+pub(crate) fn is_digits<const N: usize>(t: &[u8]) -> bool
+    ensures { result ≡ digits N t.now }
+{
+    has_digits(t, N)
+}
+
+// The same not all zero, as a KBK or an OKTMO code has.
+pub(crate) fn is_digits_not_zero<const N: usize>(t: &[u8]) -> bool
+    ensures { result ≡ digits_not_zero N t.now }
+{
+    has_digits_not_zero(t, N)
+}
+
 pub(crate) fn is_uin(t: &[u8]) -> bool
     ensures { result ≡ uin t.now }
 {
-    has_digits_not_zero(t, 20) | has_digits_not_zero(t, 25)
+    is_digits_not_zero::<20>(t) | is_digits_not_zero::<25>(t)
 }
 
 const WEIGHTS_10: [u8; 9] = [2, 4, 10, 3, 5, 9, 4, 6, 8];
@@ -73,14 +87,13 @@ pub fn is_inn10(t: &[u8]) -> bool
 pub fn is_inn12(t: &[u8]) -> bool
     ensures { result ≡ inn12 t.now }
 {
-    has_digits_not_00(t, 12)
-        && (has_check_digit(t, &WEIGHTS_11) & has_check_digit(t, &WEIGHTS_12))
+    has_digits_not_00(t, 12) && (has_check_digit(t, &WEIGHTS_11) & has_check_digit(t, &WEIGHTS_12))
 }
 
 fn is_digit_or_capital(b: u8) -> bool
     ensures { result ≡ digit_or_capital b }
 {
-    ((48 <= b) & (b <= 57)) | ((65 <= b) & (b <= 90))
+    b.is_ascii_digit() | b.is_ascii_uppercase()
 }
 
 // Most have no letter, and are told by their nine digits.
@@ -172,12 +185,7 @@ fn month_days(m: usize, y: usize) -> usize
 {
     match m {
         4 | 6 | 9 | 11 => 30,
-        2 => {
-            if is_leap(y) {
-                return 29;
-            }
-            28
-        }
+        2 => if is_leap(y) { 29 } else { 28 },
         _ => 31,
     }
 }

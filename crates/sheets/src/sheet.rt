@@ -1,5 +1,5 @@
 // Fields, and a sheet's texts and form.
-ghost use Rattle.std.specs.Prelude.{◌≡◌, ◌+◌};
+ghost use Rattle.std.specs.Prelude.{◌≡◌, ◌+◌, ◌*◌, ◌≤◌};
 ghost use Rattle.texts.specs.Texts.{every, are, between};
 ghost use Rattle.sheets.specs.Sheet.{slot_count, slot_of, field_in, cell_size, cell_text, cell_ok, cell_of, text_of, well_formed};
 ghost use Rattle.sheets.specs.Working.Cells.{cells_at};
@@ -85,11 +85,11 @@ pub fn text(sheet: &[u8], slot: u8) -> &[u8]
     cell_text(cell(sheet, slot))
 }
 
-// All bytes of t are zero. Where t has w bytes, as it mostly has, the loop runs a number of times that the call fixes.
-fn all_zero(t: &[u8], w: usize) -> bool
+// All bytes of t are zero. Where t has W bytes, as it mostly has, the loop runs a number of times that the call fixes.
+fn all_zero<const W: usize>(t: &[u8]) -> bool
     ensures { result ≡ every (are 0) t.now }
 {
-    if t.len() != w {
+    if t.len() != W {
         return all_are(t, 0);
     }
     let mut good = true;
@@ -99,7 +99,15 @@ fn all_zero(t: &[u8], w: usize) -> bool
     good
 }
 
-// The bytes of a cell from n on are zero, by two windows that overlap. The test of the size fixes their widths.
+// The bytes of a cell from n on are zero, by two windows of W bytes that meet or overlap.
+fn is_zero_from<const W: usize>(c: &[u8], n: usize) -> bool
+    requires { (n + W ≤ cell_size) × (cell_size ≤ n + 2 * W) }
+    ensures { result ≡ every (are 0) (between c.now n cell_size) }
+{
+    all_zero::<W>(part(c, n, n + W)) & all_zero::<W>(part(c, CELL_SIZE - W, CELL_SIZE))
+}
+
+// The bytes of a cell from n on are zero. The test of the size fixes the widths of the windows.
 fn is_padded(c: &[u8], n: usize) -> bool
     ensures { result ≡ every (are 0) (between c.now n cell_size) }
 {
@@ -107,13 +115,13 @@ fn is_padded(c: &[u8], n: usize) -> bool
         return all_are(part(c, n, CELL_SIZE), 0);
     }
     if n <= 10 {
-        return all_zero(part(c, n, n + 16), 16) & all_zero(part(c, 10, CELL_SIZE), 16);
+        return is_zero_from::<16>(c, n);
     }
     if n <= 18 {
-        return all_zero(part(c, n, n + 8), 8) & all_zero(part(c, 18, CELL_SIZE), 8);
+        return is_zero_from::<8>(c, n);
     }
     if n <= 22 {
-        return all_zero(part(c, n, n + 4), 4) & all_zero(part(c, 22, CELL_SIZE), 4);
+        return is_zero_from::<4>(c, n);
     }
     all_are(part(c, n, CELL_SIZE), 0)
 }
