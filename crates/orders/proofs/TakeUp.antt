@@ -14,6 +14,7 @@ use mir.Syntax.{w32}
 use mir.Val.{Fits}
 use lib.Dec.{eqb, ltb, leb}
 use lib.ListN.{length, get_or, drop, replicate, length-replicate, length-take}
+use Rattle.texts.specs.declared.answers.Refusal.TheVariants.{Malformed, WrongSize}
 use Rattle.texts.specs.Texts.{every, between, blank}
 use Rattle.texts.specs.Answers.{success, refusal, passes}
 use Rattle.texts.proofs.Bools.{both, and2}
@@ -280,19 +281,19 @@ module _ {D : Dates} {d t : List ℕ} {set : ℕ} where
       }
 
   module _ where
-    pub take-malformed : false ≡ draft_formed d → TakesUp D d t set (Err (Refused (record { 0 = 1 }))) d
+    pub take-malformed : false ≡ draft_formed d → TakesUp D d t set (Err (Refused Malformed)) d
     unfolding take_answer taking take_tests
-    take-malformed e = take-refuses (Err (Refused (record { 0 = 1 }))) 1 [] refl (rw (← e))
+    take-malformed e = take-refuses (Err (Refused Malformed)) 1 [] refl (rw (← e))
 
     module _ (f : true ≡ draft_formed d) where
-      pub take-sized : (length t ≡ sheet_size → ⊥) → TakesUp D d t set (Err (Refused (record { 0 = 7 }))) d
+      pub take-sized : (length t ≡ sheet_size → ⊥) → TakesUp D d t set (Err (Refused WrongSize)) d
       unfolding take_answer taking take_tests
-      take-sized z = take-refuses (Err (Refused (record { 0 = 7 }))) 7 [] refl (rw (← f, ne_eqb (length t) sheet_size z))
+      take-sized z = take-refuses (Err (Refused WrongSize)) 7 [] refl (rw (← f, ne_eqb (length t) sheet_size z))
 
       module _ (z : length t ≡ sheet_size) where
-        pub take-sheet : false ≡ well_formed t → TakesUp D d t set (Err (Refused (record { 0 = 1 }))) d
+        pub take-sheet : false ≡ well_formed t → TakesUp D d t set (Err (Refused Malformed)) d
         unfolding take_answer taking take_tests
-        take-sheet e = take-refuses (Err (Refused (record { 0 = 1 }))) 1 [] refl (rw (← f, ← e, eq-eqb (length t) sheet_size z))
+        take-sheet e = take-refuses (Err (Refused Malformed)) 1 [] refl (rw (← f, ← e, eq-eqb (length t) sheet_size z))
 
         module _ (g : true ≡ well_formed t) (r : Option ℕ) (U : FirstUnfit D d t set r) where
           pub take-unfit : (u : ℕ) → r ≡ Some u → (f : Field) → f.0 ≡ field_in u → TakesUp D d t set (Err (Unfit f)) d
