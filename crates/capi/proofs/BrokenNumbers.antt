@@ -4,7 +4,8 @@ use mathlib.Core.List.{List}
 use Prim.Native.Nat.{ℕ}
 use Rattle.sheets.specs.declared.dates.Dates.{Dates}
 use Rattle.rules.specs.AllBroken.{broken_answer, break_tests, breaking, BreaksRules}
-use Rattle.rules.specs.declared.all_broken.BrokenRules.{BrokenRules}
+use Rattle.std.specs.Prelude.{Result}
+use Rattle.texts.specs.declared.answers.Refusal.{Refusal}
 use Rattle.capi.specs.Numbers.{numbered}
 use Rattle.capi.specs.AllBroken.{broken_numbers, broken_from, BrokenRulesReturns}
 use Rattle.capi.specs.declared.AllBroken.{AllBroken}
@@ -14,7 +15,7 @@ broken-back : (D : Dates) (s : List ℕ) → Back broken_numbers broken_from (br
 unfolding breaking break_tests broken_numbers broken_from numbered
 broken-back D s = tested (Back broken_numbers broken_from) (break_tests D s) _ refl (search depth 12)
 
-module _ (D E : Dates) (z : E ≡ D) (s : List ℕ) (v : BrokenRules) (p : BreaksRules E s v) (k : BrokenRules) (e : v ≡ k) (r : AllBroken) (q : r ≡ broken_numbers (broken_answer k)) where
+module _ (D E : Dates) (z : E ≡ D) (s : List ℕ) (v : Result ℕ Refusal) (p : BreaksRules E s v) (r : AllBroken) (q : r ≡ broken_numbers (broken_answer v)) where
   broken-numbers : r ≡ broken_numbers (breaking D s)
   broken-numbers = cc
 

@@ -2,6 +2,8 @@
 use mathlib.Core.Path.{◌≡◌, refl, ap, sym, ◌∙◌}
 use mathlib.Core.Bool.{Bool, true, false, cond}
 use mathlib.Core.List.{List, [], ◌∷◌}
+use Rattle.std.specs.Prelude.{Option, Result, Ok, Err}
+use Rattle.texts.specs.Refusals.{refusal_number}
 use Prim.Native.Nat.{ℕ, suc, ◌+◌, ◌-◌}
 use native.Mathlib.Omega.{arith}
 use borrow.Author.Tests.{ltb-true, ltb-false, lt-ltb, le-ltb}
@@ -16,53 +18,39 @@ use Rattle.sheets.specs.declared.dates.Dates.{Dates}
 use Rattle.rules.specs.Verdicts.{class_name, verdict_answer, check_tests, checked}
 use Rattle.rules.specs.Checked.{Checked}
 use Rattle.rules.specs.declared.class.Class.{Class}
+use Rattle.rules.specs.declared.check.Rejection.{Rejection}
 use Rattle.rules.specs.declared.class.Class.TheVariants.{A, B, O}
-use Rattle.rules.specs.declared.check.Verdict.{Verdict}
-use Rattle.rules.specs.declared.check.Verdict.TheVariants.{Accepted}
 use Rattle.drafts.specs.Revision.{◌by◌}
 use Rattle.drafts.specs.Message.{head_size, version_of, message_field, revision_of, message_text, read_tests, readable, read_values, reading_of, read_answer, write_tests, writing_of, write_answer}
 use Rattle.drafts.specs.Draft.{begin_tests, beginning_of, begin_answer, word, comparison_of, post_tests, posting_of, post_answer, copy_tests, copying_of, copy_answer}
 use Rattle.drafts.specs.Promises.{Reads, Writes, Freshens, Posts, Copies}
-use Rattle.drafts.specs.declared.revision.Comparison.{Comparison}
-use Rattle.drafts.specs.declared.revision.Comparison.TheVariants.{Newer, Same, Older, Clash}
 use Rattle.drafts.specs.declared.revision.Revision.{Revision}
-use Rattle.drafts.specs.declared.message.Version.{Version}
-use Rattle.drafts.specs.declared.message.Reading.{Reading}
-use Rattle.drafts.specs.declared.message.Reading.TheVariants.{Message}
-use Rattle.drafts.specs.declared.message.Written.{Written}
-use Rattle.drafts.specs.declared.draft.Begun.{Begun}
-use Rattle.drafts.specs.declared.draft.Posted.{Posted}
-use Rattle.drafts.specs.declared.draft.Copied.{Copied}
+use Rattle.drafts.specs.declared.message.Heading.{Heading}
+use Rattle.drafts.specs.declared.revision.Standing.{Standing}
+use Rattle.drafts.specs.declared.revision.Standing.TheVariants.{Newer, Same, Older}
 use Rattle.drafts.proofs.Messages.{readable-means, reading-is, text_at, text-length}
-use Rattle.orders.specs.Complete.{complete_answer, sheet_tests, complete_tests, completing, completed}
+use Rattle.orders.specs.Complete.{sheet_tests, complete_tests, completing, completed}
 use Rattle.orders.specs.Skipping.{skipped_of, with_skipped, quickening, quick_answer, Quickens}
 use Rattle.orders.specs.declared.quick.Quickened.{Quickened}
 use Rattle.drafts.specs.Draft.{draft_sheet}
 use Rattle.orders.specs.TakeUp.{take_tests, taking, take_answer, TakesUp}
-use Rattle.orders.specs.declared.take_up.TakenUp.{TakenUp}
+use Rattle.orders.specs.declared.take_up.Untaken.{Untaken}
 use Rattle.orders.specs.Pretest.{pretest_answer, pretest_tests, pretesting, Pretests}
-use Rattle.orders.specs.declared.pretest.Pretested.{Pretested}
+use Rattle.orders.specs.declared.pretest.Named.{Named}
 use Rattle.amounts.specs.Charge.{charge_tests, charging, charge_answer, Charges}
-use Rattle.amounts.specs.declared.charge.Charged.{Charged}
+use Rattle.amounts.specs.declared.amount.Kopecks.{Kopecks}
 use Rattle.amounts.specs.Part.{part_tests, parting, part_answer, Parts}
 use Rattle.amounts.specs.Shares.{share_tests, sharing, share_answer, Shares}
-use Rattle.amounts.specs.declared.part.Parted.{Parted}
-use Rattle.amounts.specs.declared.shares.Shared.{Shared}
+use Rattle.amounts.specs.declared.part.Portion.{Portion}
 use Rattle.registers.specs.Register.{lines_of, total_of}
 use Rattle.registers.specs.Pool.{more, less, pool_tests, pooling, pool_answer, Pools}
-use Rattle.registers.specs.declared.pool.Pooled.{Pooled}
+use Rattle.registers.specs.declared.pool.Unpooled.{Unpooled}
 use Rattle.payments.specs.Leave.{leave_tests, leaving, leave_answer, Leaves}
-use Rattle.payments.specs.declared.leave.Leaving.{Leaving}
-use Rattle.registers.specs.declared.pool.Pooled.TheVariants.{Differs}
+use Rattle.payments.specs.declared.leave.Debited.{Debited}
+use Rattle.registers.specs.declared.pool.Unpooled.TheVariants.{Differs}
 use Rattle.swift.specs.Promises.{read_tests as line_read_tests, read_answer as lines_read_answer, reading_lines, ReadsLines, line_tests, written_answer as lines_written_answer, writing_lines, WritesLines}
-use Rattle.swift.specs.declared.read.LinesRead.{LinesRead}
-use Rattle.swift.specs.declared.write.LinesWritten.{LinesWritten}
-use Rattle.orders.specs.declared.complete.Completed.{Completed}
-use Rattle.orders.specs.declared.complete.Completed.TheVariants.{Filled, Impossible, Broken, Refused}
-use Rattle.sheets.specs.declared.sheet.Field.{Field}
-use Rattle.rules.specs.declared.rules.RuleNumber.{RuleNumber}
 use Rattle.texts.specs.declared.answers.Refusal.{Refusal}
-use Rattle.capi.specs.Numbers.{numbered, number_answer, check_numbers, check_of, read_numbers, read_of, write_numbers, write_of, post_numbers, word_of, post_of, complete_numbers, complete_of, take_numbers, take_of, pretest_numbers, pretest_of, charge_numbers, charge_of, part_numbers, part_of, pool_numbers, pool_of, leave_numbers, leave_of, lines_numbers, lines_from}
+use Rattle.capi.specs.Numbers.{done_number, numbered, number_answer, check_numbers, check_of, read_numbers, read_of, write_numbers, write_of, post_numbers, word_of, post_of, complete_numbers, complete_of, take_numbers, take_of, pretest_numbers, pretest_of, charge_numbers, charge_of, part_numbers, part_of, pool_numbers, pool_of, leave_numbers, leave_of, lines_numbers, lines_from}
 use Rattle.capi.specs.Promises.{CheckReturns, ReadReturns, WriteReturns, FreshReturns, PostReturns, CopyReturns, CompleteReturns, TakeUpReturns, PretestReturns, ChargeReturns, PartReturns, SharesReturns, PoolReturns, LeaveReturns, WriteLinesReturns, ReadLinesReturns}
 use Rattle.capi.specs.declared.Check.{Check}
 use Rattle.capi.specs.declared.Read.{Read}
@@ -112,12 +100,12 @@ copy-back : (d s : List ℕ) → Back number_of number_answer (copying_of d s)
 unfolding copying_of copy_tests number_answer numbered
 copy-back d s = tested (Back number_of number_answer) (copy_tests d s) _ refl (search depth 12)
 
-word_back : (s : Comparison) → Back post_numbers post_of (success (word s))
+word_back : (s : Result Standing Refusal) → Back post_numbers post_of (success (word s))
 unfolding post_numbers post_of word_of numbered same
-word_back Newer = refl
-word_back Same = refl
-word_back Older = refl
-word_back Clash = refl
+word_back (Ok Newer) = refl
+word_back (Ok Same) = refl
+word_back (Ok Older) = refl
+word_back (Err n) = refl
 
 post-back : (d m : List ℕ) → Back post_numbers post_of (posting_of d m)
 unfolding posting_of post_tests read_tests post_numbers post_of numbered
@@ -188,13 +176,19 @@ lines-read-back : (b o : List ℕ) → Back number_of number_answer (reading_lin
 unfolding reading_lines line_read_tests number_answer numbered
 lines-read-back b o = tested (Back number_of number_answer) (line_read_tests b o) _ refl (search depth 12)
 
--- ---- what each function returned: v is what it called, and k the case of v in an arm; a clause over the answer from what it has there
+-- ---- what each function returned: v is what it called answered; a clause over the answer from what it has there
+
+-- the number of what returns nothing beside success
+module _ (num : Result Unit Refusal → Answer) (made : (u : Unit) → num (Ok u) ≡ success []) (refused : (n : Refusal) → num (Err n) ≡ refusal (refusal_number n) []) where
+  done-is : (v : Result Unit Refusal) → done_number v ≡ number_of (num v)
+  done-is (Ok u) = sym (ap number_of (made u))
+  done-is (Err n) = sym (ap number_of (refused n))
 
 -- what was returned holds the numbers of the answer, whichever that is
 pub at : {X : Type 0} (num : Answer → X) {r : X} {a b : Answer} → r ≡ num a → a ≡ b → r ≡ num b
 at num q e = q ∙ ap num e
 
-module _ (D E : Dates) (z : E ≡ D) (s : List ℕ) (v : Verdict) (p : Checked E s v) (k : Verdict) (e : v ≡ k) (r : Check) (q : r ≡ check_numbers (verdict_answer k)) where
+module _ (D E : Dates) (z : E ≡ D) (s : List ℕ) (v : Result Class Rejection) (p : Checked E s v) (r : Check) (q : r ≡ check_numbers (verdict_answer v)) where
   check-numbers : r ≡ check_numbers (checked D s)
   check-numbers = cc
 
@@ -208,11 +202,7 @@ module _ (D E : Dates) (z : E ≡ D) (s : List ℕ) (v : Verdict) (p : Checked E
     refused = λ n. at check_numbers check-numbers;
   }
 
--- the same, where the class is matched in its turn
-pub accepted-is : (D E : Dates) → E ≡ D → (s : List ℕ) (v : Verdict) → Checked E s v → (c k : Class) → v ≡ Accepted c → c ≡ k → (r : Check) → r ≡ check_numbers (verdict_answer (Accepted k)) → CheckReturns D s r
-accepted-is D E z s v p c k e f r q = checked-is D E z s v p (Accepted k) (e ∙ ap Accepted f) r q
-
-module _ (m : List ℕ) (v : Reading) (p : Reads m v) (k : Reading) (e : v ≡ k) (t : List ℕ) (g : t ≡ message_text m) (r : Read) (q : r ≡ read_numbers t (read_answer k)) where
+module _ (m : List ℕ) (v : Result Heading Refusal) (p : Reads m v) (t : List ℕ) (g : t ≡ message_text m) (r : Read) (q : r ≡ read_numbers t (read_answer v)) where
   numbers-are : r ≡ read_numbers (message_text m) (reading_of m)
   numbers-are = cc
 
@@ -245,14 +235,27 @@ module _ (m : List ℕ) (v : Reading) (p : Reads m v) (k : Reading) (e : v ≡ k
     refused = λ n vs. at (read_numbers (message_text m)) numbers-are;
   }
 
--- the same, where the place of the text was asked of the version
-pub found-read : (m : List ℕ) (v : Reading) → Reads m v → (w : Version) (f : Field) (u : Revision) → v ≡ Message w f u → (t : List ℕ) → t ≡ message_text m → (s : ℕ) → s ≡ head_size w.0
-    → ReadReturns m (record { number = 0; version = w.0; party = u.party.0; field = f.0; revision = u.number; text = s; length = length t })
-unfolding read_numbers
-found-read m v p w f u e t g s h =
-    read_is m v p (Message w f u) e t g _ (λ i. record { number = 0; version = w.0; party = u.party.0; field = f.0; revision = u.number; text = h i; length = length t })
+-- the same, where the place of the text was asked of the version, and where a refusal was asked for its number
+module _ (m : List ℕ) (v : Result Heading Refusal) (p : Reads m v) (t : List ℕ) (g : t ≡ message_text m) where
+  pub read-found : (h : Heading) → v ≡ Ok h → (s : ℕ) → s ≡ head_size h.version.0
+      → ReadReturns m (record { number = 0; version = h.version.0; party = h.revision.party.0; field = h.field.0; revision = h.revision.number; text = s; length = length t })
+  unfolding read_numbers
+  read-found h e s k =
+      read_is m v p t g _
+      (ap (λ (s : ℕ). record { number = 0; version = h.version.0; party = h.revision.party.0; field = h.field.0; revision = h.revision.number; text = s; length = length t }) k
+      ∙ ap (λ (x : Result Heading Refusal). read_numbers t (read_answer x)) (sym e))
 
-module _ (w p f n : ℕ) (t b : List ℕ) (v : Written) (x : List ℕ) (P : Writes w f (n by p) t b v x) (k : Written) (e : v ≡ k) (r : Write) (q : r ≡ write_numbers (write_answer k)) where
+  pub read-refused : (n : Refusal) → v ≡ Err n → (k : ℕ) → k ≡ refusal_number n → ReadReturns m (record { number = k; version = 0; party = 0; field = 0; revision = 0; text = 0; length = 0 })
+  unfolding read_numbers
+  read-refused n e k f =
+      read_is m v p t g _
+      (ap (λ (k : ℕ). record { number = k; version = 0; party = 0; field = 0; revision = 0; text = 0; length = 0 }) f
+      ∙ ap (λ (x : Result Heading Refusal). read_numbers t (read_answer x)) (sym e))
+
+abbrev pub heading : ℕ → ℕ → ℕ → ℕ → Heading
+heading w p f n = record { version = record { 0 = w }; field = record { 0 = f }; revision = n by p }
+
+module _ (w p f n : ℕ) (t b : List ℕ) (v : Result ℕ Refusal) (x : List ℕ) (P : Writes (heading w p f n) t b v x) (r : Write) (q : r ≡ write_numbers (write_answer v)) where
   write-numbers : r ≡ write_numbers (writing_of w f (n by p) t b)
   write-numbers = cc
 
@@ -266,9 +269,9 @@ module _ (w p f n : ℕ) (t b : List ℕ) (v : Written) (x : List ℕ) (P : Writ
     refused = λ k vs. at write_numbers write-numbers;
   }
 
-module _ (d : List ℕ) (v : Begun) (x : List ℕ) (p : Freshens d v x) (k : Begun) (e : v ≡ k) (r : ℕ) (q : r ≡ number_of (begin_answer k)) where
+module _ (d : List ℕ) (v : Result Unit Refusal) (x : List ℕ) (p : Freshens d v x) (r : ℕ) (q : r ≡ done_number v) where
   fresh-number : r ≡ number_of (beginning_of d)
-  fresh-number = cc
+  fresh-number = q ∙ done-is begin_answer (λ u. refl) (λ n. refl) v ∙ ap number_of p.answer
 
   pub fresh-is : FreshReturns d r x
   fresh-is = record {
@@ -279,7 +282,7 @@ module _ (d : List ℕ) (v : Begun) (x : List ℕ) (p : Freshens d v x) (k : Beg
     refused = λ n vs. at number_of fresh-number;
   }
 
-module _ (d m : List ℕ) (v : Posted) (x : List ℕ) (p : Posts d m v x) (k : Posted) (e : v ≡ k) (r : Post) (q : r ≡ post_numbers (post_answer k)) where
+module _ (d m : List ℕ) (v : Result Standing Refusal) (x : List ℕ) (p : Posts d m v x) (r : Post) (q : r ≡ post_numbers (post_answer v)) where
   post-numbers : r ≡ post_numbers (posting_of d m)
   post-numbers = cc
 
@@ -295,9 +298,9 @@ module _ (d m : List ℕ) (v : Posted) (x : List ℕ) (p : Posts d m v x) (k : P
     refused = λ n vs. at post_numbers post-numbers;
   }
 
-module _ (d s : List ℕ) (v : Copied) (x : List ℕ) (p : Copies d s v x) (k : Copied) (e : v ≡ k) (r : ℕ) (q : r ≡ number_of (copy_answer k)) where
+module _ (d s : List ℕ) (v : Result Unit Refusal) (x : List ℕ) (p : Copies d s v x) (r : ℕ) (q : r ≡ done_number v) where
   copy-number : r ≡ number_of (copying_of d s)
-  copy-number = cc
+  copy-number = q ∙ done-is copy_answer (λ u. refl) (λ n. refl) v ∙ ap number_of p.answer
 
   pub copied_is : CopyReturns d s r x
   copied_is = record {
@@ -308,7 +311,7 @@ module _ (d s : List ℕ) (v : Copied) (x : List ℕ) (p : Copies d s v x) (k : 
     refused = λ n vs. at number_of copy-number;
   }
 
-module _ (d t : List ℕ) (set : ℕ) (v : TakenUp) (x : List ℕ) (p : (D : Dates) → TakesUp D d t set v x) (k : TakenUp) (e : v ≡ k) (r : TakeUp) (q : r ≡ take_numbers (take_answer k)) where
+module _ (d t : List ℕ) (set : ℕ) (v : Result Unit Untaken) (x : List ℕ) (p : (D : Dates) → TakesUp D d t set v x) (r : TakeUp) (q : r ≡ take_numbers (take_answer v)) where
   take-numbers : (D : Dates) → r ≡ take_numbers (taking D d t set)
   take-numbers D = cc (p D).answer
 
@@ -323,10 +326,10 @@ module _ (d t : List ℕ) (set : ℕ) (v : TakenUp) (x : List ℕ) (p : (D : Dat
     refused = λ n. at take_numbers (take-numbers D);
   }
 
-abbrev no_complete : ℕ → Complete
+abbrev pub no_complete : ℕ → Complete
 no_complete n = record { number = n; field = 0; rule = 0; set = 0; ones = 0; count = 0; skipped = 0 }
 
-nothing-beside : (n : ℕ) → complete_numbers (refusal n []) ≡ no_complete n
+pub nothing-beside : (n : ℕ) → complete_numbers (refusal n []) ≡ no_complete n
 unfolding complete_numbers
 nothing-beside n = go (eqb n 8)
   where
@@ -334,10 +337,9 @@ nothing-beside n = go (eqb n 8)
     go true = refl
     go false = refl
 
-module _ (D E : Dates) (z : E ≡ D) (d b : List ℕ) (v : Quickened) (x : List ℕ) (p : Quickens E d b v x) (k : Completed) (e : v.completed ≡ k) (r : Complete) (q : r ≡ complete_numbers (with_skipped v.skipped (complete_answer k))) where
+module _ (D E : Dates) (z : E ≡ D) (d b : List ℕ) (v : Quickened) (x : List ℕ) (p : Quickens E d b v x) (r : Complete) (q : r ≡ complete_numbers (quick_answer v)) where
   numbers-complete : r ≡ complete_numbers (quickening D d b)
-  unfolding quick_answer
-  numbers-complete = q ∙ ap (λ (c : Completed). complete_numbers (with_skipped v.skipped (complete_answer c))) (sym e) ∙ ap complete_numbers p.answer ∙ ap (λ (F : Dates). complete_numbers (quickening F d b)) z
+  numbers-complete = q ∙ ap complete_numbers p.answer ∙ ap (λ (F : Dates). complete_numbers (quickening F d b)) z
 
   pub completed-is : CompleteReturns D d b r x
   unfolding complete_numbers
@@ -351,24 +353,7 @@ module _ (D E : Dates) (z : E ≡ D) (d b : List ℕ) (v : Quickened) (x : List 
     refused = λ n e. at complete_numbers numbers-complete e ∙ nothing-beside n;
   }
 
-module _ (D E : Dates) (z : E ≡ D) (d b : List ℕ) (v : Quickened) (x : List ℕ) (p : Quickens E d b v x) where
-  pub complete-filled : (n set k : ℕ) → v.completed ≡ Filled n set k → CompleteReturns D d b (record { number = 0; field = 0; rule = 0; set = set; ones = k; count = n; skipped = v.skipped }) x
-  unfolding with_skipped complete_answer complete_numbers
-  complete-filled n set k e = completed-is D E z d b v x p (Filled n set k) e _ refl
-
-  pub complete-impossible : (n : ℕ) → v.completed ≡ Impossible n → CompleteReturns D d b (record { number = 10; field = 0; rule = 0; set = 0; ones = 0; count = n; skipped = v.skipped }) x
-  unfolding with_skipped complete_answer complete_numbers
-  complete-impossible n e = completed-is D E z d b v x p (Impossible n) e _ refl
-
-  pub complete-broken : (f : Field) (r : RuleNumber) → v.completed ≡ Broken f r → CompleteReturns D d b (record { number = 8; field = f.0; rule = r.0; set = 0; ones = 0; count = 0; skipped = 0 }) x
-  unfolding with_skipped complete_answer complete_numbers
-  complete-broken f r e = completed-is D E z d b v x p (Broken f r) e _ refl
-
-  pub complete-refused : (n : Refusal) → v.completed ≡ Refused n → CompleteReturns D d b (record { number = n.0; field = 0; rule = 0; set = 0; ones = 0; count = 0; skipped = 0 }) x
-  unfolding with_skipped complete_answer complete_numbers
-  complete-refused n e = completed-is D E z d b v x p (Refused n) e _ (sym (nothing-beside n.0))
-
-module _ (d : List ℕ) (v : Pretested) (p : (D : Dates) → Pretests D d v) (k : Pretested) (e : v ≡ k) (r : Pretest) (q : r ≡ pretest_numbers (pretest_answer k)) where
+module _ (d : List ℕ) (v : Result (Option Named) Rejection) (p : (D : Dates) → Pretests D d v) (r : Pretest) (q : r ≡ pretest_numbers (pretest_answer v)) where
   pretest-numbers : (D : Dates) → r ≡ pretest_numbers (pretesting D d)
   pretest-numbers D = cc (p D).answer
 
@@ -382,7 +367,7 @@ module _ (d : List ℕ) (v : Pretested) (p : (D : Dates) → Pretests D d v) (k 
     refused = λ n. at pretest_numbers (pretest-numbers D);
   }
 
-module _ (a p l g : ℕ) (v : Charged) (w : Charges a p l g v) (k : Charged) (e : v ≡ k) (r : Charge) (q : r ≡ charge_numbers (charge_answer k)) where
+module _ (a p l g : ℕ) (v : Result Kopecks Refusal) (w : Charges a p l g v) (r : Charge) (q : r ≡ charge_numbers (charge_answer v)) where
   charge-numbers : r ≡ charge_numbers (charging a p l g)
   charge-numbers = cc
 
@@ -395,7 +380,7 @@ module _ (a p l g : ℕ) (v : Charged) (w : Charges a p l g v) (k : Charged) (e 
     refused = λ n vs. at charge_numbers charge-numbers;
   }
 
-module _ (a d y : ℕ) (v : Parted) (w : Parts a d y v) (k : Parted) (e : v ≡ k) (r : Part) (q : r ≡ part_numbers (part_answer k)) where
+module _ (a d y : ℕ) (v : Result Portion Refusal) (w : Parts a d y v) (r : Part) (q : r ≡ part_numbers (part_answer v)) where
   part-numbers : r ≡ part_numbers (parting a d y)
   part-numbers = cc
 
@@ -408,9 +393,10 @@ module _ (a d y : ℕ) (v : Parted) (w : Parts a d y v) (k : Parted) (e : v ≡ 
     refused = λ n vs. at part_numbers part-numbers;
   }
 
-module _ (a y : ℕ) (ps b : List ℕ) (v : Shared) (x : List ℕ) (w : Shares a y ps b v x) (k : Shared) (e : v ≡ k) (r : ℕ) (q : r ≡ number_of (share_answer k)) where
+module _ (a y : ℕ) (ps b : List ℕ) (v : Result Unit Refusal) (x : List ℕ) (w : Shares a y ps b v x) (r : ℕ) (q : r ≡ done_number v) where
   shares-number : r ≡ number_of (sharing a y ps)
-  shares-number = cc
+  unfolding share_answer
+  shares-number = q ∙ done-is share_answer (λ u. refl) (λ n. refl) v ∙ ap number_of w.answer
 
   pub shared-is : SharesReturns a y ps b r x
   shared-is = record {
@@ -421,10 +407,10 @@ module _ (a y : ℕ) (ps b : List ℕ) (v : Shared) (x : List ℕ) (w : Shares a
     refused = λ n vs. at number_of shares-number;
   }
 
-abbrev differing : ℤ → Pool
+abbrev pub differing : ℤ → Pool
 differing d = record { number = 17; lines = 0; difference = d }
 
-module _ (t : List ℕ) (a : ℕ) (o : List ℕ) (v : Pooled) (x : List ℕ) (w : Pools t a o v x) (k : Pooled) (e : v ≡ k) (r : Pool) (q : r ≡ pool_numbers (pool_answer k)) where
+module _ (t : List ℕ) (a : ℕ) (o : List ℕ) (v : Result ℕ Unpooled) (x : List ℕ) (w : Pools t a o v x) (r : Pool) (q : r ≡ pool_numbers (pool_answer v)) where
   pool-numbers : r ≡ pool_numbers (pooling t a o)
   pool-numbers = cc
 
@@ -440,11 +426,11 @@ module _ (t : List ℕ) (a : ℕ) (o : List ℕ) (v : Pooled) (x : List ℕ) (w 
     refused = λ n. at pool_numbers pool-numbers;
   }
 
-pub differs-is : (t : List ℕ) (a : ℕ) (o : List ℕ) (v : Pooled) (x : List ℕ) → Pools t a o v x → (d : ℤ) → v ≡ Differs d → (r : Pool) → r ≡ differing d → PoolReturns t a o r x
+pub differs-is : (d : ℤ) → differing d ≡ pool_numbers (pool_answer (Err (Differs d)))
 unfolding pool_numbers pool_answer
-differs-is t a o v x w d e r q = pooled-is t a o v x w (Differs d) e r (q ∙ ap differing (sym (signed_of d)))
+differs-is d = ap differing (sym (signed_of d))
 
-module _ (b : ℕ) (ps ns ks o : List ℕ) (v : Leaving) (x : List ℕ) (w : Leaves b ps ns ks o v x) (k : Leaving) (e : v ≡ k) (r : Leave) (q : r ≡ leave_numbers (leave_answer k)) where
+module _ (b : ℕ) (ps ns ks o : List ℕ) (v : Result Debited Refusal) (x : List ℕ) (w : Leaves b ps ns ks o v x) (r : Leave) (q : r ≡ leave_numbers (leave_answer v)) where
   leave-numbers : r ≡ leave_numbers (leaving b ps ns ks)
   leave-numbers = cc
 
@@ -458,7 +444,7 @@ module _ (b : ℕ) (ps ns ks o : List ℕ) (v : Leaving) (x : List ℕ) (w : Lea
     refused = λ n vs. at leave_numbers leave-numbers;
   }
 
-module _ (D E : Dates) (z : E ≡ D) (s o : List ℕ) (v : LinesWritten) (x : List ℕ) (w : WritesLines E s o v x) (k : LinesWritten) (e : v ≡ k) (r : Lines) (q : r ≡ lines_numbers (lines_written_answer k)) where
+module _ (D E : Dates) (z : E ≡ D) (s o : List ℕ) (v : Result ℕ Rejection) (x : List ℕ) (w : WritesLines E s o v x) (r : Lines) (q : r ≡ lines_numbers (lines_written_answer v)) where
   lines-numbers : r ≡ lines_numbers (writing_lines D s o)
   lines-numbers = cc
 
@@ -473,9 +459,10 @@ module _ (D E : Dates) (z : E ≡ D) (s o : List ℕ) (v : LinesWritten) (x : Li
     refused = λ n. at lines_numbers lines-numbers;
   }
 
-module _ (b o : List ℕ) (v : LinesRead) (x : List ℕ) (w : ReadsLines b o v x) (k : LinesRead) (e : v ≡ k) (r : ℕ) (q : r ≡ number_of (lines_read_answer k)) where
+module _ (b o : List ℕ) (v : Result Unit Refusal) (x : List ℕ) (w : ReadsLines b o v x) (r : ℕ) (q : r ≡ done_number v) where
   lines-number : r ≡ number_of (reading_lines b o)
-  lines-number = cc
+  unfolding lines_read_answer
+  lines-number = q ∙ done-is lines_read_answer (λ u. refl) (λ n. refl) v ∙ ap number_of w.answer
 
   pub lines-read-is : ReadLinesReturns b o r x
   lines-read-is = record {

@@ -1,7 +1,10 @@
 -- An entry of a field's list, as the numbers that a caller in C reads, and what the contract promises.
-use Rattle.std.specs.Prelude.{◌≡◌, List, [], ◌∷◌, ℕ, length, get_or, take}
+use Rattle.std.specs.Prelude.{◌≡◌, List, [], ◌∷◌, ℕ, length, get_or, take, Option, Some, None, Result, Ok, Err}
 use Rattle.texts.specs.Answers.{Answer, success, refusal}
 use Rattle.sheets.specs.declared.dates.Dates.{Dates}
+use Rattle.texts.specs.Refusals.{refusal_number}
+use Rattle.texts.specs.declared.answers.Refusal.{Refusal}
+use Rattle.orders.specs.declared.entry.Row.{Row}
 use Rattle.orders.specs.Entry.{listing}
 use Rattle.capi.specs.Numbers.{numbered}
 use Rattle.capi.specs.declared.Entry.{Entry}
@@ -10,6 +13,12 @@ use Rattle.capi.specs.declared.Entry.{Entry}
 unfoldable pub entry_numbers : Answer → Entry
 entry_numbers (success t) = record { number = 0; length = length t; first = get_or t 0 0; second = get_or t 1 0 }
 entry_numbers (refusal n vs) = record { number = n; length = 0; first = 0; second = 0 }
+
+-- the numbers of what `entry` answers: the row of an entry
+abbrev pub row_numbers : Result (Option Row) Refusal → Entry
+row_numbers (Ok (Some r)) = record { number = 0; length = r.length; first = r.first; second = r.second }
+row_numbers (Ok None) = record { number = 0; length = 0; first = 0; second = 0 }
+row_numbers (Err n) = record { number = refusal_number n; length = 0; first = 0; second = 0 }
 
 -- the bytes are the first `length` of the two
 unfoldable pub entry_of : Entry → Answer

@@ -1,9 +1,11 @@
 -- Document 01's answers as the numbers that a caller in C reads (`..Numbers`), and the answer that such numbers stand for (`..Of`).
-use Rattle.std.specs.Prelude.{cond, List, [], ◌∷◌, ℕ, eqb, pos, length, get_or}
+use Rattle.std.specs.Prelude.{cond, List, [], ◌∷◌, ℕ, eqb, pos, length, get_or, Result, Ok, Err}
 use Rattle.std.proofs.Math.IntN.{sub_ℕ}
 use Rattle.texts.specs.Quoted.{Text, bytes}
 use Rattle.texts.specs.Texts.{◌is◌}
 use Rattle.texts.specs.Answers.{Answer, success, refusal}
+use Rattle.texts.specs.Refusals.{refusal_number}
+use Rattle.texts.specs.declared.answers.Refusal.{Refusal}
 use Rattle.drafts.specs.Message.{head_size}
 use Rattle.registers.specs.Pool.{more, less}
 use Rattle.sheets.specs.declared.dates.Dates.{Dates}
@@ -28,6 +30,11 @@ numbered n vs ws = cond (eqb n 0) (success vs) (refusal n ws)
 -- a number that is returned alone
 unfoldable pub number_answer : ℕ → Answer
 number_answer n = numbered n [] []
+
+-- what returns nothing else: 0, or the number of a refusal
+abbrev pub done_number : Result Unit Refusal → ℕ
+done_number (Ok u) = 0
+done_number (Err n) = refusal_number n
 
 -- the order's date and the record of three dates
 abbrev pub dates_of : ℕ → Record → Dates

@@ -6,17 +6,35 @@ ghost use Rattle.capi.specs.AllBroken.{BrokenRulesReturns};
 ghost use Rattle.capi.specs.Origins.{OriginsReturns};
 ghost use Rattle.capi.specs.Entry.{EntryReturns};
 ghost use Rattle.capi.specs.Version.{VersionReturns};
-ghost use Rattle.std.specs.Prelude.{◌≡◌};
+ghost use Rattle.std.specs.Prelude.{◌≡◌, get_or, Ok};
 ghost use Rattle.sheets.specs.declared.dates.Dates.{Dates};
-ghost use Rattle.capi.specs.Numbers.{dates_of};
+ghost use Rattle.capi.specs.Numbers.{dates_of, done_number, check_numbers, write_numbers, post_numbers, complete_numbers, take_numbers, pretest_numbers, charge_numbers, part_numbers, pool_numbers, leave_numbers, lines_numbers};
+ghost use Rattle.capi.specs.AllBroken.{broken_numbers};
+ghost use Rattle.capi.specs.Entry.{row_numbers};
+ghost use Rattle.rules.specs.Verdicts.{class_name, verdict_answer};
+ghost use Rattle.rules.specs.AllBroken.{broken_answer};
+ghost use Rattle.drafts.specs.Message.{write_answer};
+ghost use Rattle.drafts.specs.Draft.{word, post_answer};
+ghost use Rattle.orders.specs.TakeUp.{take_answer};
+ghost use Rattle.orders.specs.Pretest.{pretest_answer};
+ghost use Rattle.orders.specs.Skipping.{quick_answer};
+ghost use Rattle.amounts.specs.Charge.{charge_answer};
+ghost use Rattle.amounts.specs.Part.{part_answer};
+ghost use Rattle.registers.specs.Pool.{pool_answer};
+ghost use Rattle.payments.specs.Leave.{leave_answer};
+ghost use Rattle.swift.specs.Promises.{written_answer};
 
 use amounts::amount::Kopecks;
 use amounts::charge::Rate;
-use amounts::part::Days;
+use amounts::part::{Days, Portion};
 use drafts::message::{Heading, Version};
 use drafts::revision::{Party, Revision, Standing};
 use orders::complete::Incomplete;
+use orders::entry::Row;
+use orders::pretest::Named;
+use orders::quick::Quickened;
 use orders::take_up::Untaken;
+use payments::leave::Debited;
 use registers::pool::Unpooled;
 use rules::check::Rejection;
 use rules::class::Class;
@@ -33,11 +51,57 @@ pub struct Check {
     pub class: u8,
 }
 
+impl From<Result<Class, Rejection>> for Check {
+    ghost from_gives = { λ v r. r ≡ check_numbers (verdict_answer v) };
+
+    #[tactic(auto, unfolding(rules::specs::Verdicts::verdict_answer, rules::specs::Verdicts::rejection_answer, crate::specs::Numbers::check_numbers))]
+    fn from(verdict: Result<Class, Rejection>) -> Check {
+        match verdict {
+            Ok(class) => Check {
+                number: 0,
+                field: 0,
+                rule: 0,
+                class: letter_of(class),
+            },
+            Err(Rejection::Broken(field, rule)) => Check {
+                number: u8::from(Refusal::BrokenRule),
+                field: field.0,
+                rule: rule.0,
+                class: 0,
+            },
+            Err(Rejection::Refused(refusal)) => Check {
+                number: u8::from(refusal),
+                field: 0,
+                rule: 0,
+                class: 0,
+            },
+        }
+    }
+}
+
 #[repr(C)]
 #[derive(Clone, Copy)]
 pub struct AllBroken {
     pub number: u8,
     pub rules: u64,
+}
+
+impl From<Result<u64, Refusal>> for AllBroken {
+    ghost from_gives = { λ v r. r ≡ broken_numbers (broken_answer v) };
+
+    #[tactic(auto, unfolding(rules::specs::AllBroken::broken_answer, crate::specs::AllBroken::broken_numbers))]
+    fn from(broken: Result<u64, Refusal>) -> AllBroken {
+        match broken {
+            Ok(set) => AllBroken {
+                number: 0,
+                rules: set,
+            },
+            Err(refusal) => AllBroken {
+                number: u8::from(refusal),
+                rules: 0,
+            },
+        }
+    }
 }
 
 #[repr(C)]
@@ -59,11 +123,44 @@ pub struct Write {
     pub length: usize,
 }
 
+impl From<Result<usize, Refusal>> for Write {
+    ghost from_gives = { λ v r. r ≡ write_numbers (write_answer v) };
+
+    #[tactic(auto, unfolding(crate::specs::Numbers::write_numbers))]
+    fn from(written: Result<usize, Refusal>) -> Write {
+        match written {
+            Ok(length) => Write { number: 0, length },
+            Err(refusal) => Write {
+                number: u8::from(refusal),
+                length: 0,
+            },
+        }
+    }
+}
+
 #[repr(C)]
 #[derive(Clone, Copy)]
 pub struct Post {
     pub number: u8,
     pub standing: u8,
+}
+
+impl From<Result<Standing, Refusal>> for Post {
+    ghost from_gives = { λ v r. r ≡ post_numbers (post_answer v) };
+
+    #[tactic(auto, unfolding(crate::specs::Numbers::post_numbers))]
+    fn from(posted: Result<Standing, Refusal>) -> Post {
+        match posted {
+            Ok(standing) => Post {
+                number: 0,
+                standing: letter_in(standing),
+            },
+            Err(refusal) => Post {
+                number: u8::from(refusal),
+                standing: 0,
+            },
+        }
+    }
 }
 
 #[repr(C)]
@@ -78,6 +175,52 @@ pub struct Complete {
     pub skipped: usize,
 }
 
+impl From<Quickened> for Complete {
+    ghost from_gives = { λ v r. r ≡ complete_numbers (quick_answer v) };
+
+    #[tactic(auto, unfolding(orders::specs::Complete::complete_answer, orders::specs::Skipping::with_skipped, orders::specs::Skipping::quick_answer, crate::specs::Numbers::complete_numbers))]
+    fn from(quickened: Quickened) -> Complete {
+        match quickened.completed {
+            Ok(filled) => Complete {
+                number: 0,
+                field: 0,
+                rule: 0,
+                set: filled.set,
+                ones: filled.ones,
+                count: filled.count,
+                skipped: quickened.skipped,
+            },
+            Err(Incomplete::Impossible(count)) => Complete {
+                number: u8::from(Refusal::Impossible),
+                field: 0,
+                rule: 0,
+                set: 0,
+                ones: 0,
+                count,
+                skipped: quickened.skipped,
+            },
+            Err(Incomplete::Broken(field, rule)) => Complete {
+                number: u8::from(Refusal::BrokenRule),
+                field: field.0,
+                rule: rule.0,
+                set: 0,
+                ones: 0,
+                count: 0,
+                skipped: 0,
+            },
+            Err(Incomplete::Refused(refusal)) => Complete {
+                number: u8::from(refusal),
+                field: 0,
+                rule: 0,
+                set: 0,
+                ones: 0,
+                count: 0,
+                skipped: 0,
+            },
+        }
+    }
+}
+
 #[repr(C)]
 #[derive(Clone, Copy)]
 pub struct Lines {
@@ -87,11 +230,61 @@ pub struct Lines {
     pub length: usize,
 }
 
+impl From<Result<usize, Rejection>> for Lines {
+    ghost from_gives = { λ v r. r ≡ lines_numbers (written_answer v) };
+
+    #[tactic(auto, unfolding(swift::specs::Promises::written_answer, rules::specs::Verdicts::rejection_answer, crate::specs::Numbers::lines_numbers))]
+    fn from(written: Result<usize, Rejection>) -> Lines {
+        match written {
+            Ok(length) => Lines {
+                number: 0,
+                field: 0,
+                rule: 0,
+                length,
+            },
+            Err(Rejection::Broken(field, rule)) => Lines {
+                number: u8::from(Refusal::BrokenRule),
+                field: field.0,
+                rule: rule.0,
+                length: 0,
+            },
+            Err(Rejection::Refused(refusal)) => Lines {
+                number: u8::from(refusal),
+                field: 0,
+                rule: 0,
+                length: 0,
+            },
+        }
+    }
+}
+
 #[repr(C)]
 #[derive(Clone, Copy)]
 pub struct TakeUp {
     pub number: u8,
     pub field: u8,
+}
+
+impl From<Result<(), Untaken>> for TakeUp {
+    ghost from_gives = { λ v r. r ≡ take_numbers (take_answer v) };
+
+    #[tactic(auto, unfolding(orders::specs::TakeUp::take_answer, crate::specs::Numbers::take_numbers))]
+    fn from(taken: Result<(), Untaken>) -> TakeUp {
+        match taken {
+            Ok(()) => TakeUp {
+                number: 0,
+                field: 0,
+            },
+            Err(Untaken::Unfit(field)) => TakeUp {
+                number: u8::from(Refusal::Unfit),
+                field: field.0,
+            },
+            Err(Untaken::Refused(refusal)) => TakeUp {
+                number: u8::from(refusal),
+                field: 0,
+            },
+        }
+    }
 }
 
 #[repr(C)]
@@ -100,6 +293,36 @@ pub struct Pretest {
     pub number: u8,
     pub field: u8,
     pub rule: u8,
+}
+
+impl From<Result<Option<Named>, Rejection>> for Pretest {
+    ghost from_gives = { λ v r. r ≡ pretest_numbers (pretest_answer v) };
+
+    #[tactic(auto, unfolding(orders::specs::Pretest::pretest_answer, crate::specs::Numbers::pretest_numbers))]
+    fn from(pretested: Result<Option<Named>, Rejection>) -> Pretest {
+        match pretested {
+            Ok(Some(named)) => Pretest {
+                number: 0,
+                field: named.field.0,
+                rule: named.rule.0,
+            },
+            Ok(None) => Pretest {
+                number: 0,
+                field: 0,
+                rule: 0,
+            },
+            Err(Rejection::Broken(field, rule)) => Pretest {
+                number: u8::from(Refusal::BrokenRule),
+                field: field.0,
+                rule: rule.0,
+            },
+            Err(Rejection::Refused(refusal)) => Pretest {
+                number: u8::from(refusal),
+                field: 0,
+                rule: 0,
+            },
+        }
+    }
 }
 
 #[repr(C)]
@@ -111,11 +334,56 @@ pub struct Entry {
     pub second: u8,
 }
 
+impl From<Result<Option<Row>, Refusal>> for Entry {
+    ghost from_gives = { λ v r. r ≡ row_numbers v };
+
+    fn from(listed: Result<Option<Row>, Refusal>) -> Entry {
+        match listed {
+            Ok(Some(row)) => Entry {
+                number: 0,
+                length: row.length,
+                first: row.first,
+                second: row.second,
+            },
+            Ok(None) => Entry {
+                number: 0,
+                length: 0,
+                first: 0,
+                second: 0,
+            },
+            Err(refusal) => Entry {
+                number: u8::from(refusal),
+                length: 0,
+                first: 0,
+                second: 0,
+            },
+        }
+    }
+}
+
 #[repr(C)]
 #[derive(Clone, Copy)]
 pub struct Charge {
     pub number: u8,
     pub kopecks: u64,
+}
+
+impl From<Result<Kopecks, Refusal>> for Charge {
+    ghost from_gives = { λ v r. r ≡ charge_numbers (charge_answer v) };
+
+    #[tactic(auto, unfolding(amounts::specs::Charge::charge_answer, crate::specs::Numbers::charge_numbers))]
+    fn from(charged: Result<Kopecks, Refusal>) -> Charge {
+        match charged {
+            Ok(charged) => Charge {
+                number: 0,
+                kopecks: charged.0,
+            },
+            Err(refusal) => Charge {
+                number: u8::from(refusal),
+                kopecks: 0,
+            },
+        }
+    }
 }
 
 #[repr(C)]
@@ -126,12 +394,57 @@ pub struct Part {
     pub kopecks: u64,
 }
 
+impl From<Result<Portion, Refusal>> for Part {
+    ghost from_gives = { λ v r. r ≡ part_numbers (part_answer v) };
+
+    #[tactic(auto, unfolding(amounts::specs::Part::part_answer, crate::specs::Numbers::part_numbers))]
+    fn from(parted: Result<Portion, Refusal>) -> Part {
+        match parted {
+            Ok(portion) => Part {
+                number: 0,
+                remainder: portion.remainder.0,
+                kopecks: portion.kopecks.0,
+            },
+            Err(refusal) => Part {
+                number: u8::from(refusal),
+                remainder: 0,
+                kopecks: 0,
+            },
+        }
+    }
+}
+
 #[repr(C)]
 #[derive(Clone, Copy)]
 pub struct Pool {
     pub number: u8,
     pub lines: usize,
     pub difference: i64,
+}
+
+impl From<Result<usize, Unpooled>> for Pool {
+    ghost from_gives = { λ v r. r ≡ pool_numbers (pool_answer v) };
+
+    #[tactic(auto, unfolding(registers::specs::Pool::pool_answer, crate::specs::Numbers::pool_numbers))]
+    fn from(pooled: Result<usize, Unpooled>) -> Pool {
+        match pooled {
+            Ok(lines) => Pool {
+                number: 0,
+                lines,
+                difference: 0,
+            },
+            Err(Unpooled::Differs(difference)) => Pool {
+                number: u8::from(Refusal::Differs),
+                lines: 0,
+                difference,
+            },
+            Err(Unpooled::Refused(refusal)) => Pool {
+                number: u8::from(refusal),
+                lines: 0,
+                difference: 0,
+            },
+        }
+    }
 }
 
 #[repr(C)]
@@ -141,6 +454,28 @@ pub struct Leave {
     pub paid: usize,
     pub sum: u64,
     pub left: u64,
+}
+
+impl From<Result<Debited, Refusal>> for Leave {
+    ghost from_gives = { λ v r. r ≡ leave_numbers (leave_answer v) };
+
+    #[tactic(auto, unfolding(payments::specs::Leave::leave_answer, crate::specs::Numbers::leave_numbers))]
+    fn from(left: Result<Debited, Refusal>) -> Leave {
+        match left {
+            Ok(debited) => Leave {
+                number: 0,
+                paid: debited.paid,
+                sum: debited.sum.0,
+                left: debited.left.0,
+            },
+            Err(refusal) => Leave {
+                number: u8::from(refusal),
+                paid: 0,
+                sum: 0,
+                left: 0,
+            },
+        }
+    }
 }
 
 #[repr(C)]
@@ -173,7 +508,7 @@ fn dates_of(date: u32, entries: Record) -> Dates
 
 // The class, as its letter.
 fn letter_of(class: Class) -> u8
-    ensures { result ≡ class_letter class }
+    ensures { result ≡ get_or (class_name class) 0 0 }
 {
     match class {
         Class::A => b'A',
@@ -183,7 +518,9 @@ fn letter_of(class: Class) -> u8
 }
 
 // How a message stands to its slot, as the first letter of the word.
-fn letter_in(standing: Standing) -> u8 {
+fn letter_in(standing: Standing) -> u8
+    ensures { result ≡ get_or (word (Ok standing)) 0 0 }
+{
     match standing {
         Standing::Newer => b'n',
         Standing::Same => b's',
@@ -191,8 +528,10 @@ fn letter_in(standing: Standing) -> u8 {
     }
 }
 
-// 0 for success, which returns nothing else; or the number of a refusal.
-fn number_of(answer: Result<(), Refusal>) -> u8 {
+// 0 where nothing is returned beside success; or the number of a refusal.
+fn number_of(answer: Result<(), Refusal>) -> u8
+    ensures { result ≡ done_number answer }
+{
     match answer {
         Ok(()) => 0,
         Err(refusal) => u8::from(refusal),
@@ -203,26 +542,7 @@ fn number_of(answer: Result<(), Refusal>) -> u8 {
 pub extern "C" fn kieselbrot_check(sheet: &[u8], date: u32, entries: Record) -> Check
     ensures { CheckReturns (dates_of date entries) sheet.now result }
 {
-    match rules::check::check(sheet, dates_of(date, entries)) {
-        Ok(class) => Check {
-            number: 0,
-            field: 0,
-            rule: 0,
-            class: letter_of(class),
-        },
-        Err(Rejection::Broken(field, rule)) => Check {
-            number: u8::from(Refusal::BrokenRule),
-            field: field.0,
-            rule: rule.0,
-            class: 0,
-        },
-        Err(Rejection::Refused(refusal)) => Check {
-            number: u8::from(refusal),
-            field: 0,
-            rule: 0,
-            class: 0,
-        },
-    }
+    Check::from(rules::check::check(sheet, dates_of(date, entries)))
 }
 
 // Bit n of the set for rule n.
@@ -230,16 +550,7 @@ pub extern "C" fn kieselbrot_check(sheet: &[u8], date: u32, entries: Record) -> 
 pub extern "C" fn kieselbrot_broken_rules(sheet: &[u8], date: u32, entries: Record) -> AllBroken
     ensures { BrokenRulesReturns (dates_of date entries) sheet.now result }
 {
-    match rules::all_broken::broken_rules(sheet, dates_of(date, entries)) {
-        Ok(set) => AllBroken {
-            number: 0,
-            rules: set,
-        },
-        Err(refusal) => AllBroken {
-            number: u8::from(refusal),
-            rules: 0,
-        },
-    }
+    AllBroken::from(rules::all_broken::broken_rules(sheet, dates_of(date, entries)))
 }
 
 // The text is `length` bytes of the message from place `text` on.
@@ -289,13 +600,7 @@ pub extern "C" fn kieselbrot_write(
             party: Party(party),
         },
     };
-    match drafts::message::write(heading, text, buffer) {
-        Ok(length) => Write { number: 0, length },
-        Err(refusal) => Write {
-            number: u8::from(refusal),
-            length: 0,
-        },
-    }
+    Write::from(drafts::message::write(heading, text, buffer))
 }
 
 #[unsafe(no_mangle)]
@@ -309,16 +614,7 @@ pub extern "C" fn kieselbrot_fresh(draft: &mut [u8]) -> u8
 pub extern "C" fn kieselbrot_post(draft: &mut [u8], message: &[u8]) -> Post
     ensures { PostReturns draft.old message.now result draft.new }
 {
-    match drafts::draft::post(draft, message) {
-        Ok(standing) => Post {
-            number: 0,
-            standing: letter_in(standing),
-        },
-        Err(refusal) => Post {
-            number: u8::from(refusal),
-            standing: 0,
-        },
-    }
+    Post::from(drafts::draft::post(draft, message))
 }
 
 // The fifteen places hold the numbers of the messages, in the order of the slots.
@@ -346,65 +642,14 @@ pub extern "C" fn kieselbrot_complete(
 ) -> Complete
     ensures { CompleteReturns (dates_of date entries) draft.now sheet.old result sheet.new }
 {
-    let answer = orders::quick::quick(draft, sheet, dates_of(date, entries));
-    match answer.completed {
-        Ok(filled) => Complete {
-            number: 0,
-            field: 0,
-            rule: 0,
-            set: filled.set,
-            ones: filled.ones,
-            count: filled.count,
-            skipped: answer.skipped,
-        },
-        Err(Incomplete::Impossible(count)) => Complete {
-            number: u8::from(Refusal::Impossible),
-            field: 0,
-            rule: 0,
-            set: 0,
-            ones: 0,
-            count,
-            skipped: answer.skipped,
-        },
-        Err(Incomplete::Broken(field, rule)) => Complete {
-            number: u8::from(Refusal::BrokenRule),
-            field: field.0,
-            rule: rule.0,
-            set: 0,
-            ones: 0,
-            count: 0,
-            skipped: 0,
-        },
-        Err(Incomplete::Refused(refusal)) => Complete {
-            number: u8::from(refusal),
-            field: 0,
-            rule: 0,
-            set: 0,
-            ones: 0,
-            count: 0,
-            skipped: 0,
-        },
-    }
+    Complete::from(orders::quick::quick(draft, sheet, dates_of(date, entries)))
 }
 
 #[unsafe(no_mangle)]
 pub extern "C" fn kieselbrot_take_up(draft: &mut [u8], sheet: &[u8], set: u16) -> TakeUp
     ensures { (D : Dates) → TakeUpReturns D draft.old sheet.now set result draft.new }
 {
-    match orders::take_up::take_up(draft, sheet, set) {
-        Ok(()) => TakeUp {
-            number: 0,
-            field: 0,
-        },
-        Err(Untaken::Unfit(field)) => TakeUp {
-            number: u8::from(Refusal::Unfit),
-            field: field.0,
-        },
-        Err(Untaken::Refused(refusal)) => TakeUp {
-            number: u8::from(refusal),
-            field: 0,
-        },
-    }
+    TakeUp::from(orders::take_up::take_up(draft, sheet, set))
 }
 
 // A rule of 0 says that there is none.
@@ -412,28 +657,7 @@ pub extern "C" fn kieselbrot_take_up(draft: &mut [u8], sheet: &[u8], set: u16) -
 pub extern "C" fn kieselbrot_pretest(draft: &[u8]) -> Pretest
     ensures { (D : Dates) → PretestReturns D draft.now result }
 {
-    match orders::pretest::pretest(draft) {
-        Ok(Some(named)) => Pretest {
-            number: 0,
-            field: named.field.0,
-            rule: named.rule.0,
-        },
-        Ok(None) => Pretest {
-            number: 0,
-            field: 0,
-            rule: 0,
-        },
-        Err(Rejection::Broken(field, rule)) => Pretest {
-            number: u8::from(Refusal::BrokenRule),
-            field: field.0,
-            rule: rule.0,
-        },
-        Err(Rejection::Refused(refusal)) => Pretest {
-            number: u8::from(refusal),
-            field: 0,
-            rule: 0,
-        },
-    }
+    Pretest::from(orders::pretest::pretest(draft))
 }
 
 // A length of 0 says that there is none.
@@ -441,26 +665,7 @@ pub extern "C" fn kieselbrot_pretest(draft: &[u8]) -> Pretest
 pub extern "C" fn kieselbrot_entry(field: u8, place: usize, date: u32, entries: Record) -> Entry
     ensures { EntryReturns (dates_of date entries) field place result }
 {
-    match orders::entry::entry(Field(field), place, dates_of(date, entries)) {
-        Ok(Some(row)) => Entry {
-            number: 0,
-            length: row.length,
-            first: row.first,
-            second: row.second,
-        },
-        Ok(None) => Entry {
-            number: 0,
-            length: 0,
-            first: 0,
-            second: 0,
-        },
-        Err(refusal) => Entry {
-            number: u8::from(refusal),
-            length: 0,
-            first: 0,
-            second: 0,
-        },
-    }
+    Entry::from(orders::entry::entry(Field(field), place, dates_of(date, entries)))
 }
 
 #[unsafe(no_mangle)]
@@ -472,26 +677,7 @@ pub extern "C" fn kieselbrot_write_lines(
 ) -> Lines
     ensures { WriteLinesReturns (dates_of date entries) sheet.now buffer.old result buffer.new }
 {
-    match swift::write::write_lines(sheet, dates_of(date, entries), buffer) {
-        Ok(length) => Lines {
-            number: 0,
-            field: 0,
-            rule: 0,
-            length,
-        },
-        Err(Rejection::Broken(field, rule)) => Lines {
-            number: u8::from(Refusal::BrokenRule),
-            field: field.0,
-            rule: rule.0,
-            length: 0,
-        },
-        Err(Rejection::Refused(refusal)) => Lines {
-            number: u8::from(refusal),
-            field: 0,
-            rule: 0,
-            length: 0,
-        },
-    }
+    Lines::from(swift::write::write_lines(sheet, dates_of(date, entries), buffer))
 }
 
 #[unsafe(no_mangle)]
@@ -505,40 +691,19 @@ pub extern "C" fn kieselbrot_read_lines(block: &[u8], sheet: &mut [u8]) -> u8
 pub extern "C" fn kieselbrot_charge(amount: u64, rate: u64, least: u64, greatest: u64) -> Charge
     ensures { ChargeReturns amount rate least greatest result }
 {
-    let answer = amounts::charge::charge(
+    Charge::from(amounts::charge::charge(
         Kopecks(amount),
         Rate(rate),
         Kopecks(least),
         Kopecks(greatest),
-    );
-    match answer {
-        Ok(charged) => Charge {
-            number: 0,
-            kopecks: charged.0,
-        },
-        Err(refusal) => Charge {
-            number: u8::from(refusal),
-            kopecks: 0,
-        },
-    }
+    ))
 }
 
 #[unsafe(no_mangle)]
 pub extern "C" fn kieselbrot_part(amount: u64, days: u32, year: u32) -> Part
     ensures { PartReturns amount days year result }
 {
-    match amounts::part::part(Kopecks(amount), Days(days), Days(year)) {
-        Ok(portion) => Part {
-            number: 0,
-            remainder: portion.remainder.0,
-            kopecks: portion.kopecks.0,
-        },
-        Err(refusal) => Part {
-            number: u8::from(refusal),
-            remainder: 0,
-            kopecks: 0,
-        },
-    }
+    Part::from(amounts::part::part(Kopecks(amount), Days(days), Days(year)))
 }
 
 #[unsafe(no_mangle)]
@@ -557,23 +722,7 @@ pub extern "C" fn kieselbrot_shares(
 pub extern "C" fn kieselbrot_pool(register: &[u8], amount: u64, output: &mut [u8]) -> Pool
     ensures { PoolReturns register.now amount output.old result output.new }
 {
-    match registers::pool::pool(register, Kopecks(amount), output) {
-        Ok(lines) => Pool {
-            number: 0,
-            lines,
-            difference: 0,
-        },
-        Err(Unpooled::Differs(difference)) => Pool {
-            number: u8::from(Refusal::Differs),
-            lines: 0,
-            difference,
-        },
-        Err(Unpooled::Refused(refusal)) => Pool {
-            number: u8::from(refusal),
-            lines: 0,
-            difference: 0,
-        },
-    }
+    Pool::from(registers::pool::pool(register, Kopecks(amount), output))
 }
 
 #[unsafe(no_mangle)]
@@ -586,20 +735,7 @@ pub extern "C" fn kieselbrot_leave(
 ) -> Leave
     ensures { LeaveReturns balance priorities.now arrivals.now amounts.now places.old result places.new }
 {
-    match payments::leave::leave(Kopecks(balance), priorities, arrivals, amounts, places) {
-        Ok(debited) => Leave {
-            number: 0,
-            paid: debited.paid,
-            sum: debited.sum.0,
-            left: debited.left.0,
-        },
-        Err(refusal) => Leave {
-            number: u8::from(refusal),
-            paid: 0,
-            sum: 0,
-            left: 0,
-        },
-    }
+    Leave::from(payments::leave::leave(Kopecks(balance), priorities, arrivals, amounts, places))
 }
 
 // The name of this function is the same in every version: who loads the library can ask before the rest.

@@ -1,13 +1,8 @@
-use borrow.Author.Rules.{rules}
-use Rattle.capi.specs.Numbers.{read_numbers}
-use Rattle.capi.proofs.Numbers.{found-read, read_is}
+use Rattle.capi.proofs.Numbers.{read-found, read-refused}
 use Rattle.capi.proofs.kieselbrot_read.Goals as goal
 
--- each arm by itself, so that the check tells which is wrong
-pub returns-in-Message : goal.returns-in-Message
-unfolding read_numbers
-returns-in-Message c = search (rules, found-read)
+pub returns-in-Ok : goal.returns-in-Ok
+returns-in-Ok c = read-found _ _ c.read.ensures _ c.message_text-text.ensures c.in-Ok.heading c.in-Ok.is _ c.head_size.ensures
 
-pub returns-in-Refused : goal.returns-in-Refused
-unfolding read_numbers
-returns-in-Refused c = search (rules, read_is)
+pub returns-in-Err : goal.returns-in-Err
+returns-in-Err c = read-refused _ _ c.read.ensures _ c.message_text-text.ensures c.in-Err.refusal c.in-Err.is _ c.from.ensures
