@@ -1,57 +1,53 @@
 // A line for each message of an input, which is posted on the way.
 ghost use Rattle.std.specs.Prelude.{◌≡◌, ◌+◌, ◌≤◌, ◌<◌, length};
-ghost use Rattle.texts.specs.Working.Writing.{Wrote};
 ghost use Rattle.drafts.specs.Draft.{fresh_draft, post_answer};
-ghost use Rattle.report.specs.Lines.{item, newline};
 ghost use Rattle.report.specs.Report.{shown, message_line};
+ghost use Rattle.report.specs.Working.Page.{Puts, item_text};
 ghost use Rattle.report.specs.Working.Told.{Told};
 
-use crate::lines::{put_item, put_number};
+use crate::lines::{Item, Page};
 use drafts::draft::{Posted, post};
 use orders::stream::{ends_stream, piece};
-use texts::parts::{part, wide};
+use texts::parts::part;
 
-// "Newer, same, older or the refusal number", and the end of the line.
-fn put_posted(out: &mut [u8], at: usize, posted: Posted) -> usize
-    requires { at + 21 ≤ length out.old }
-    ensures { Wrote out.old at (item (shown (post_answer posted)) newline) result out.new × (result ≤ at + 6) }
+// "Newer, same, older or the refusal number".
+fn shown(posted: Posted) -> Item<'static>
+    ensures { (item_text result ≡ shown (post_answer posted)) × (length (item_text result) ≤ 5) }
 {
     match posted {
-        Posted::Newer => put_item(out, at, b"newer", b'\n'),
-        Posted::Same => put_item(out, at, b"same", b'\n'),
-        Posted::Older => put_item(out, at, b"older", b'\n'),
-        Posted::Refused(refusal) => put_number(out, at, wide(refusal.0), b'\n'),
+        Posted::Newer => Item::Word(b"newer"),
+        Posted::Same => Item::Word(b"same"),
+        Posted::Older => Item::Word(b"older"),
+        Posted::Refused(refusal) => Item::Number(usize::from(refusal.0)),
     }
 }
 
-fn put_message_line(out: &mut [u8], at: usize, number: usize, posted: Posted) -> usize
+fn put_message_line(page: &mut Page<'_>, number: usize, posted: Posted)
     requires number_bound { number < 10000 }
-    requires at_in_bounds { at + 42 ≤ length out.old }
-    ensures { Wrote out.old at (message_line number (post_answer posted)) result out.new × (result ≤ at + 11) }
+    requires in_bounds { page.old.len + 11 ≤ length page.old.buffer.now }
+    ensures { Puts page.old (message_line number (post_answer posted)) page.new × (page.new.len ≤ page.old.len + 11) }
 {
-    let next = put_number(out, at, number, b' ');
-    put_posted(out, next, posted)
+    page.put_line(Item::Number(number), &[shown(posted)]);
 }
 
 // "Per message a line". The draft begins fresh and holds what the messages leave.
-pub(crate) fn put_messages(out: &mut [u8], draft: &mut [u8], input: &[u8]) -> usize
+pub(crate) fn put_messages(page: &mut Page<'_>, draft: &mut [u8], input: &[u8])
     requires draft_value { draft.old ≡ fresh_draft }
     requires input_len_bound { length input.now ≤ 32768 }
-    requires in_bounds { 46080 ≤ length out.old }
-    ensures { Told input.now out.old result draft.new out.new }
+    requires empty { page.old.len ≡ 0 }
+    requires in_bounds { 46080 ≤ length page.old.buffer.now }
+    ensures { Told input.now page.old draft.new page.new }
 {
-    let mut at = 0;
     let mut number = 1;
     let mut from = 0;
     while from < input.len() {
         let message = piece(part(input, from, input.len()));
         let posted = post(draft, message);
-        at = put_message_line(out, at, number, posted);
+        put_message_line(page, number, posted);
         if ends_stream(message) {
-            return at;
+            return;
         }
         number += 1;
         from += message.len();
     }
-    at
 }

@@ -1,6 +1,10 @@
 use native.Mathlib.Omega.{arith}
-use Rattle.report.proofs.Writing.{line_wrote}
+use Rattle.report.proofs.Decimals.{decimal-short}
+use Rattle.report.proofs.Writing.{message-short, message_put}
 use Rattle.report.proofs.messages.put_message_line.Goals as goal
 
+pub put_line-requires : goal.put_line-requires
+put_line-requires c = omega (arith, message-short _ _ c.requires.number_bound c.shown.ensures.1)
+
 pub returns : goal.returns
-returns c = let w = c.put_number-next.ensures in let v = c.put_posted.ensures in line_wrote _ _ _ _ _ _ _ c.args.posted (omega arith) (omega arith) w.0 v.0 v.1
+returns c = message_put _ _ c.requires.number_bound c.shown.ensures.1 _ c.shown.ensures.0 _ _ c.put_line.ensures
