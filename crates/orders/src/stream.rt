@@ -2,8 +2,9 @@
 ghost use Rattle.std.specs.Prelude.{◌≡◌, []};
 ghost use Rattle.drafts.specs.Promises.{Postings};
 ghost use Rattle.orders.specs.Stream.{piece_of, ends_stream, messages_of, Streams};
+ghost use Rattle.orders.specs.Working.Messages.{messages_left};
 
-use crate::complete::{Completed, complete};
+use crate::complete::{Filled, Incomplete, complete};
 use drafts::draft::{DRAFT_SIZE, fresh, post};
 use drafts::message::{Reading, read};
 use sheets::dates::Dates;
@@ -27,19 +28,52 @@ pub fn ends_stream(message: &[u8]) -> bool
     }
 }
 
+// The messages of an input, one after another: what is left of it.
+#[derive(Clone, Copy, Drop)]
+pub struct Messages<'a> {
+    rest: &'a [u8],
+}
+
+impl<'a> Messages<'a> {
+    pub fn of(input: &'a [u8]) -> Messages<'a>
+        ensures { messages_left result ≡ messages_of input.now }
+    {
+        Messages { rest: input }
+    }
+}
+
+impl<'a> Iterator for Messages<'a> {
+    ghost use Rattle.std.specs.Iterator.{YieldsFirstRef, item_count};
+    ghost use Rattle.orders.specs.Working.Messages.{messages_left};
+
+    type Item = &'a [u8];
+
+    ghost next_gives = { YieldsFirstRef messages_left };
+
+    ghost remaining = { item_count messages_left };
+
+    fn next(&mut self) -> Option<&'a [u8]> {
+        if self.rest.is_empty() {
+            return None;
+        }
+        let message = piece(self.rest);
+        let end = if ends_stream(message) {
+            self.rest.len()
+        } else {
+            message.len()
+        };
+        self.rest = part(self.rest, end, self.rest.len());
+        Some(message)
+    }
+}
+
 // Posts the messages of an input one after another.
 fn post_stream(draft: &mut [u8], input: &[u8])
     requires { Postings [] draft.old }
     ensures { Postings (messages_of input.now) draft.new }
 {
-    let mut from = 0;
-    while from < input.len() {
-        let message = piece(part(input, from, input.len()));
+    for message in Messages::of(input) {
         post(draft, message);
-        if ends_stream(message) {
-            return;
-        }
-        from += message.len();
     }
 }
 
@@ -54,7 +88,7 @@ pub fn gather(input: &[u8]) -> [u8; DRAFT_SIZE]
 }
 
 // Demand 3 of an input: its messages are posted to a fresh draft, one after another, and the draft is completed.
-pub fn complete_stream(input: &[u8], sheet: &mut [u8], dates: Dates) -> Completed
+pub fn complete_stream(input: &[u8], sheet: &mut [u8], dates: Dates) -> Result<Filled, Incomplete>
     ensures { Streams dates input.now sheet.old result sheet.new }
 {
     let draft = gather(input);
