@@ -8,6 +8,7 @@ use borrow.Author.Tests.{le-leb, lt-leb, leb-true}
 use lib.Dec.{leb}
 use lib.ListN.{length, take, length-append}
 use lib.Seq.{take_at}
+use Rattle.std.specs.Prelude.{Result, Ok, Err}
 use Rattle.texts.specs.Quoted.{Text, bytes}
 use Rattle.texts.specs.Buffers.{put}
 use Rattle.texts.specs.Working.Writing.{Wrote}
@@ -27,8 +28,9 @@ use Rattle.orders.specs.Complete.{completing, completed, complete_answer}
 use Rattle.orders.specs.Whole.{Completes}
 use Rattle.orders.specs.Requests.R7.{completing_before, completed_before}
 use Rattle.orders.proofs.Dated.{as-before-completed}
-use Rattle.orders.specs.declared.complete.Completed.{Completed}
-use Rattle.orders.specs.declared.complete.Completed.TheVariants.{Filled, Impossible, Broken, Refused}
+use Rattle.orders.specs.declared.complete.Filled.{Filled}
+use Rattle.orders.specs.declared.complete.Incomplete.{Incomplete}
+use Rattle.orders.specs.declared.complete.Incomplete.TheVariants.{Impossible, Broken, Refused}
 use Rattle.report.specs.Lines.{decimal, item, line}
 use Rattle.orders.specs.Stream.{messages_of}
 use Rattle.report.specs.Report.{message_line, field_lines, end_lines, no_sheet, ending, report_from, report_of, reported}
@@ -37,29 +39,63 @@ use Rattle.report.specs.Requests.R7.{report_from_before, report_before}
 use Rattle.report.specs.Working.Told.{Told}
 use Rattle.report.specs.declared.lines.Page.{Page}
 use Rattle.report.specs.Working.Page.{Puts}
-use Rattle.report.proofs.Pages.{puts_as, puts_then}
-use Rattle.report.proofs.Decimals.{decimal-is}
+use Rattle.report.proofs.Pages.{puts_as, puts_then, puts-length}
+use Rattle.report.proofs.Writing.{two-length, three-length, four-length}
+use Rattle.report.proofs.Decimals.{decimal-is, decimal-within}
 
-module _ (d s : List ℕ) (r : Completed) (C : Completes program_dates d no_sheet r s) (p q : Page) where
-  ended : (t : Text) → t ≡ end_lines (complete_answer r) s → Puts p t q → Puts p (ending d) q
-  unfolding ending
-  ended t e w = puts_as p q t (end_lines (completing program_dates d no_sheet) (completed program_dates d no_sheet)) (e ∙ rw (C.answer, C.sheet) refl) w
+-- ---- the lines of the end, and how long they are
 
-  pub end-filled : (n set ones : ℕ) (x : Page) → r ≡ Filled n set ones → Puts p (line (bytes "end") (bytes "ok" ∷ decimal n ∷ [])) x → Puts x (field_lines s slots) q → q.len ≤ length p.buffer.now → Puts p (ending d) q
-  unfolding end_lines complete_answer
-  end-filled n set ones x h w v l = ended _ (rw h refl) (puts_then p x q _ _ w v l)
+pub ok-short : (n : ℕ) → length (line (bytes "end") (bytes "ok" ∷ decimal n ∷ [])) ≤ 28
+ok-short n = omega (arith, three-length (bytes "end") (bytes "ok") (decimal n), decimal-within n)
 
-  pub end-impossible : (n : ℕ) → r ≡ Impossible n → Puts p (line (bytes "end") (decimal 10 ∷ decimal n ∷ [])) q → Puts p (ending d) q
-  unfolding end_lines complete_answer
-  end-impossible n h w = ended _ (rw h refl) w
+pub refused-short : (n : ℕ) → length (line (bytes "end") (decimal n ∷ [])) ≤ 733
+refused-short n = omega (arith, two-length (bytes "end") (decimal n), decimal-within n)
 
-  pub end-broken : (f : Field) (u : RuleNumber) (m n : ℕ) → r ≡ Broken f u → m ≡ f.0 → n ≡ u.0 → Puts p (line (bytes "end") (decimal 8 ∷ decimal m ∷ decimal n ∷ [])) q → Puts p (ending d) q
-  unfolding end_lines complete_answer
-  end-broken f u m n h hm hn w = ended _ (rw (h, hm, hn) refl) w
+pub impossible-short : (m n : ℕ) → length (line (bytes "end") (decimal m ∷ decimal n ∷ [])) ≤ 733
+impossible-short m n = omega (arith, three-length (bytes "end") (decimal m) (decimal n), decimal-within m, decimal-within n)
 
-  pub end_refused : (n : Refusal) (m : ℕ) → r ≡ Refused n → m ≡ n.0 → Puts p (line (bytes "end") (decimal m ∷ [])) q → Puts p (ending d) q
-  unfolding end_lines complete_answer
-  end_refused n m h hm w = ended _ (rw (h, hm) refl) w
+pub broken-short : (k m n : ℕ) → length (line (bytes "end") (decimal k ∷ decimal m ∷ decimal n ∷ [])) ≤ 733
+broken-short k m n = omega (arith, four-length (bytes "end") (decimal k) (decimal m) (decimal n), decimal-within k, decimal-within m, decimal-within n)
+
+module _ (p : Page) (l : p.len + 733 ≤ length p.buffer.now) where
+  pub end-room : (t : Text) → length t ≤ 733 → p.len + length t ≤ length p.buffer.now
+  end-room t h = omega arith
+
+  pub ok-line : (n : ℕ) → p.len + length (line (bytes "end") (bytes "ok" ∷ decimal n ∷ [])) ≤ length p.buffer.now
+  ok-line n = omega (arith, ok-short n)
+
+  module _ (x : Page) (n : ℕ) (w : Puts p (line (bytes "end") (bytes "ok" ∷ decimal n ∷ [])) x) where
+    pub ok-room : x.len + 705 ≤ length x.buffer.now
+    ok-room = omega (arith, w.wrote.1, ok-short n, puts-length p x _ w (omega (arith, w.wrote.1, ok-short n)))
+
+  -- completing the draft answered r and left the sheet s
+  module _ (d s : List ℕ) (r : Result Filled Incomplete) (C : Completes program_dates d no_sheet r s) (q : Page) where
+    ended : (t : Text) → t ≡ end_lines (complete_answer r) s → Puts p t q → length t ≤ 733 → Puts p (ending d) q × (q.len ≤ p.len + 733)
+    unfolding ending
+    ended t e w h = (
+      puts_as p q t (end_lines (completing program_dates d no_sheet) (completed program_dates d no_sheet)) (e ∙ rw (C.answer, C.sheet) refl) w,
+      omega (arith, w.wrote.1),
+    )
+
+    pub end-filled : (f : Filled) (n : ℕ) (x : Page) → r ≡ Ok f → n ≡ f.count → Puts p (line (bytes "end") (bytes "ok" ∷ decimal n ∷ [])) x → Puts x (field_lines s slots) q → q.len ≤ x.len + 705 → Puts p (ending d) q × (q.len ≤ p.len + 733)
+    unfolding end_lines complete_answer
+    end-filled f n x h hn w v k =
+        let t = line (bytes "end") (bytes "ok" ∷ decimal n ∷ []) in
+        ended (t ++ field_lines s slots) (rw (h, hn) refl) (puts_then p x q t (field_lines s slots) w v (omega (arith, w.wrote.1, ok-short n)))
+        (omega (arith, w.wrote.1, v.wrote.1, ok-short n, length-append t (field_lines s slots)))
+
+    module _ (e : Incomplete) (h : r ≡ Err e) where
+      pub end-impossible : (n m : ℕ) → e ≡ Impossible n → m ≡ n → Puts p (line (bytes "end") (decimal 10 ∷ decimal m ∷ [])) q → Puts p (ending d) q × (q.len ≤ p.len + 733)
+      unfolding end_lines complete_answer
+      end-impossible n m he hm w = ended _ (rw (h, he, hm) refl) w (impossible-short 10 m)
+
+      pub end-broken : (f : Field) (u : RuleNumber) (m n : ℕ) → e ≡ Broken f u → m ≡ f.0 → n ≡ u.0 → Puts p (line (bytes "end") (decimal 8 ∷ decimal m ∷ decimal n ∷ [])) q → Puts p (ending d) q × (q.len ≤ p.len + 733)
+      unfolding end_lines complete_answer
+      end-broken f u m n he hm hn w = ended _ (rw (h, he, hm, hn) refl) w (broken-short 8 m n)
+
+      pub end_refused : (n : Refusal) (m : ℕ) → e ≡ Refused n → m ≡ n.0 → Puts p (line (bytes "end") (decimal m ∷ [])) q → Puts p (ending d) q × (q.len ≤ p.len + 733)
+      unfolding end_lines complete_answer
+      end_refused n m he hm w = ended _ (rw (h, he, hm) refl) w (refused-short m)
 
 -- ---- R-7: the report is the one before
 

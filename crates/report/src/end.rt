@@ -9,7 +9,7 @@ ghost use Rattle.report.specs.Report.{field_line, field_lines, ending};
 ghost use Rattle.report.specs.Working.Page.{Puts};
 
 use crate::lines::{Item, Page};
-use orders::complete::{Completed, complete};
+use orders::complete::{Filled, Incomplete, complete};
 use sheets::dates::program_dates;
 use sheets::sheet::{SHEET_SIZE, SLOT_COUNT, field_in, text};
 
@@ -43,7 +43,7 @@ fn put_fields(page: &mut Page<'_>, sheet: &[u8])
 }
 
 // At the program's dates (R-7).
-fn complete_draft(draft: &[u8], sheet: &mut [u8]) -> Completed
+fn complete_draft(draft: &[u8], sheet: &mut [u8]) -> Result<Filled, Incomplete>
     ensures { Completes program_dates draft.now sheet.old result sheet.new }
 {
     complete(draft, sheet, program_dates())
@@ -57,14 +57,14 @@ pub(crate) fn put_end(page: &mut Page<'_>, draft: &[u8])
     let end = Item::Word(b"end");
     let mut sheet = [0u8; SHEET_SIZE];
     match complete_draft(draft, &mut sheet) {
-        Completed::Filled { count, .. } => {
+        Ok(Filled { count, .. }) => {
             page.put_line(end, &[Item::Word(b"ok"), Item::Number(count)]);
             put_fields(page, &sheet);
         }
-        Completed::Impossible(count) => {
+        Err(Incomplete::Impossible(count)) => {
             page.put_line(end, &[Item::Number(10), Item::Number(count)]);
         }
-        Completed::Broken(field, rule) => page.put_line(
+        Err(Incomplete::Broken(field, rule)) => page.put_line(
             end,
             &[
                 Item::Number(8),
@@ -72,7 +72,7 @@ pub(crate) fn put_end(page: &mut Page<'_>, draft: &[u8])
                 Item::Number(usize::from(rule.0)),
             ],
         ),
-        Completed::Refused(refusal) => {
+        Err(Incomplete::Refused(refusal)) => {
             page.put_line(end, &[Item::Number(usize::from(refusal.0))]);
         }
     }

@@ -7,8 +7,7 @@ ghost use Rattle.report.specs.Working.Told.{Told};
 
 use crate::lines::{Item, Page};
 use drafts::draft::{Posted, post};
-use orders::stream::{ends_stream, piece};
-use texts::parts::part;
+use orders::stream::Messages;
 
 // "Newer, same, older or the refusal number".
 fn shown(posted: Posted) -> Item<'static>
@@ -38,16 +37,7 @@ pub(crate) fn put_messages(page: &mut Page<'_>, draft: &mut [u8], input: &[u8])
     requires in_bounds { 46080 ≤ length page.old.buffer.now }
     ensures { Told input.now page.old draft.new page.new }
 {
-    let mut number = 1;
-    let mut from = 0;
-    while from < input.len() {
-        let message = piece(part(input, from, input.len()));
-        let posted = post(draft, message);
-        put_message_line(page, number, posted);
-        if ends_stream(message) {
-            return;
-        }
-        number += 1;
-        from += message.len();
+    for (index, message) in Messages::of(input).enumerate() {
+        put_message_line(page, index + 1, post(draft, message));
     }
 }
