@@ -5,7 +5,7 @@ ghost use Rattle.texts.specs.Texts.{blank};
 ghost use Rattle.sheets.specs.Sheet.{slots, text_of};
 ghost use Rattle.sheets.specs.Dates.{program_dates};
 ghost use Rattle.orders.specs.Whole.{Completes};
-ghost use Rattle.report.specs.Report.{field_line, field_lines, ending};
+ghost use Rattle.report.specs.Report.{field_lines, ending};
 ghost use Rattle.report.specs.Working.Page.{Puts};
 
 use crate::lines::{Item, Page};
@@ -21,24 +21,16 @@ fn shown(sheet: &[u8], slot: u8) -> &[u8]
     if shown.is_empty() { b"-" } else { shown }
 }
 
-// "Field number, a space and the sheet's text".
-fn put_field(page: &mut Page<'_>, sheet: &[u8], slot: u8)
-    requires { page.old.len + 47 ≤ length page.old.buffer.now }
-    ensures { Puts page.old (field_line sheet.now slot) page.new × (page.new.len ≤ page.old.len + 47) }
-{
-    page.put_line(
-        Item::Number(usize::from(field_in(slot).0)),
-        &[Item::Word(shown(sheet, slot))],
-    );
-}
-
-// "15 lines .. in slot order".
+// "15 lines .. in slot order": "field number, a space and the sheet's text".
 fn put_fields(page: &mut Page<'_>, sheet: &[u8])
     requires { page.old.len + 705 ≤ length page.old.buffer.now }
     ensures { Puts page.old (field_lines sheet.now slots) page.new × (page.new.len ≤ page.old.len + 705) }
 {
     for slot in 0..SLOT_COUNT {
-        put_field(page, sheet, slot);
+        page.put_line(
+            Item::Number(usize::from(field_in(slot).0)),
+            &[Item::Word(shown(sheet, slot))],
+        );
     }
 }
 

@@ -1,8 +1,8 @@
 // A line for each message of an input, which is posted on the way.
-ghost use Rattle.std.specs.Prelude.{◌≡◌, ◌+◌, ◌≤◌, ◌<◌, length};
+ghost use Rattle.std.specs.Prelude.{◌≡◌, ◌≤◌, length};
 ghost use Rattle.drafts.specs.Draft.{fresh_draft, post_answer};
-ghost use Rattle.report.specs.Report.{shown, message_line};
-ghost use Rattle.report.specs.Working.Page.{Puts, item_text};
+ghost use Rattle.report.specs.Report.{shown};
+ghost use Rattle.report.specs.Working.Page.{item_text};
 ghost use Rattle.report.specs.Working.Told.{Told};
 
 use crate::lines::{Item, Page};
@@ -21,14 +21,6 @@ fn shown(posted: Posted) -> Item<'static>
     }
 }
 
-fn put_message_line(page: &mut Page<'_>, number: usize, posted: Posted)
-    requires number_bound { number < 10000 }
-    requires in_bounds { page.old.len + 11 ≤ length page.old.buffer.now }
-    ensures { Puts page.old (message_line number (post_answer posted)) page.new × (page.new.len ≤ page.old.len + 11) }
-{
-    page.put_line(Item::Number(number), &[shown(posted)]);
-}
-
 // "Per message a line". The draft begins fresh and holds what the messages leave.
 pub(crate) fn put_messages(page: &mut Page<'_>, draft: &mut [u8], input: &[u8])
     requires draft_value { draft.old ≡ fresh_draft }
@@ -38,6 +30,7 @@ pub(crate) fn put_messages(page: &mut Page<'_>, draft: &mut [u8], input: &[u8])
     ensures { Told input.now page.old draft.new page.new }
 {
     for (index, message) in Messages::of(input).enumerate() {
-        put_message_line(page, index + 1, post(draft, message));
+        let answer = shown(post(draft, message));
+        page.put_line(Item::Number(index + 1), &[answer]);
     }
 }

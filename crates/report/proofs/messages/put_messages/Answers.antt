@@ -1,8 +1,10 @@
 use mathlib.Core.Path.{ap, ◌∙◌}
 use mathlib.Core.Logic.{inl}
+use Prim.Native.Nat.{◌+◌}
 use native.Mathlib.Omega.{arith}
 use Rattle.orders.specs.Working.Messages.{messages_left}
 use Rattle.report.proofs.Telling.{telling-none, telling-number, telling-room, telling-next, telling-done, telling-fits}
+use Rattle.report.proofs.Writing.{message-short, message_put}
 use Rattle.report.proofs.messages.put_messages.Goals as goal
 
 pub loop-index-init : goal.loop-index-init
@@ -16,22 +18,22 @@ loop-index-init c =
     in
     ((tt, tt, inl (telling-fits _ _ r.input_len_bound r.in_bounds r.empty _ _ _ _ t)), tt, t)
 
-pub put_message_line-requires-clause-number_bound : goal.put_message_line-requires-clause-number_bound
-put_message_line-requires-clause-number_bound c =
+pub put_line-requires : goal.put_line-requires
+put_line-requires c =
     let r = c.requires in
     let s = c.in-Some.ensures.steps in
-    omega (arith, s.1, telling-number _ _ r.input_len_bound r.in_bounds r.empty _ _ _ _ c.loop-index.invariant.2 _ _ s.0)
-
-pub put_message_line-requires-clause-in_bounds : goal.put_message_line-requires-clause-in_bounds
-put_message_line-requires-clause-in_bounds c =
-    let r = c.requires in telling-room _ _ r.input_len_bound r.in_bounds r.empty _ _ _ _ c.loop-index.invariant.2 _ _ c.in-Some.ensures.steps.0
+    let i = c.loop-index.invariant.2 in
+    let n = telling-number _ _ r.input_len_bound r.in_bounds r.empty _ _ _ _ i _ _ s.0 in
+    omega (arith, telling-room _ _ r.input_len_bound r.in_bounds r.empty _ _ _ _ i _ _ s.0, message-short (c.in-Some.index + 1) _ (omega (arith, s.1, n)) c.shown-answer.ensures.1)
 
 pub loop-index-preserved : goal.loop-index-preserved
 loop-index-preserved c =
     let r = c.requires in
     let s = c.in-Some.ensures.steps in
-    let w = c.put_message_line.ensures in
-    let t = telling-next _ _ r.input_len_bound r.in_bounds r.empty _ _ _ _ c.loop-index.invariant.2 _ _ s.0 _ _ _ _ _ s.1 s.2 c.post.ensures w.0 w.1 in
+    let i = c.loop-index.invariant.2 in
+    let n = telling-number _ _ r.input_len_bound r.in_bounds r.empty _ _ _ _ i _ _ s.0 in
+    let w = message_put (c.in-Some.index + 1) _ (omega (arith, s.1, n)) c.shown-answer.ensures.1 _ c.shown-answer.ensures.0 _ _ c.put_line.ensures in
+    let t = telling-next _ _ r.input_len_bound r.in_bounds r.empty _ _ _ _ i _ _ s.0 _ _ _ _ _ s.1 s.2 c.post.ensures w.0 w.1 in
     ((tt, tt, inl (telling-fits _ _ r.input_len_bound r.in_bounds r.empty _ _ _ _ t)), tt, t)
 
 pub returns : goal.returns
