@@ -56,11 +56,15 @@ few i = few-in (length i) i (omega arith)
 
 -- ---- the lines
 
+-- the number of the message behind k others
+abbrev pub number : ℕ → ℕ
+number k = k + 1
+
 -- k messages of i are told on the page p, which left it as q; the draft that they leave is d, and the others are left
 pub record Telling (i : List ℕ) (p : Page) (k : ℕ) (left : List (List ℕ)) (d : List ℕ) (q : Page) : Type 0 where
   pub text : Text
   pub puts : Puts p text q
-  pub rest : text ++ report_from (k + 1) d left ≡ report_of i
+  pub rest : text ++ report_from (number k) d left ≡ report_of i
   pub short : q.len ≤ p.len + 11 * k
   pub count : k + length left ≡ length (messages_of i)
 
@@ -85,12 +89,12 @@ module _ (i : List ℕ) (p : Page) (il : length i ≤ 32768) (bl : 46080 ≤ len
     telling-done e = record {
       text = T.text;
       puts = T.puts;
-      rest = ap (λ (ms : List (List ℕ)). T.text ++ report_from (k + 1) d ms) (sym e) ∙ T.rest;
+      rest = ap (λ (ms : List (List ℕ)). T.text ++ report_from (number k) d ms) (sym e) ∙ T.rest;
       short = omega (arith, few i, T.count, T.short);
     }
 
     module _ (m : List ℕ) (after : List (List ℕ)) (e : left ≡ m ∷ after) where
-      pub telling-number : k + 1 < 10000
+      pub telling-number : number k < 10000
       telling-number = omega (arith, few i, T.count, ap length e)
 
       pub telling-room : q.len + 11 ≤ length q.buffer.now
@@ -98,18 +102,18 @@ module _ (i : List ℕ) (p : Page) (il : length i ≤ 32768) (bl : 46080 ≤ len
           let s = puts-length p q T.text T.puts (omega (arith, few i, T.count, T.short, ap length e)) in
           omega (arith, few i, T.count, T.short, ap length e)
 
-      pub telling-next : (j n : ℕ) (r : Posted) (d' : List ℕ) (x : Page) → j ≡ k → n ≡ k + 1 → Posts d m r d' → Puts q (message_line (j + 1) (post_answer r)) x → x.len ≤ q.len + 11 → Telling i p n after d' x
+      pub telling-next : (j n : ℕ) (r : Posted) (d' : List ℕ) (x : Page) → j ≡ k → n ≡ k + 1 → Posts d m r d' → Puts q (message_line (number j) (post_answer r)) x → x.len ≤ q.len + 11 → Telling i p n after d' x
       unfolding report_from
       telling-next j n r d' x ej en P w u =
-          let line = message_line (k + 1) (post_answer r) in
-          let s : n + 1 ≡ suc (k + 1) = omega arith in
+          let line = message_line (number k) (post_answer r) in
+          let s : number n ≡ suc (number k) = omega arith in
           record {
             text = T.text ++ line;
-            puts = puts_then p q x T.text line T.puts (puts_as q x _ line (ap (λ (a : ℕ). message_line (a + 1) (post_answer r)) ej) w) (omega (arith, few i, T.count, T.short, ap length e));
+            puts = puts_then p q x T.text line T.puts (puts_as q x _ line (ap (λ (a : ℕ). message_line (number a) (post_answer r)) ej) w) (omega (arith, few i, T.count, T.short, ap length e));
             rest =
-                append_assoc T.text line (report_from (n + 1) d' after)
-                ∙ (λ z. T.text ++ (message_line (k + 1) (P.answer z) ++ report_from (s z) (P.draft z) after))
-                ∙ ap (λ (ms : List (List ℕ)). T.text ++ report_from (k + 1) d ms) (sym e)
+                append_assoc T.text line (report_from (number n) d' after)
+                ∙ (λ z. T.text ++ (message_line (number k) (P.answer z) ++ report_from (s z) (P.draft z) after))
+                ∙ ap (λ (ms : List (List ℕ)). T.text ++ report_from (number k) d ms) (sym e)
                 ∙ T.rest;
             short = omega (arith, T.short);
             count = omega (arith, T.count, ap length e);

@@ -1,9 +1,8 @@
 use mathlib.Core.Path.{ap, ◌∙◌}
 use mathlib.Core.Logic.{inl}
-use Prim.Native.Nat.{◌+◌}
 use native.Mathlib.Omega.{arith}
 use Rattle.orders.specs.Working.Messages.{messages_left}
-use Rattle.report.proofs.Telling.{telling-none, telling-number, telling-room, telling-next, telling-done, telling-fits}
+use Rattle.report.proofs.Telling.{number, telling-none, telling-number, telling-room, telling-next, telling-done, telling-fits}
 use Rattle.report.proofs.Writing.{message-short, message_put}
 use Rattle.report.proofs.messages.put_messages.Goals as goal
 
@@ -24,7 +23,7 @@ put_line-requires c =
     let s = c.in-Some.ensures.steps in
     let i = c.loop-index.invariant.2 in
     let n = telling-number _ _ r.input_len_bound r.in_bounds r.empty _ _ _ _ i _ _ s.0 in
-    omega (arith, telling-room _ _ r.input_len_bound r.in_bounds r.empty _ _ _ _ i _ _ s.0, message-short (c.in-Some.index + 1) _ (omega (arith, s.1, n)) c.shown-answer.ensures.1)
+    omega (arith, telling-room _ _ r.input_len_bound r.in_bounds r.empty _ _ _ _ i _ _ s.0, message-short (number c.in-Some.index) _ (omega (arith, s.1, n)) c.shown-answer.ensures.1)
 
 pub loop-index-preserved : goal.loop-index-preserved
 loop-index-preserved c =
@@ -32,7 +31,7 @@ loop-index-preserved c =
     let s = c.in-Some.ensures.steps in
     let i = c.loop-index.invariant.2 in
     let n = telling-number _ _ r.input_len_bound r.in_bounds r.empty _ _ _ _ i _ _ s.0 in
-    let w = message_put (c.in-Some.index + 1) _ (omega (arith, s.1, n)) c.shown-answer.ensures.1 _ c.shown-answer.ensures.0 _ _ c.put_line.ensures in
+    let w = message_put (number c.in-Some.index) _ (omega (arith, s.1, n)) c.shown-answer.ensures.1 _ c.shown-answer.ensures.0 _ _ c.put_line.ensures in
     let t = telling-next _ _ r.input_len_bound r.in_bounds r.empty _ _ _ _ i _ _ s.0 _ _ _ _ _ s.1 s.2 c.post.ensures w.0 w.1 in
     ((tt, tt, inl (telling-fits _ _ r.input_len_bound r.in_bounds r.empty _ _ _ _ t)), tt, t)
 
