@@ -1,12 +1,13 @@
 -- What `quick` and `pretest` begin with, and what `quick` completes to.
 use mathlib.Core.Path.{◌≡◌, refl, sym, ap, ◌∙◌, subst}
-use mathlib.Core.Bool.{Bool, true, false, not, cond}
+use mathlib.Core.Bool.{Bool, true, false, cond}
 use mathlib.Core.List.{List, [], ◌∷◌}
 use Prim.Native.Nat.{ℕ}
 use native.Mathlib.Omega.{arith}
-use borrow.Author.Tests.{ne_eqb, not-false}
+use borrow.Author.Tests.{ne_eqb}
 use lib.Count.{ones}
 use lib.ListN.{length}
+use Rattle.texts.specs.declared.answers.Refusal.TheVariants.{NotBudget}
 use Rattle.texts.specs.Texts.{every}
 use Rattle.texts.specs.Answers.{refusal}
 use Rattle.texts.specs.Working.Writing.{put_at}
@@ -27,7 +28,7 @@ use Rattle.sheets.specs.declared.dates.Dates.{Dates}
 use Rattle.fillings.specs.Fillings.{Look, found, none}
 use Rattle.fillings.specs.Working.Parts.{map_look}
 use Rattle.orders.specs.Fillings.{first_filling, set_of}
-use Rattle.orders.specs.Working.Search.{Payment, first_pick}
+use Rattle.orders.specs.Working.Search.{first_pick}
 use Rattle.orders.specs.Working.Found.{pick_of}
 use Rattle.orders.specs.Working.Entering.{base_of, picked_of}
 use Rattle.orders.specs.Complete.{budget_payment, complete_answer, counted, sheet_in, sheet_tests, complete_tests, completing, completed}
@@ -105,9 +106,9 @@ module _ {D : Dates} {d u : List ℕ} (b : List ℕ) (E : (length b ≡ sheet_si
   unfolding complete_answer complete_tests sheet_tests
   broken-8 f g y h j = complete-out 3 D d b (Err (Broken f g)) b (rw B.formed) (rw E.0) (rw E.1) (rw (first-at D B h D, ne_eqb g.0 0 y)) (beside-8 D B h D f.0 j) refl
 
-  pub refused-9 : first_broken D u basic ≡ 0 → budget u ≡ false → Completes D d b (Err (Refused (record { 0 = 9 }))) b
+  pub refused-9 : first_broken D u basic ≡ 0 → budget u ≡ false → Completes D d b (Err (Refused NotBudget)) b
   unfolding complete_answer complete_tests sheet_tests
-  refused-9 h r = complete-out 4 D d b (Err (Refused (record { 0 = 9 }))) b (rw B.formed) (rw E.0) (rw E.1) (rw (first-at D B h D)) (rw (class-is D B false r)) refl refl
+  refused-9 h r = complete-out 4 D d b (Err (Refused NotBudget)) b (rw B.formed) (rw E.0) (rw E.1) (rw (first-at D B h D)) (rw (class-is D B false r)) refl refl
 
 -- the facts are a payment's
 module _ {D : Dates} {d u : List ℕ} {n : ℕ} (z : n ≡ sheet_size) (g : true ≡ dates_fit D) (B : Prepared d u) where

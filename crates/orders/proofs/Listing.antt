@@ -7,12 +7,13 @@ use native.Mathlib.Omega.{arith}
 use borrow.Author.Tests.{leb-true, eq-eqb, ne_eqb, not-true, not-false}
 use lib.Dec.{leb}
 use lib.ListN.{length, get_or}
+use Rattle.texts.specs.Refusals.{refusal_number}
+use Rattle.texts.specs.declared.answers.Refusal.TheVariants.{Undated, UnknownField}
 use Rattle.texts.specs.Quoted.{Text, words}
 use Rattle.texts.specs.Texts.{every, any, same}
 use Rattle.texts.proofs.Bools.{both}
 use Rattle.texts.specs.Answers.{success}
 use Rattle.sheets.specs.Sheet.{slot_count, slot_of, text_max}
-use Rattle.sheets.specs.Lists.{basis_texts, zero_texts}
 use Rattle.sheets.specs.Dates.{dates_fit, texts_in, status_texts, force_of}
 use Rattle.sheets.specs.Working.Entries.{row_of}
 use Rattle.sheets.specs.declared.dates.Dates.{Dates}
@@ -100,7 +101,7 @@ row-text (a ∷ (b ∷ (c ∷ t))) l = absurd (omega arith)
 kind : Result (Option Row) Refusal → ℕ
 kind (Ok (Some r)) = 0
 kind (Ok None) = 1
-kind (Err n) = suc (suc n.0)
+kind (Err n) = suc (suc (refusal_number n))
 
 empty : (t : Text) → length t ≡ 0 → t ≡ []
 empty [] e = refl
@@ -114,7 +115,7 @@ entry-same : (r s : Row) → ◌≡◌ {A = Result (Option Row) Refusal} (Ok (So
 entry-same r s e = cc
 
 module _ (D : Dates) (f k : ℕ) (w : Bool) (h : w ≡ dates_fit D) where
-  pub entry-undated : not w ≡ true → Lists D f k (Err (record { 0 = 12 }))
+  pub entry-undated : not w ≡ true → Lists D f k (Err Undated)
   unfolding kind listing entry_tests entry_answer
   entry-undated e =
       let n : dates_fit D ≡ false = sym h ∙ not-true w e in
@@ -130,7 +131,7 @@ module _ (D : Dates) (f k : ℕ) (w : Bool) (h : w ≡ dates_fit D) where
     fit : dates_fit D ≡ true
     fit = sym h ∙ not-false w g
 
-    pub entry-unlisted : s ≡ slot_count → Lists D f k (Err (record { 0 = 4 }))
+    pub entry-unlisted : s ≡ slot_count → Lists D f k (Err UnknownField)
     unfolding kind listing entry_tests entry_answer
     entry-unlisted e =
         record {

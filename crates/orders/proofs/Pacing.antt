@@ -33,7 +33,6 @@ use Rattle.orders.specs.Working.Search.{passes_at, picks, first_pick, Payment}
 use Rattle.orders.specs.Working.Quick.{with_status, early_rules, skips, rest_picks}
 use Rattle.orders.specs.Working.Found.{found_by, found_of, pace_of}
 use Rattle.orders.specs.declared.search.Pace.{Pace}
-use Rattle.orders.specs.declared.search.Found.{Found}
 use Rattle.std.specs.Prelude.{None}
 use Rattle.orders.proofs.Keeping.{picks-fit, filled-alike, status-alike, later_entries}
 use Rattle.orders.proofs.Linking.{length-picks}

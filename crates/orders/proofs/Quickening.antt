@@ -1,11 +1,12 @@
 -- R-14: the ways through `quick`.
 use mathlib.Core.Path.{◌≡◌, refl, sym, ap, ◌∙◌, subst}
-use mathlib.Core.Bool.{Bool, true, false, not}
+use mathlib.Core.Bool.{Bool, true, false}
 use mathlib.Core.List.{List, [], ◌∷◌}
 use Prim.Native.Nat.{ℕ, ◌+◌}
 use native.Mathlib.Omega.{arith}
 use lib.Count.{ones}
 use lib.ListN.{length, get_or}
+use Rattle.texts.specs.declared.answers.Refusal.TheVariants.{Malformed, Undated, WrongSize}
 use Rattle.texts.specs.Texts.{blank}
 use Rattle.texts.specs.Working.Writing.{put_at}
 use Rattle.texts.specs.declared.answers.Refusal.{Refusal}
@@ -14,8 +15,6 @@ use Rattle.sheets.specs.Dates.{dates_fit, status_count}
 use Rattle.sheets.specs.declared.dates.Dates.{Dates}
 use Rattle.sheets.specs.declared.facts.Facts.{Facts}
 use Rattle.sheets.specs.declared.sheet.Field.{Field}
-use Rattle.sheets.specs.Working.Facts.{Read}
-use Rattle.rules.specs.Rules.{budget}
 use Rattle.rules.specs.declared.rules.RuleNumber.{RuleNumber}
 use Rattle.drafts.specs.Draft.{draft_formed, draft_sheet}
 use Rattle.fillings.specs.Fillings.{width, Look, found, none}
@@ -34,8 +33,8 @@ use Rattle.orders.specs.declared.search.Found.{Found}
 use Rattle.orders.specs.declared.complete.Incomplete.TheVariants.{Impossible, Broken, Refused}
 use Rattle.orders.specs.Working.Paying.{Pays, Payable, Ready, incomplete_by}
 use Rattle.orders.specs.declared.complete.Incomplete.{Incomplete}
-use Rattle.orders.specs.declared.pretest.Rejection.{Rejection}
-use Rattle.orders.specs.declared.pretest.Rejection.TheVariants.{Broken as RejectBroken, Refused as RejectRefused}
+use Rattle.rules.specs.declared.check.Rejection.{Rejection}
+use Rattle.rules.specs.declared.check.Rejection.TheVariants.{Broken as RejectBroken, Refused as RejectRefused}
 use Rattle.orders.specs.Complete.{complete_tests}
 use borrow.Author.Tests.{eq-eqb, ne_eqb}
 use Rattle.orders.proofs.Completing.{Prepared, base-sized, complete-out, broken-8, refused-9, size-of, refused-10, filled-first}
@@ -70,19 +69,19 @@ module _ {D : Dates} {d b t : List ℕ} where
 
 -- the ways out of `ready`, into a buffer of n bytes
 module _ (D : Dates) (d : List ℕ) (n : ℕ) where
-  pub ready-1 : false ≡ draft_formed d → (b : List ℕ) → length b ≡ n → Quickens D d b (record { completed = Err (Refused (record { 0 = 1 })); skipped = 0 }) b
+  pub ready-1 : false ≡ draft_formed d → (b : List ℕ) → length b ≡ n → Quickens D d b (record { completed = Err (Refused Malformed); skipped = 0 }) b
   unfolding complete_answer complete_tests
-  ready-1 f b l = quick-refused (complete-out 0 D d b (Err (Refused (record { 0 = 1 }))) b (rw (← f) refl) refl refl)
+  ready-1 f b l = quick-refused (complete-out 0 D d b (Err (Refused Malformed)) b (rw (← f) refl) refl refl)
 
   module _ (f : true ≡ draft_formed d) where
-    pub ready-7 : (n ≡ sheet_size → ⊥) → (b : List ℕ) → length b ≡ n → Quickens D d b (record { completed = Err (Refused (record { 0 = 7 })); skipped = 0 }) b
+    pub ready-7 : (n ≡ sheet_size → ⊥) → (b : List ℕ) → length b ≡ n → Quickens D d b (record { completed = Err (Refused WrongSize); skipped = 0 }) b
     unfolding complete_answer complete_tests
-    ready-7 z b l = quick-refused (complete-out 1 D d b (Err (Refused (record { 0 = 7 }))) b (rw (← f) refl) (rw (ne_eqb (length b) sheet_size (λ e. z (sym l ∙ e))) refl) refl refl)
+    ready-7 z b l = quick-refused (complete-out 1 D d b (Err (Refused WrongSize)) b (rw (← f) refl) (rw (ne_eqb (length b) sheet_size (λ e. z (sym l ∙ e))) refl) refl refl)
 
     module _ (z : n ≡ sheet_size) where
-      pub ready-12 : false ≡ dates_fit D → (b : List ℕ) → length b ≡ n → Quickens D d b (record { completed = Err (Refused (record { 0 = 12 })); skipped = 0 }) b
+      pub ready-12 : false ≡ dates_fit D → (b : List ℕ) → length b ≡ n → Quickens D d b (record { completed = Err (Refused Undated); skipped = 0 }) b
       unfolding complete_answer complete_tests
-      ready-12 g b l = quick-refused (complete-out 2 D d b (Err (Refused (record { 0 = 12 }))) b (rw (← f) refl) (rw (eq-eqb (length b) sheet_size (l ∙ z)) refl) (rw (← g) refl) refl refl)
+      ready-12 g b l = quick-refused (complete-out 2 D d b (Err (Refused Undated)) b (rw (← f) refl) (rw (eq-eqb (length b) sheet_size (l ∙ z)) refl) (rw (← g) refl) refl refl)
 
       -- what is asked of the sheet's payment
       pub ready-unpaid : true ≡ dates_fit D → (u : List ℕ) → Prepared d u → (r : Rejection) → Pays D u (Err r) → (e : Incomplete) → e ≡ incomplete_by r → Ready D d n (Err e) u

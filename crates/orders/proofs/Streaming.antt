@@ -10,27 +10,28 @@ use borrow.Author.Rules.{rules}
 use borrow.Author.Tests.{eq-eqb, ne_eqb, eqb-true}
 use lib.Dec.{eqb}
 use lib.ListN.{length, get_or, take, drop, length-take, length-drop}
-use lib.Seq.{take_all, drop-drop}
+use lib.Seq.{take_all}
 use Rattle.texts.specs.Numbers.{big}
 use Rattle.texts.specs.Texts.{between}
 use Rattle.sheets.specs.declared.sheet.Field.{Field}
 use Rattle.texts.specs.Answers.{refusal, number_of, Test, test, answer_by}
 use Rattle.texts.proofs.Bools.{cases}
 use Rattle.drafts.specs.Message.{length_of, read_tests, reading_of}
-use Rattle.drafts.specs.Promises.{Reads, Postings, Posts}
+use denote.Enum.Bare.{sameb}
+use Rattle.texts.specs.contracts.answers.Refusal.{the_type}
+use Rattle.texts.specs.Refusals.{refusal_number}
+use Rattle.texts.specs.declared.answers.Refusal.TheVariants.{Malformed, BadLength, UnknownVersion, UnknownField, NoRevision, Clash, WrongSize, BrokenRule, NotBudget, Impossible, NotLines, Undated, UnknownParty, BadCharge, BadPart, BadRegister, Differs, BadPayments, SameArrivals, Unfit}
+use Rattle.drafts.specs.declared.message.Heading.{Heading}
+use Rattle.drafts.specs.Promises.{Reads, Postings}
 use Rattle.drafts.specs.declared.revision.Revision.{Revision}
-use Rattle.drafts.specs.declared.message.Version.{Version}
 use Rattle.texts.specs.declared.answers.Refusal.{Refusal}
-use Rattle.drafts.specs.declared.message.Reading.{Reading}
-use Rattle.drafts.specs.declared.message.Reading.TheVariants.{Message, Refused}
-use Rattle.drafts.specs.declared.draft.Posted.{Posted}
 use Rattle.sheets.specs.declared.dates.Dates.{Dates}
 use Rattle.orders.specs.Complete.{completing, completed, complete_answer}
 use Rattle.orders.specs.Whole.{Whole, Completes}
 use Rattle.orders.specs.Stream.{piece_of, ends_stream, pieces, messages_of, Parted, finished, stops, goes_on, Streams}
 use Rattle.orders.specs.declared.complete.Filled.{Filled}
 use Rattle.orders.specs.declared.complete.Incomplete.{Incomplete}
-use Rattle.std.specs.Prelude.{Result}
+use Rattle.std.specs.Prelude.{Result, Ok, Err}
 use Rattle.orders.proofs.Whole.{left-formed}
 
 -- ---- a piece
@@ -48,14 +49,37 @@ piece-length s n = simp length-take (omega arith, omega arith)
 
 -- ---- the end of a stream
 
-module _ (m : List ℕ) (rd : Reading) (R : Reads m rd) where
-  pub ends-not : (w : Version) (f : Field) (v : Revision) → rd ≡ Message w f v → false ≡ ends_stream m
-  unfolding ends_stream
-  ends-not w f v e = rw (← R.answer, e)
+is-short : (n : Refusal) → sameb the_type n BadLength ≡ eqb (refusal_number n) 2
+is-short Malformed = refl
+is-short BadLength = refl
+is-short UnknownVersion = refl
+is-short UnknownField = refl
+is-short NoRevision = refl
+is-short Clash = refl
+is-short WrongSize = refl
+is-short BrokenRule = refl
+is-short NotBudget = refl
+is-short Impossible = refl
+is-short NotLines = refl
+is-short Undated = refl
+is-short UnknownParty = refl
+is-short BadCharge = refl
+is-short BadPart = refl
+is-short BadRegister = refl
+is-short Differs = refl
+is-short BadPayments = refl
+is-short SameArrivals = refl
+is-short Unfit = refl
 
-  pub ends_by : (n : Refusal) → rd ≡ Refused n → eqb n.0 2 ≡ ends_stream m
+module _ (m : List ℕ) (rd : Result Heading Refusal) (R : Reads m rd) where
+  pub ends-not : (g : Heading) → rd ≡ Ok g → false ≡ ends_stream m
   unfolding ends_stream
-  ends_by n e = rw (← R.answer, e)
+  ends-not g e = rw (← R.answer, e)
+
+  pub ends_by : (n : Refusal) → rd ≡ Err n → sameb the_type n BadLength ≡ ends_stream m
+  unfolding ends_stream
+  ends_by n e = is-short n ∙ (rw (← R.answer, e))
+
 
 -- a refusal of tests that return nothing beside their numbers
 abbrev Bare : List Test → Type 0
@@ -236,4 +260,4 @@ streamed D i b d r t L C = record {
   whole = subst (λ (x : List ℕ). Whole D (messages_of i) x b (complete_answer r) t) L.draft (C.whole (messages_of i) L);
 }
 
-pub ruleset streams = (rules, piece_is, ends-not, ends_by)
+pub ruleset streams = (rules, piece_is)

@@ -9,12 +9,12 @@ use native.Mathlib.Decide.{dec_lt, ℕ_discrete}
 use native.Mathlib.Nat.{div-eq_of_lt}
 use native.Mathlib.Numerals.{add-one}
 use native.Mathlib.Omega.{arith}
-use borrow.Author.Tests.{leb-true, le-leb, lt-ltb, le-ltb, ltb-true, eq-eqb, ne_eqb, not-true, not-false}
+use borrow.Author.Tests.{leb-true, le-leb, lt-ltb, le-ltb, ltb-true, eq-eqb, ne_eqb, not-true}
 use mir.Syntax.{w32}
 use mir.Val.{Fits}
 use lib.Dec.{eqb, ltb, leb}
 use lib.ListN.{length, get_or, drop, replicate, length-replicate, length-take}
-use Rattle.texts.specs.Quoted.{Text}
+use Rattle.texts.specs.declared.answers.Refusal.TheVariants.{Malformed, WrongSize}
 use Rattle.texts.specs.Texts.{every, between, blank}
 use Rattle.texts.specs.Answers.{success, refusal, passes}
 use Rattle.texts.proofs.Bools.{both, and2}
@@ -23,7 +23,6 @@ use Rattle.texts.specs.Working.Writing.{put_at}
 use Rattle.texts.proofs.Puts.{put-fits}
 use Rattle.texts.proofs.Refusals.{no-success, succeeds, unchanged}
 use Rattle.sheets.specs.Sheet.{slots, slot_count, sheet_size, text_max, slot_of, field_in, cell, cell_of, cell_text, cell_ok, slot_ok, text_of, given, well_formed}
-use Rattle.sheets.specs.Dates.{status_texts}
 use Rattle.sheets.specs.declared.dates.Dates.{Dates}
 use Rattle.sheets.specs.declared.sheet.Field.{Field}
 use Rattle.rules.specs.Rules.{keeps_all}
@@ -42,7 +41,7 @@ use Rattle.fillings.specs.Working.Places as at
 use Rattle.fillings.proofs.EveryFilling.{every-mem, entry-sized, choice-given}
 use Rattle.fillings.proofs.First.{found_first}
 use Rattle.fillings.specs.Fillings as of
-use Rattle.orders.specs.Fillings.{lists, list_of, to_fill, Filling}
+use Rattle.orders.specs.Fillings.{list_of, to_fill, Filling}
 use Rattle.orders.specs.Complete.{completing, completed}
 use Rattle.orders.specs.Again.{CompletesAgain}
 use Rattle.orders.specs.TakeUp.{in_set, greatest, fit, spared, first_unfit, take_tests, next, proposal, proposals, taking, taken_into, take_answer, TakesUp}
@@ -50,7 +49,7 @@ use Rattle.orders.specs.declared.take_up.Untaken.{Untaken}
 use Rattle.orders.specs.declared.take_up.Untaken.TheVariants.{Unfit, Refused}
 use Rattle.std.specs.Prelude.{Option, Some, None, Result, Ok, Err}
 use Rattle.orders.specs.Working.Upto.{FirstUnfit, Postable}
-use Rattle.orders.proofs.Lists.{at_map, proper, some-status}
+use Rattle.orders.proofs.Lists.{proper}
 use Rattle.orders.proofs.Whole.{length-draftSheet}
 use Rattle.orders.proofs.Skipping.{at_place}
 use Rattle.orders.proofs.Taking.{was-formed, was-found, was-set, taken-completes}
@@ -282,19 +281,19 @@ module _ {D : Dates} {d t : List ℕ} {set : ℕ} where
       }
 
   module _ where
-    pub take-malformed : false ≡ draft_formed d → TakesUp D d t set (Err (Refused (record { 0 = 1 }))) d
+    pub take-malformed : false ≡ draft_formed d → TakesUp D d t set (Err (Refused Malformed)) d
     unfolding take_answer taking take_tests
-    take-malformed e = take-refuses (Err (Refused (record { 0 = 1 }))) 1 [] refl (rw (← e))
+    take-malformed e = take-refuses (Err (Refused Malformed)) 1 [] refl (rw (← e))
 
     module _ (f : true ≡ draft_formed d) where
-      pub take-sized : (length t ≡ sheet_size → ⊥) → TakesUp D d t set (Err (Refused (record { 0 = 7 }))) d
+      pub take-sized : (length t ≡ sheet_size → ⊥) → TakesUp D d t set (Err (Refused WrongSize)) d
       unfolding take_answer taking take_tests
-      take-sized z = take-refuses (Err (Refused (record { 0 = 7 }))) 7 [] refl (rw (← f, ne_eqb (length t) sheet_size z))
+      take-sized z = take-refuses (Err (Refused WrongSize)) 7 [] refl (rw (← f, ne_eqb (length t) sheet_size z))
 
       module _ (z : length t ≡ sheet_size) where
-        pub take-sheet : false ≡ well_formed t → TakesUp D d t set (Err (Refused (record { 0 = 1 }))) d
+        pub take-sheet : false ≡ well_formed t → TakesUp D d t set (Err (Refused Malformed)) d
         unfolding take_answer taking take_tests
-        take-sheet e = take-refuses (Err (Refused (record { 0 = 1 }))) 1 [] refl (rw (← f, ← e, eq-eqb (length t) sheet_size z))
+        take-sheet e = take-refuses (Err (Refused Malformed)) 1 [] refl (rw (← f, ← e, eq-eqb (length t) sheet_size z))
 
         module _ (g : true ≡ well_formed t) (r : Option ℕ) (U : FirstUnfit D d t set r) where
           pub take-unfit : (u : ℕ) → r ≡ Some u → (f : Field) → f.0 ≡ field_in u → TakesUp D d t set (Err (Unfit f)) d

@@ -9,6 +9,7 @@ use borrow.Author.Tests.{ne_eqb}
 use lib.Count.{ones}
 use lib.Dec.{eqb}
 use lib.ListN.{length}
+use Rattle.texts.specs.Refusals.{refusal_number}
 use Rattle.texts.specs.Texts.{every}
 use Rattle.texts.specs.Answers.{Answer, success, refusal, number_of, ◌refuses◌, ◌refuses◌with◌, answer_by, buffer_by}
 use Rattle.texts.proofs.Bools.{both, cases}
@@ -107,7 +108,7 @@ unfolding complete_answer
 filled_of (Ok f) n set k e = let a : f.count ≡ n = cc in let b : f.set ≡ set = cc in let c : f.ones ≡ k = cc in λ i. Ok (record { count = a i; set = b i; ones = c i })
 filled_of (Err (Impossible m)) n set k e = absurd (no-success 10 _ _ e)
 filled_of (Err (Broken g m)) n set k e = absurd (no-success 8 _ _ e)
-filled_of (Err (Refused m)) n set k e = absurd (no-success m.0 _ _ e)
+filled_of (Err (Refused m)) n set k e = absurd (no-success (refusal_number m) _ _ e)
 
 module _ (D : Dates) (d b : List ℕ) where
   values : List ℕ

@@ -1,39 +1,35 @@
 -- The message that wins each slot, one message at a time, and the ways through the functions that number the winners.
 use mathlib.Core.Path.{◌≡◌, refl, sym, ap, ◌∙◌}
 use mathlib.Core.Logic.{⊎_elim}
-use mathlib.Core.Bool.{Bool, true, false, true≢false}
+use mathlib.Core.Bool.{true, false, true≢false}
 use mathlib.Core.List.Memᴰ
 use mathlib.Core.List.{List, [], ◌∷◌, ◌++◌, map, Memᴰ}
 use Prim.Native.Nat.{ℕ, suc, ◌+◌, ◌≤◌, ◌<◌, max}
 use native.Mathlib.Decide.{dec_lt, ℕ_discrete}
 use native.Mathlib.Numerals.{add-one}
 use native.Mathlib.Omega.{arith}
-use borrow.Author.Rules.{rules}
 use borrow.Author.Tests.{eq-eqb, ne_eqb}
 use mir.Syntax.{w8}
 use mir.Val.{Fits}
 use lib.ListN.{length, get_or, set, length-set, length-append}
 use lib.Seq.{ext_get_or, get_or-set_same, get_or-set_other}
-use Rattle.texts.specs.Texts.{between}
 use Rattle.texts.proofs.Bools.{cases}
 use Rattle.texts.specs.declared.answers.Refusal.{Refusal}
 use Rattle.sheets.specs.Sheet.{slots, slot_count, slot_of}
-use Rattle.sheets.specs.declared.sheet.Field.{Field}
+use Rattle.texts.specs.Refusals.{refusal_number}
+use Rattle.drafts.specs.declared.message.Heading.{Heading}
+use Rattle.std.specs.Prelude.{Result, Ok, Err}
 use Rattle.drafts.specs.Revision.{rank}
 use Rattle.drafts.specs.Message.{version_of, message_field, revision_of, readable, read_answer}
 use Rattle.drafts.specs.Draft.{rank_of}
 use Rattle.drafts.specs.History.{names, rank_in, highest, end_slot, AllBytes}
 use Rattle.drafts.specs.Promises.{Reads}
-use Rattle.drafts.specs.declared.revision.Revision.{Revision}
-use Rattle.drafts.specs.declared.message.Version.{Version}
-use Rattle.drafts.specs.declared.message.Reading.{Reading}
-use Rattle.drafts.specs.declared.message.Reading.TheVariants.{Message, Refused}
 use Rattle.drafts.proofs.Messages.{slotted, readable-means, read_found, reading-is}
 use Rattle.drafts.proofs.Ranks.{rank-above, rank_below, rank-not-below}
 use Rattle.drafts.proofs.EndSlots.{named, ranked, unranked, all-slot, top, top-at, bound}
 use Rattle.texts.proofs.Refusals.{no-success}
 use Rattle.fillings.proofs.EveryFilling.{at_slots}
-use Rattle.orders.specs.Stream.{piece_of, ends_stream, messages_of}
+use Rattle.orders.specs.Stream.{messages_of}
 use Rattle.orders.specs.Origins.{number_in, origin_of, Origin, none, given, Origins}
 use Rattle.orders.specs.Working.Winners.{nobody, Won}
 use Rattle.orders.specs.declared.origins.Winner.{Winner}
@@ -106,16 +102,16 @@ origin-right i ms b l =
 -- ---- with_message
 
 -- what a message m that is read says of its field's slot k and its rank r
-module _ (m : List ℕ) (rd : Reading) (R : Reads m rd) where
-  unread : (n : Refusal) → rd ≡ Refused n → readable m ≡ false
+module _ (m : List ℕ) (rd : Result Heading Refusal) (R : Reads m rd) where
+  unread : (n : Refusal) → rd ≡ Err n → readable m ≡ false
   unread n e =
       cases (readable m)
-      (λ z. absurd (no-success n.0 [] _ (ap read_answer (sym e) ∙ R.answer ∙ reading-is m (readable-means m z))))
+      (λ z. absurd (no-success (refusal_number n) [] _ (ap read_answer (sym e) ∙ R.answer ∙ reading-is m (readable-means m z))))
       (λ z. z)
 
-  module _ (u : Version) (f : Field) (v : Revision) (e : rd ≡ Message u f v) (o k : ℕ) (eo : o ≡ slot_of f.0) (ek : k ≡ o) where
-    found : (readable m ≡ true) × (u.0 ≡ version_of m) × (f.0 ≡ message_field m) × (v ≡ revision_of m)
-    found = read_found m u f v (ap read_answer (sym e) ∙ R.answer)
+  module _ (g : Heading) (e : rd ≡ Ok g) (o k : ℕ) (eo : o ≡ slot_of g.field.0) (ek : k ≡ o) where
+    found : (readable m ≡ true) × (g.version.0 ≡ version_of m) × (g.field.0 ≡ message_field m) × (g.revision ≡ revision_of m)
+    found = read_found m g (ap read_answer (sym e) ∙ R.answer)
 
     own_is : k ≡ slot_of (message_field m)
     own_is = ek ∙ eo ∙ ap slot_of found.2
@@ -124,7 +120,7 @@ module _ (m : List ℕ) (rd : Reading) (R : Reads m rd) where
     slot-within = omega (arith, own_is, (slotted (message_field m) (readable-means m found.0).listed).1)
 
     -- its rank in each slot
-    own-rank : (r : ℕ) → r ≡ rank v → rank_in k m ≡ r
+    own-rank : (r : ℕ) → r ≡ rank g.revision → rank_in k m ≡ r
     unfolding names rank_in rank_of
     own-rank r er = rw (found.0, eq-eqb _ _ (sym own_is)) (ap rank (sym found.3) ∙ sym er)
 
@@ -144,26 +140,26 @@ module _ (m : List ℕ) (h : (k : ℕ) → Fits w8 (get_or m k 0)) (ms : List (L
   still : ((i : ℕ) → i < slot_count → rank_in i m ≤ highest i ms) → Won (ms ++ m ∷ []) ws
   still g = record { strings = strings-more; sized = W.sized; each = λ i l. as-before i l (g i l) }
 
-module _ (m : List ℕ) (h : (k : ℕ) → Fits w8 (get_or m k 0)) (ws : List Winner) (x : ℕ) (rd : Reading) (R : Reads m rd) where
-  pub won-unread : (n : Refusal) → rd ≡ Refused n → (ms : List (List ℕ)) → x ≡ length ms + 1 → Won ms ws → Won (ms ++ m ∷ []) ws
+module _ (m : List ℕ) (h : (k : ℕ) → Fits w8 (get_or m k 0)) (ws : List Winner) (x : ℕ) (rd : Result Heading Refusal) (R : Reads m rd) where
+  pub won-unread : (n : Refusal) → rd ≡ Err n → (ms : List (List ℕ)) → x ≡ length ms + 1 → Won ms ws → Won (ms ++ m ∷ []) ws
   won-unread n e ms c W = still m h ms ws W (λ i l. omega (arith, unranked i m (unnamed i)))
     where
       unnamed : (i : ℕ) → names i m ≡ false
       unnamed i = cases (names i m) (λ t. absurd (true≢false (sym (named i m t).0 ∙ unread m rd R n e))) (λ t. t)
 
-  module _ (u : Version) (f : Field) (v : Revision) (e : rd ≡ Message u f v) (o k : ℕ) (eo : o ≡ slot_of f.0) (ek : k ≡ o) (r : ℕ) (er : r ≡ rank v) where
+  module _ (g : Heading) (e : rd ≡ Ok g) (o k : ℕ) (eo : o ≡ slot_of g.field.0) (ek : k ≡ o) (r : ℕ) (er : r ≡ rank g.revision) where
     pub won-older : r ≤ (get_or ws k nobody).rank → (ms : List (List ℕ)) → x ≡ length ms + 1 → Won ms ws → Won (ms ++ m ∷ []) ws
     won-older q ms c W =
         still m h ms ws W (λ i l.
         elim (ℕ_discrete i k) [
-          | yes z ↦ rw z (omega (arith, ap (λ (w : Winner). w.rank) (W.each k (slot-within m rd R u f v e o k eo ek)), own-rank m rd R u f v e o k eo ek r er))
-          | no z ↦ omega (arith, other-rank m rd R u f v e o k eo ek i z)
+          | yes z ↦ rw z (omega (arith, ap (λ (w : Winner). w.rank) (W.each k (slot-within m rd R g e o k eo ek)), own-rank m rd R g e o k eo ek r er))
+          | no z ↦ omega (arith, other-rank m rd R g e o k eo ek i z)
         ])
 
     pub won-newer : (get_or ws k nobody).rank < r → (ms : List (List ℕ)) → x ≡ length ms + 1 → Won ms ws → Won (ms ++ m ∷ []) (set ws k (record { rank = r; number = x }))
     won-newer q ms c W =
-        let l = slot-within m rd R u f v e o k eo ek in
-        let p = own-rank m rd R u f v e o k eo ek r er in
+        let l = slot-within m rd R g e o k eo ek in
+        let p = own-rank m rd R g e o k eo ek r er in
         let (a, b) = raised k m ms (omega (arith, ap (λ (w : Winner). w.rank) (W.each k l), p)) in
         let new : Winner = record { rank = r; number = x } in
         record {
@@ -172,7 +168,7 @@ module _ (m : List ℕ) (h : (k : ℕ) → Fits w8 (get_or m k 0)) (ws : List Wi
           each = λ i y.
               elim (ℕ_discrete i k) [
                 | yes z ↦ rw z (get_or-set_same ws k new nobody (omega (arith, W.sized)) ∙ (λ j. record { rank = sym (a ∙ p) j; number = (c ∙ sym b) j }))
-                | no z ↦ get_or-set_other ws k i new nobody z ∙ as-before m h ms ws W i y (omega (arith, other-rank m rd R u f v e o k eo ek i z))
+                | no z ↦ get_or-set_other ws k i new nobody z ∙ as-before m h ms ws W i y (omega (arith, other-rank m rd R g e o k eo ek i z))
               ];
         }
 

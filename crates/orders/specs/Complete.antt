@@ -2,6 +2,7 @@
 use Rattle.std.specs.Prelude.{Bool, true, false, not, ◌&&◌, List, [], ◌∷◌, ◌++◌, ℕ, eqb, length, Result, Ok, Err}
 use Rattle.std.specs.Int.Count.{ones}
 use Rattle.texts.specs.Texts.{every}
+use Rattle.texts.specs.Refusals.{refusal_number}
 use Rattle.texts.specs.Answers.{Answer, success, refusal, Test, ◌refuses◌, ◌refuses◌with◌, answer_by, buffer_by}
 use Rattle.sheets.specs.Sheet.{sheet_size}
 use Rattle.sheets.specs.Dates.{dates_fit}
@@ -24,7 +25,7 @@ unfoldable pub complete_answer : Result Filled Incomplete → Answer
 complete_answer (Ok f) = success (f.count ∷ f.set ∷ f.ones ∷ [])
 complete_answer (Err (Impossible n)) = refusal 10 (n ∷ [])
 complete_answer (Err (Broken f r)) = refusal 8 (f.0 ∷ r.0 ∷ [])
-complete_answer (Err (Refused n)) = refusal n.0 []
+complete_answer (Err (Refused n)) = refusal (refusal_number n) []
 
 -- what looking through the fillings found: whether none keeps the rules, the count of those looked at, and the sheet found, or b where there is none
 abbrev pub nothing : Look (List ℕ) → Bool

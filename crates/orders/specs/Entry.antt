@@ -7,7 +7,9 @@ use Rattle.sheets.specs.Dates.{dates_fit}
 use Rattle.sheets.specs.declared.dates.Dates.{Dates}
 use Rattle.orders.specs.Fillings.{list_of}
 use Rattle.orders.specs.declared.entry.Row.{Row}
+use Rattle.texts.specs.Refusals.{refusal_number}
 use Rattle.texts.specs.declared.answers.Refusal.{Refusal}
+use Rattle.texts.specs.declared.answers.Refusal.TheVariants.{UnknownField, Undated}
 
 -- the list of field f at the dates D: no entry for a field that has no list, or is not listed
 abbrev pub list_for : Dates → ℕ → List Text
@@ -32,7 +34,7 @@ text_row t = record { length = length t; first = get_or t 0 0; second = get_or t
 unfoldable pub entry_answer : Result (Option Row) Refusal → Answer
 entry_answer (Ok (Some r)) = success (row_text r)
 entry_answer (Ok None) = success []
-entry_answer (Err n) = refusal n.0 []
+entry_answer (Err n) = refusal (refusal_number n) []
 
 -- the promise of `entry`: of field f, place k and the dates D it answered x
 pub record Lists (D : Dates) (f k : ℕ) (x : Result (Option Row) Refusal) : Type 0 where
@@ -42,5 +44,5 @@ pub record Lists (D : Dates) (f k : ℕ) (x : Result (Option Row) Refusal) : Typ
   -- there is none where the list has ended
   pub nothing : x ≡ Ok None → length (list_for D f) ≤ k
   -- 12 exactly if the dates are not fit; 4 exactly if they are, and the field is not listed
-  pub undated : (x ≡ Err (record { 0 = 12 })) ↔ (dates_fit D ≡ false)
-  pub unlisted : (x ≡ Err (record { 0 = 4 })) ↔ ((dates_fit D ≡ true) × (slot_of f ≡ slot_count))
+  pub undated : (x ≡ Err Undated) ↔ (dates_fit D ≡ false)
+  pub unlisted : (x ≡ Err UnknownField) ↔ ((dates_fit D ≡ true) × (slot_of f ≡ slot_count))

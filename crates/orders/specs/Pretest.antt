@@ -1,6 +1,7 @@
 -- R-3: a test of the draft ahead of the search, said of its fillings, and what it promises.
 use Rattle.std.specs.Prelude.{◌≡◌, ◌↔◌, Bool, true, false, not, ◌&&◌, List, [], ◌∷◌, ◌++◌, ℕ, length, get_or, Option, Some, None, Result, Ok, Err}
 use Rattle.texts.specs.Texts.{every}
+use Rattle.texts.specs.Refusals.{refusal_number}
 use Rattle.texts.specs.declared.answers.Refusal.{Refusal}
 use Rattle.texts.specs.Answers.{Answer, success, refusal, number_of, Test, ◌refuses◌, answer_by}
 use Rattle.sheets.specs.Sheet.{Sheet, sheet_size}
@@ -13,8 +14,8 @@ use Rattle.drafts.specs.Draft.{draft_formed, draft_sheet}
 use Rattle.orders.specs.Fillings.{Filling, fillings, All}
 use Rattle.orders.specs.Complete.{budget_payment, unpaid_tests, completing}
 use Rattle.orders.specs.declared.pretest.Named.{Named}
-use Rattle.orders.specs.declared.pretest.Rejection.{Rejection}
-use Rattle.orders.specs.declared.pretest.Rejection.TheVariants.{Broken, Refused}
+use Rattle.rules.specs.declared.check.Rejection.{Rejection}
+use Rattle.rules.specs.declared.check.Rejection.TheVariants.{Broken, Refused}
 
 -- no sheet of a list keeps rule n
 unfoldable pub none_keeps : Dates → List Sheet → ℕ → Bool
@@ -34,7 +35,7 @@ unfoldable pub pretest_answer : Result (Option Named) Rejection → Answer
 pretest_answer (Ok (Some m)) = success (m.field.0 ∷ m.rule.0 ∷ [])
 pretest_answer (Ok None) = success (0 ∷ 0 ∷ [])
 pretest_answer (Err (Broken f r)) = refusal 8 (f.0 ∷ r.0 ∷ [])
-pretest_answer (Err (Refused n)) = refusal n.0 []
+pretest_answer (Err (Refused n)) = refusal (refusal_number n) []
 
 -- "The test refuses with 1, 8 and 9 as completion does"
 unfoldable pub pretest_tests : Dates → List ℕ → List Test
@@ -77,4 +78,4 @@ pub record Pretests (D : Dates) (d : List ℕ) (r : Result (Option Named) Reject
   pub holds : (m : Named) → r ≡ Ok (Some m) → Names D d (draft_sheet d) m.field.0 m.rule.0
   pub unnamed : r ≡ Ok None → (g : List ℕ) → Filling D (draft_sheet d) g → every (keeps D g) ahead ≡ true
   pub broken : (f : Field) (n : RuleNumber) → r ≡ Err (Broken f n) → (b : List ℕ) → length b ≡ sheet_size → dates_fit D ≡ true → completing D d b ≡ refusal 8 (f.0 ∷ n.0 ∷ [])
-  pub number : (n : Refusal) → r ≡ Err (Refused n) → (b : List ℕ) → length b ≡ sheet_size → dates_fit D ≡ true → completing D d b ≡ refusal n.0 []
+  pub number : (n : Refusal) → r ≡ Err (Refused n) → (b : List ℕ) → length b ≡ sheet_size → dates_fit D ≡ true → completing D d b ≡ refusal (refusal_number n) []

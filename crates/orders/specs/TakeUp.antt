@@ -1,6 +1,7 @@
 -- R-9: taking up part of a proposal, by a draft, a proposed sheet and a set of slots.
 use Rattle.std.specs.Prelude.{◌≡◌, Bool, true, not, cond, ◌&&◌, ◌||◌, List, [], ◌∷◌, ◌++◌, ℕ, zero, suc, ◌+◌, ◌/◌, ◌%◌, ◌^◌, ◌<◌, eqb, ltb, length, Result, Ok, Err}
 use Rattle.texts.specs.Texts.{every, blank}
+use Rattle.texts.specs.Refusals.{refusal_number}
 use Rattle.texts.specs.Answers.{Answer, success, refusal, Test, ◌refuses◌, ◌refuses◌with◌, answer_by, buffer_by}
 use Rattle.sheets.specs.Sheet.{slots, slot_count, sheet_size, field_in, text_of, given, well_formed}
 use Rattle.sheets.specs.declared.dates.Dates.{Dates}
@@ -72,7 +73,7 @@ taken_into D d t set = buffer_by (take_tests D d t set) (posted_from d (proposal
 unfoldable pub take_answer : Result Unit Untaken → Answer
 take_answer (Ok u) = success []
 take_answer (Err (Unfit f)) = refusal 20 (f.0 ∷ [])
-take_answer (Err (Refused n)) = refusal n.0 []
+take_answer (Err (Refused n)) = refusal (refusal_number n) []
 
 -- the promise of `take_up`: of the draft d, the sheet t and the set it answered r and left e
 pub record TakesUp (D : Dates) (d t : List ℕ) (set : ℕ) (r : Result Unit Untaken) (e : List ℕ) : Type 0 where

@@ -3,8 +3,8 @@ ghost use Rattle.std.specs.Prelude.{◌≡◌};
 ghost use Rattle.orders.specs.Working.Paying.{incomplete_by};
 ghost use Rattle.orders.specs.Whole.{Completes};
 
-use crate::pretest::Rejection;
 use crate::quick::quick;
+use rules::check::Rejection;
 use rules::rules::RuleNumber;
 use sheets::dates::Dates;
 use sheets::sheet::Field;

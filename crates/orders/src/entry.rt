@@ -11,7 +11,6 @@ use sheets::dates::{Dates, are_fit};
 use sheets::entries::{basis_row, status_row, zero_row};
 use sheets::sheet::{Field, SLOT_COUNT, slot_of};
 use texts::answers::Refusal;
-use texts::parts::wide;
 
 // The entry's length and its bytes; the second is 0 where there is none.
 #[derive(Clone, Copy)]
@@ -52,7 +51,7 @@ const LISTS: [Option<Entries>; 15] = [
 pub(crate) fn list_in(slot: u8) -> Option<Entries>
     ensures { (D : Dates) → texts_by D result ≡ list_of D slot }
 {
-    let slot = wide(slot);
+    let slot = usize::from(slot);
     if slot < LISTS.len() {
         LISTS[slot]
     } else {
@@ -88,11 +87,11 @@ pub fn entry(field: Field, place: usize, dates: Dates) -> Result<Option<Row>, Re
     ensures { Lists dates field.0 place result }
 {
     if !are_fit(dates) {
-        return Err(Refusal(12));
+        return Err(Refusal::Undated);
     }
     let slot = slot_of(field);
     if slot == SLOT_COUNT {
-        return Err(Refusal(4));
+        return Err(Refusal::UnknownField);
     }
     let row = row_in(slot, place, dates);
     if row[0] == 0 {

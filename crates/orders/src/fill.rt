@@ -15,7 +15,6 @@ use sheets::dates::Dates;
 use sheets::entries::{basis_row, status_row, zero_row};
 use sheets::sheet::{CELL_SIZE, SHEET_SIZE, SLOT_COUNT, text};
 use texts::buffers::put;
-use texts::parts::wide;
 
 fn row_cell(row: [u8; 3]) -> [u8; CELL_SIZE]
     ensures { result ≡ row_cell row }
@@ -33,7 +32,7 @@ fn fill_slot(sheet: &mut [u8], slot: u8, row: [u8; 3])
 {
     if text(sheet, slot).len() == 0 {
         let cell = row_cell(row);
-        put(sheet, wide(slot) * CELL_SIZE, &cell);
+        put(sheet, usize::from(slot) * CELL_SIZE, &cell);
     }
 }
 

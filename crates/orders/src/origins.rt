@@ -4,9 +4,8 @@ ghost use Rattle.orders.specs.Origins.{Origins};
 ghost use Rattle.orders.specs.Working.Winners.{Won};
 
 use crate::stream::Messages;
-use drafts::message::{Reading, read};
+use drafts::message::read;
 use sheets::sheet::slot_of;
-use texts::parts::wide;
 
 // "Fifteen fields, in slots 0 to 14".
 pub const PLACES: usize = 15;
@@ -24,12 +23,11 @@ const NONE: Winner = Winner { rank: 0, number: 0 };
 fn note(winners: &mut [Winner; PLACES], message: &[u8], number: u64)
     ensures { (ms : List (List ℕ)) → number ≡ length ms + 1 → Won ms winners.old → Won (ms ++ (message.now ∷ [])) winners.new }
 {
-    let reading = read(message);
-    let Reading::Message(_, field, revision) = reading else {
+    let Ok(heading) = read(message) else {
         return;
     };
-    let slot = wide(slot_of(field));
-    let rank = revision.rank();
+    let slot = usize::from(slot_of(heading.field));
+    let rank = heading.revision.rank();
     if winners[slot].rank < rank {
         winners[slot] = Winner { rank, number };
     }

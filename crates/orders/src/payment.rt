@@ -1,8 +1,7 @@
 // What completion and the test ahead of it begin with: whether a sheet is a budget payment.
 ghost use Rattle.orders.specs.Working.Paying.{Pays};
 
-use crate::pretest::Rejection;
-use rules::check::broken_basic;
+use rules::check::{Rejection, broken_basic};
 use rules::class::is_budget;
 use rules::rules::field_of;
 use sheets::dates::Dates;
@@ -15,12 +14,11 @@ pub(crate) fn facts_of_payment(sheet: &[u8; SHEET_SIZE], dates: Dates) -> Result
     ensures { Pays dates sheet.now result }
 {
     let facts = facts_of(sheet, dates);
-    let broken = broken_basic(facts);
-    if broken.0 != 0 {
-        return Err(Rejection::Broken(field_of(broken, sheet), broken));
+    if let Some(rule) = broken_basic(facts) {
+        return Err(Rejection::Broken(field_of(rule, sheet), rule));
     }
     if !is_budget(facts) {
-        return Err(Rejection::Refused(Refusal(9)));
+        return Err(Rejection::Refused(Refusal::NotBudget));
     }
     Ok(facts)
 }

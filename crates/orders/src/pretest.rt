@@ -6,19 +6,12 @@ use crate::fill::{fill_picked, fill_zeros};
 use crate::payment::facts_of_payment;
 use crate::search::Pick;
 use drafts::draft::{put_sheet, well_formed};
-use rules::check::broken_ahead;
+use rules::check::{Rejection, broken_ahead};
 use rules::rules::{RuleNumber, field_of};
 use sheets::dates::program_dates;
 use sheets::facts::facts_of;
 use sheets::sheet::{Field, SHEET_SIZE};
 use texts::answers::Refusal;
-
-// 8, or 1 or 9.
-#[derive(Clone, Copy)]
-pub enum Rejection {
-    Broken(Field, RuleNumber),
-    Refused(Refusal),
-}
 
 // A rule that all fillings break, with its field.
 #[derive(Clone, Copy)]
@@ -35,7 +28,7 @@ pub fn pretest(draft: &[u8]) -> Result<Option<Named>, Rejection>
     let mut work = [0u8; SHEET_SIZE];
     put_sheet(draft, &mut work);
     if !well_formed(draft) {
-        return Err(Rejection::Refused(Refusal(1)));
+        return Err(Rejection::Refused(Refusal::Malformed));
     }
     fill_zeros(&mut work);
     let dates = program_dates();
@@ -47,12 +40,11 @@ pub fn pretest(draft: &[u8]) -> Result<Option<Named>, Rejection>
         day: 0,
     };
     fill_picked(&mut work, first, dates);
-    let named = broken_ahead(facts_of(&work, dates));
-    if named.0 == 0 {
-        return Ok(None);
+    match broken_ahead(facts_of(&work, dates)) {
+        None => Ok(None),
+        Some(rule) => Ok(Some(Named {
+            field: field_of(rule, &work),
+            rule,
+        })),
     }
-    Ok(Some(Named {
-        field: field_of(named, &work),
-        rule: named,
-    }))
 }

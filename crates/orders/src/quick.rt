@@ -33,13 +33,13 @@ fn ready(
 {
     put_sheet(draft, work);
     if !well_formed(draft) {
-        return Err(Incomplete::Refused(Refusal(1)));
+        return Err(Incomplete::Refused(Refusal::Malformed));
     }
     if size != SHEET_SIZE {
-        return Err(Incomplete::Refused(Refusal(7)));
+        return Err(Incomplete::Refused(Refusal::WrongSize));
     }
     if !are_fit(dates) {
-        return Err(Incomplete::Refused(Refusal(12)));
+        return Err(Incomplete::Refused(Refusal::Undated));
     }
     fill_zeros(work);
     let facts = facts_of_payment(work, dates)?;

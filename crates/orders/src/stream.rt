@@ -6,16 +6,17 @@ ghost use Rattle.orders.specs.Working.Messages.{messages_left};
 
 use crate::complete::{Filled, Incomplete, complete};
 use drafts::draft::{DRAFT_SIZE, fresh, post};
-use drafts::message::{Reading, read};
+use drafts::message::read;
 use sheets::dates::Dates;
-use texts::numbers::number_of_2;
+use texts::answers::Refusal;
+use texts::numbers::number_of;
 use texts::parts::{at, part};
 
 // The first message: "2 + L bytes or what is left if that is less".
 pub fn piece(rest: &[u8]) -> &[u8]
     ensures { result.now ≡ piece_of rest.now }
 {
-    part(rest, 0, number_of_2(at(rest, 0), at(rest, 1)) + 2)
+    part(rest, 0, number_of([at(rest, 0), at(rest, 1)]) as usize + 2)
 }
 
 // "After a 2 it stops reading".
@@ -23,8 +24,8 @@ pub fn ends_stream(message: &[u8]) -> bool
     ensures { result ≡ ends_stream message.now }
 {
     match read(message) {
-        Reading::Message(_, _, _) => false,
-        Reading::Refused(refusal) => refusal.0 == 2,
+        Ok(_) => false,
+        Err(refusal) => refusal == Refusal::BadLength,
     }
 }
 
@@ -67,13 +68,13 @@ impl<'a> Iterator for Messages<'a> {
     }
 }
 
-// Posts the messages of an input one after another.
+// Posts the messages of an input one after another: what one is answered, that it is refused for example, makes no difference to the next.
 fn post_stream(draft: &mut [u8], input: &[u8])
     requires { Postings [] draft.old }
     ensures { Postings (messages_of input.now) draft.new }
 {
     for message in Messages::of(input) {
-        post(draft, message);
+        let _ = post(draft, message);
     }
 }
 
@@ -82,7 +83,7 @@ pub fn gather(input: &[u8]) -> [u8; DRAFT_SIZE]
     ensures { Postings (messages_of input.now) result }
 {
     let mut draft = [0u8; DRAFT_SIZE];
-    fresh(&mut draft);
+    let _ = fresh(&mut draft);
     post_stream(&mut draft, input);
     draft
 }

@@ -89,13 +89,13 @@ pub fn take_up(draft: &mut [u8], sheet: &[u8], set: u16) -> Result<(), Untaken>
     ensures { (D : Dates) → TakesUp D draft.old sheet.now set result draft.new }
 {
     if !drafts::draft::well_formed(draft) {
-        return Err(Untaken::Refused(Refusal(1)));
+        return Err(Untaken::Refused(Refusal::Malformed));
     }
     if sheet.len() != SHEET_SIZE {
-        return Err(Untaken::Refused(Refusal(7)));
+        return Err(Untaken::Refused(Refusal::WrongSize));
     }
     if !sheets::sheet::well_formed(sheet) {
-        return Err(Untaken::Refused(Refusal(1)));
+        return Err(Untaken::Refused(Refusal::Malformed));
     }
     match first_unfit(draft, sheet, set) {
         Some(slot) => Err(Untaken::Unfit(field_in(slot))),

@@ -8,7 +8,7 @@ ghost use Rattle.rules.specs.Working.Tests.{budget_on, ordinary, class_on};
 
 use sheets::facts::Facts;
 
-#[derive(Clone, Copy)]
+#[derive(Clone, Copy, Debug, PartialEq, Eq)]
 pub enum Class {
     A,
     B,

@@ -14,13 +14,7 @@ use sheets::facts::Facts;
 fn all_true(outcomes: &[bool]) -> bool
     ensures { result ≡ all_true outcomes.now }
 {
-    let mut all = true;
-    let mut i = 0;
-    while i < outcomes.len() {
-        all = all & outcomes[i];
-        i += 1;
-    }
-    all
+    outcomes.iter().all(|kept| *kept)
 }
 
 // The outcomes of the rules for every sheet, at their numbers.

@@ -76,6 +76,14 @@ either : (P : List ℕ → Type 0) (b : Bool) {l m : List ℕ} → P l → P m �
 either P true p q = p
 either P false p q = q
 
+-- what a filling chooses by whether a field is blank
+module _ {X : Type 0} {z : X} (b : Bool) (x y : X) where
+  pub blank-so : b ≡ true → z ≡ x → z ≡ cond b x y
+  blank-so e h = h ∙ ap (λ (c : Bool). cond c x y) (sym e)
+
+  pub given-so : b ≡ false → z ≡ y → z ≡ cond b x y
+  given-so e h = h ∙ ap (λ (c : Bool). cond c x y) (sym e)
+
 chosen : {X : Type 0} (h : List ℕ → X) (b : Bool) (t u : List ℕ) → cond b (h t) (h u) ≡ h (cond b t u)
 chosen h true t u = refl
 chosen h false t u = refl

@@ -9,6 +9,7 @@ use native.Mathlib.Omega.{arith}
 use borrow.Author.Tests.{leb-true, le-leb}
 use lib.Dec.{eqb, leb, ltb}
 use lib.ListN.{length, get_or}
+use Rattle.std.specs.Int.{from_bool}
 use Rattle.texts.specs.Quoted.{Text, bytes, words}
 use Rattle.texts.specs.Texts.{every, any, are, among, same, value_of, value, number, ◌is◌, ◌is_one_of◌}
 use Rattle.texts.proofs.Bools.{both, and2}
@@ -146,6 +147,15 @@ first-in F = refl
 
 right-in : (F : Force) → Right F
 right-in F = right F.s02 F.s32 F.s33
+
+-- what the code counts
+pub one-if : (b : Bool) → from_bool b ≡ cond b 1 0
+one-if true = refl
+one-if false = refl
+
+pub one-most : (b : Bool) → from_bool b ≤ 1
+one-most true = omega arith
+one-most false = omega arith
 
 count_by : (F : Force) → count_in F ≡ 20 + cond F.s02 1 0 + cond F.s32 1 0 + cond F.s33 1 0
 unfolding count_in

@@ -1,10 +1,12 @@
 -- Big-endian numbers of any width: a number as bytes and back, bytes as a number and back.
 use mathlib.Core.Path.{◌≡◌, refl, ap, ◌∙◌}
 use mathlib.Core.List.{List, [], ◌∷◌, ◌++◌, append-nil}
-use Prim.Native.Nat.{ℕ, zero, suc, ◌+◌, ◌*◌, ◌/◌, ◌%◌, ◌^◌, ◌<◌}
-use native.Mathlib.Nat.{add-zero}
+use Prim.Native.Nat.{ℕ, zero, suc, ◌+◌, ◌*◌, ◌/◌, ◌%◌, ◌^◌, ◌<◌, ◌≤◌}
+use native.Mathlib.Nat.{add-zero, pow-le-pow_right}
+use native.Mathlib.Numerals.{add-one}
 use native.Mathlib.Omega.{arith}
-use lib.ListN.{length}
+use lib.ListN.{length, get_or, take}
+use lib.Pow.{pow-add}
 use Rattle.texts.specs.Numbers.{Bytes, big_from, big, bytes_before, bytes_of, bytes_at}
 
 big-from : (bs : List ℕ) → big bs ≡ big_from 0 bs
@@ -40,3 +42,18 @@ bytes-from a j (b ∷ bs) cs h =
 
 pub bytes-big : (bs : List ℕ) → EachByte bs → bytes_of (length bs) (big bs) ≡ bs
 bytes-big bs h = rw (big-from bs, ← add-zero (length bs)) (bytes-from 0 0 bs [] h ∙ append-nil bs)
+
+-- ---- number_of: what the bytes up to i make
+
+big_next : (a i : ℕ) (bs : List ℕ) → i < length bs → big_from a (take (suc i) bs) ≡ big_from a (take i bs) * 256 + get_or bs i 0
+big_next a i [] h = absurd (omega arith)
+big_next a zero (x ∷ xs) h = refl
+big_next a (suc i) (x ∷ xs) h = big_next (a * 256 + x) i xs (omega arith)
+
+pub number_more : (bs : List ℕ) (i n b : ℕ) → i < length bs → length bs ≤ 8 → n ≡ big_from 0 (take i bs) → n < 256 ^ i → b ≡ get_or bs i 0 → b < 256
+    → ((n * 256 % 2 ^ 64 + b) % 2 ^ 64 ≡ big_from 0 (take (i + 1) bs)) × ((n * 256 % 2 ^ 64 + b) % 2 ^ 64 < 256 ^ (i + 1))
+number_more bs i n b h k e l eb lb =
+    let q : i ≤ 7 = omega arith in
+    let p : 256 ^ i ≤ 256 ^ 7 = pow-le-pow_right (omega arith) q in
+    let m : (n * 256 % 2 ^ 64 + b) % 2 ^ 64 ≡ n * 256 + b = omega arith in
+    (m ∙ rw (add-one, big_next 0 i bs h, ← e, ← eb), rw (m, pow-add 256 i 1) (omega arith))

@@ -28,7 +28,7 @@ same_self [] = refl
 same_self (x ∷ xs) = cc (eq-eqb x x refl, same_self xs)
 
 -- a digit is its value
-digit_value : (b : ℕ) → digit b ≡ true → (b ≡ 48 + value_of b) × (value_of b ≤ 9)
+pub digit_value : (b : ℕ) → digit b ≡ true → (b ≡ 48 + value_of b) × (value_of b ≤ 9)
 unfolding value_of
 digit_value b e =
     let p = both (leb 48 b) (leb b 57) e in

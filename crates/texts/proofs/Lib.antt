@@ -1,4 +1,5 @@
 pub mod Bools
+pub mod Std
 pub mod Loops
 pub mod Between
 pub mod Numerals

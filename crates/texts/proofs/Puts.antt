@@ -5,6 +5,7 @@ use mathlib.Core.Logic.{◌⊎◌, inl, inr}
 use Prim.Native.Nat.{ℕ, ◌+◌, ◌-◌, ◌<◌, ◌≤◌}
 use native.Mathlib.Nat.{zero-add}
 use native.Mathlib.Omega.{arith}
+use borrow.Rule.Slice.PartMut.{put_mid}
 use borrow.Author.Tests.{le-leb, lt-leb}
 use lib.ListN.{length, take, drop, replicate, length-append, length-drop, length-replicate, take-append-drop, replicate-append-replicate}
 use lib.Seq.{take_at, drop_at, drop-length, length-take-le, drop-drop, take-append-le, drop-append-le}
@@ -23,6 +24,13 @@ module _ (d : List ℕ) (at : ℕ) (s : List ℕ) where
   pub put-not : length d < at + length s → put_at d at s ≡ d
   unfolding put_at
   put-not h = simp (lt-leb _ _ h)
+
+  -- what std says of a part that was copied over
+  pub put_mid-put : (x : List ℕ) → x ≡ s → at + length s ≤ length d → put_mid at (at + length s - at) d x ≡ put_at d at s
+  unfolding put_at put
+  put_mid-put x e h =
+      let k : at + length s - at ≡ length s = omega arith in
+      rw (e, k, drop-drop (length s) at d) (sym (append_assoc (take at d) s _) ∙ sym (put-fits h))
 
   pub length-put : at + length s ≤ length d → length (put d at s) ≡ length d
   unfolding put

@@ -6,14 +6,8 @@ ghost use Rattle.texts.specs.Working.Writing.{put_at, zeroed};
 pub fn put(dst: &mut [u8], at: usize, src: &[u8])
     ensures { dst.new ≡ put_at dst.old at src.now }
 {
-    if at <= dst.len() {
-        if src.len() <= dst.len() - at {
-            let mut j = 0;
-            while j < src.len() {
-                dst[at + j] = src[j];
-                j += 1;
-            }
-        }
+    if at <= dst.len() && src.len() <= dst.len() - at {
+        dst[at..at + src.len()].copy_from_slice(src);
     }
 }
 
@@ -21,9 +15,5 @@ pub fn put(dst: &mut [u8], at: usize, src: &[u8])
 pub fn clear(dst: &mut [u8])
     ensures { dst.new ≡ zeroed dst.old }
 {
-    let mut i = 0;
-    while i < dst.len() {
-        dst[i] = 0;
-        i += 1;
-    }
+    dst.fill(0);
 }

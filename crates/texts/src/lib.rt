@@ -1,4 +1,4 @@
-// What every crate above uses: tests on byte texts, digits and big-endian numbers, writing into a lent buffer, the number of a refusal. Each public
+// What every crate above uses: tests on byte texts, digits and big-endian numbers, writing into a lent buffer, the refusals. Each public
 // function takes any arguments.
 #![tactic(auto)]
 

@@ -1,47 +1,28 @@
 // Big-endian numbers.
-ghost use Rattle.std.specs.Prelude.{◌≡◌, [], ◌∷◌};
+ghost use Rattle.std.specs.Prelude.{◌≡◌, ◌<◌, ◌≤◌, ◌^◌};
 ghost use Rattle.texts.specs.Numbers.{big, bytes_of};
 
-pub fn number_of_2(a: u8, b: u8) -> usize
-    ensures { result ≡ big (a ∷ b ∷ []) }
+// The number of N bytes, of up to eight.
+pub fn number_of<const N: usize>(bytes: [u8; N]) -> u64
+    ensures value { N ≤ 8 → result ≡ big bytes.entry }
+    ensures bound { N ≤ 8 → result < 256 ^ N }
 {
-    a as usize * 256 + b as usize
+    let mut n: u64 = 0;
+    for b in &bytes {
+        n = n.wrapping_mul(256).wrapping_add(u64::from(*b));
+    }
+    n
 }
 
-pub fn number_of_4(a: u8, b: u8, c: u8, d: u8) -> u32
-    ensures { result ≡ big (a ∷ b ∷ c ∷ d ∷ []) }
+// The N lowest bytes of a number.
+pub fn bytes_of<const N: usize>(n: u64) -> [u8; N]
+    ensures { result ≡ bytes_of N n }
 {
-    ((a as u32 * 256 + b as u32) * 256 + c as u32) * 256 + d as u32
-}
-
-pub fn number_of_8(a: u8, b: u8, c: u8, d: u8, e: u8, f: u8, g: u8, h: u8) -> u64
-    ensures { result ≡ big (a ∷ b ∷ c ∷ d ∷ e ∷ f ∷ g ∷ h ∷ []) }
-{
-    number_of_4(a, b, c, d) as u64 * 4_294_967_296 + number_of_4(e, f, g, h) as u64
-}
-
-pub fn bytes_of_4(n: u32) -> [u8; 4]
-    ensures { result ≡ bytes_of 4 n }
-{
-    [
-        (n / 256 / 256 / 256 % 256) as u8,
-        (n / 256 / 256 % 256) as u8,
-        (n / 256 % 256) as u8,
-        (n % 256) as u8,
-    ]
-}
-
-pub fn bytes_of_8(m: u64) -> [u8; 8]
-    ensures { result ≡ bytes_of 8 m }
-{
-    [
-        (m / 256 / 256 / 256 / 256 / 256 / 256 / 256 % 256) as u8,
-        (m / 256 / 256 / 256 / 256 / 256 / 256 % 256) as u8,
-        (m / 256 / 256 / 256 / 256 / 256 % 256) as u8,
-        (m / 256 / 256 / 256 / 256 % 256) as u8,
-        (m / 256 / 256 / 256 % 256) as u8,
-        (m / 256 / 256 % 256) as u8,
-        (m / 256 % 256) as u8,
-        (m % 256) as u8,
-    ]
+    let mut bytes = [0; N];
+    let mut rest = n;
+    for k in 0..N {
+        bytes[N - 1 - k] = (rest % 256) as u8;
+        rest /= 256;
+    }
+    bytes
 }

@@ -1,6 +1,6 @@
 -- Whether a sheet is a budget payment, as the code asks it. A reader of the promise needs none of this.
 use Rattle.std.specs.Prelude.{◌≡◌, true, false, List, ℕ, length, Result, Ok, Err}
-use Rattle.texts.specs.declared.answers.Refusal.{Refusal}
+use Rattle.texts.specs.declared.answers.Refusal.TheVariants.{NotBudget}
 use Rattle.sheets.specs.Sheet.{Sheet, sheet_size}
 use Rattle.sheets.specs.Dates.{dates_fit}
 use Rattle.sheets.specs.Working.Facts.{Read}
@@ -13,8 +13,8 @@ use Rattle.orders.specs.Working.Entering.{base_of}
 use Rattle.orders.specs.Working.Search.{Payment}
 use Rattle.orders.specs.declared.complete.Incomplete.{Incomplete}
 use Rattle.orders.specs.declared.complete.Incomplete.TheVariants.{Broken as of_broken, Refused as of_refused}
-use Rattle.orders.specs.declared.pretest.Rejection.{Rejection}
-use Rattle.orders.specs.declared.pretest.Rejection.TheVariants.{Broken, Refused}
+use Rattle.rules.specs.declared.check.Rejection.{Rejection}
+use Rattle.rules.specs.declared.check.Rejection.TheVariants.{Broken, Refused}
 
 -- a sheet that is no budget payment can't be completed
 abbrev pub incomplete_by : Rejection → Incomplete
@@ -25,7 +25,7 @@ incomplete_by (Refused n) = of_refused n
 abbrev pub PaysBy : Dates → Sheet → Result Facts Rejection → Type 0
 PaysBy D s (Ok x) = Read D x s × (first_broken D s basic ≡ 0) × (budget s ≡ true)
 PaysBy D s (Err (Broken f r)) = (r.0 ≡ 0 → ⊥) × (first_broken D s basic ≡ r.0) × (f.0 ≡ field_of rules r.0 s)
-PaysBy D s (Err (Refused n)) = (n ≡ record { 0 = 9 }) × (first_broken D s basic ≡ 0) × (budget s ≡ false)
+PaysBy D s (Err (Refused n)) = (n ≡ NotBudget) × (first_broken D s basic ≡ 0) × (budget s ≡ false)
 
 abbrev pub Pays : Dates → Sheet → Result Facts Rejection → Type 0
 Pays D s r = length s ≡ sheet_size → PaysBy D s r

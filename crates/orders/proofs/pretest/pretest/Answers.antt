@@ -15,12 +15,11 @@ pub returns-in_err-facts_of_payment : goal.returns-in_err-facts_of_payment
 returns-in_err-facts_of_payment c = ahead-unpaid _ (begun (goal.at.returns-in_err-facts_of_payment c).After-facts_of_payment) _ c.in_err-facts_of_payment.ensures _ c.from_residual.ensures.1
 
 -- the first filling, looked at
-pub returns-then-named-eq0 : goal.returns-then-named-eq0
-returns-then-named-eq0 c =
-    ahead_none _ (begun (goal.at.returns-then-named-eq0 c).After-facts_of_payment) _ c.in_ok-facts_of_payment.ensures _ c.fill_picked.ensures _ c.facts_of.ensures.0 _ c.broken_ahead-named.ensures.0
-    c.if-named-eq0.true
+pub returns-in-None : goal.returns-in-None
+returns-in-None c =
+    ahead_none _ (begun (goal.at.returns-in-None c).After-facts_of_payment) _ c.in_ok-facts_of_payment.ensures _ c.fill_picked.ensures _ c.facts_of.ensures.0 _ c.broken_ahead.ensures.0 c.in-None.is
 
-pub returns : goal.returns
-returns c =
-    ahead-named _ (begun (goal.at.returns c).After-facts_of_payment) _ c.in_ok-facts_of_payment.ensures _ c.fill_picked.ensures _ c.facts_of.ensures.0 _ c.broken_ahead-named.ensures.0
-    _ c.if-named-eq0.false c.field_of.ensures
+pub returns-in-Some : goal.returns-in-Some
+returns-in-Some c =
+    ahead-named _ (begun (goal.at.returns-in-Some c).After-facts_of_payment) _ c.in_ok-facts_of_payment.ensures _ c.fill_picked.ensures _ c.facts_of.ensures.0 _ c.broken_ahead.ensures.0
+    _ c.in-Some.is _ c.field_of.ensures

@@ -1,4 +1,4 @@
-use Rattle.orders.proofs.Quickening.{filled-long, quick-10, quick-filled}
+use Rattle.orders.proofs.Quickening.{quick-10, quick-filled}
 use Rattle.orders.proofs.quick.quick.Goals as goal
 
 pub returns-in-None : goal.returns-in-None

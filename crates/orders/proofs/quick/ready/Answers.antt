@@ -1,4 +1,3 @@
-use mathlib.Core.Path.{refl}
 use Rattle.orders.proofs.Completing.{Prepared, prepared, payable}
 use Rattle.orders.proofs.Quickening.{ready-1, ready-7, ready-12, ready-by}
 use Rattle.orders.proofs.quick.ready.Goals as goal

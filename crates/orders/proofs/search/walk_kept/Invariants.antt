@@ -1,6 +1,6 @@
 use mathlib.Core.Path.{◌≡◌}
 use mathlib.Core.List.{List, [], ◌∷◌}
-use Prim.Native.Nat.{ℕ, ◌+◌, ◌-◌, ◌*◌, ◌≤◌}
+use Prim.Native.Nat.{ℕ, ◌+◌, ◌*◌, ◌≤◌}
 use Rattle.sheets.specs.Sheet.{Sheet}
 use Rattle.sheets.specs.Working.Entries.{basis_count, zero_count}
 use Rattle.sheets.specs.declared.dates.Dates.{Dates}

@@ -1,7 +1,5 @@
 use mathlib.Core.Path.{◌≡◌}
-use Prim.Native.Nat.{◌-◌, ◌≤◌}
 use lib.ListN.{length}
-use Rattle.sheets.specs.Sheet.{slot_count}
 use Rattle.drafts.specs.History.{posted_from}
 use Rattle.orders.specs.TakeUp.{proposals}
 use Rattle.orders.specs.Working.Upto.{Postable}

@@ -1,9 +1,9 @@
-use borrow.Author.Rules.{rules}
-use Rattle.rules.proofs.First.{kept_at, kept-past}
+use Rattle.std.proofs.Common.{rules, arith}
+use Rattle.std.proofs.lemmas.Grind.{common_steps}
+use Rattle.std.proofs.lemmas.Option.{unwrap_or-slice_get}
+use Rattle.rules.specs.Working.Tests.{kept}
 use Rattle.rules.proofs.check.is_kept.Goals as goal
 
-pub returns-then-k-outcomes : goal.returns-then-k-outcomes
-returns-then-k-outcomes c = search (rules, kept_at)
-
-pub returns-else-k-outcomes : goal.returns-else-k-outcomes
-returns-else-k-outcomes c = search (rules, kept-past)
+pub returns : goal.returns
+unfolding kept
+returns c = grind (arith, common_steps, unwrap_or-slice_get)

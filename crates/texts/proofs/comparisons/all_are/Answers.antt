@@ -1,20 +1,10 @@
-use Rattle.texts.proofs.Loops.{loops}
+use Rattle.std.proofs.Common.{rules, ◌∙◌}
+use Rattle.std.proofs.lemmas.Iterator.{YieldsList-from_slice}
+use Rattle.std.proofs.lemmas.Iterator.Search.{all_from_yields_List}
+use Rattle.texts.specs.Texts.{are}
+use Rattle.texts.proofs.Std.{every-list_all}
 use Rattle.texts.proofs.comparisons.all_are.Goals as goal
 
-pub loop-i-init : goal.loop-i-init
-loop-i-init c = search loops
-
-pub bounds-t-i : goal.bounds-t-i
-bounds-t-i c = search loops
-
-pub overflow_add-i : goal.overflow_add-i
-overflow_add-i c = search loops
-
-pub loop-i-smaller : goal.loop-i-smaller
-loop-i-smaller c = search loops
-
-pub loop-i-preserved : goal.loop-i-preserved
-loop-i-preserved c = search loops
-
 pub returns : goal.returns
-returns c = search loops
+unfolding are
+returns c = all_from_yields_List (are c.args.b) _ _ _ c.all.ensures.ran (YieldsList-from_slice c.args.t.now cc) (λ x b q k. search rules) ∙ every-list_all (are c.args.b) c.args.t.now

@@ -1,23 +1,11 @@
 use Rattle.texts.proofs.Loops.{loops}
 use Rattle.texts.proofs.digits.all_digits.Goals as goal
 
-pub loop-i-init : goal.loop-i-init
-loop-i-init c = search loops
+pub loop-b-init : goal.loop-b-init
+loop-b-init c = search loops
 
-pub bounds-t-i : goal.bounds-t-i
-bounds-t-i c = search loops
-
-pub is_digit-good-requires : goal.is_digit-good-requires
-is_digit-good-requires c = search loops
-
-pub overflow_add-i : goal.overflow_add-i
-overflow_add-i c = search loops
-
-pub loop-i-smaller : goal.loop-i-smaller
-loop-i-smaller c = search loops
-
-pub loop-i-preserved : goal.loop-i-preserved
-loop-i-preserved c = search loops
+pub loop-b-preserved : goal.loop-b-preserved
+loop-b-preserved c = search loops
 
 pub returns : goal.returns
 returns c = search loops

@@ -1,9 +1,6 @@
-use Rattle.texts.proofs.Loops.{AllSoFar, turns_left}
+use Rattle.texts.proofs.Loops.{AllSoFar}
 use Rattle.texts.specs.Texts.{digit}
 use Rattle.texts.proofs.digits.all_digits.Given as goal
 
-abbrev pub invariant-loop-i : goal.invariant-loop-i
-invariant-loop-i l = AllSoFar digit l.t l.good l.i
-
-abbrev pub decreases-loop-i : goal.decreases-loop-i
-decreases-loop-i l = turns_left l.t l.i
+abbrev pub invariant-loop-b : goal.invariant-loop-b
+invariant-loop-b l = AllSoFar digit l.t l.good l.b-index

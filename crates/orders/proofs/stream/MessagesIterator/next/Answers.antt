@@ -3,7 +3,6 @@ use mathlib.Core.Path.{◌≡◌, ap, ◌∙◌, sym}
 use mathlib.Core.Bool.{true≢false}
 use mathlib.Core.List.{◌∷◌}
 use lib.ListN.{length}
-use native.Mathlib.Omega.{arith}
 use Rattle.orders.specs.Stream.{messages_of}
 use Rattle.orders.proofs.Streaming.{messages-none, given}
 use Rattle.orders.proofs.stream.MessagesIterator.next.Goals as goal
