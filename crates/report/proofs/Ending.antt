@@ -1,5 +1,5 @@
 -- The ways through the end of the report, and the whole.
-use mathlib.Core.Path.{◌≡◌, refl, sym, ap, ◌∙◌, subst}
+use mathlib.Core.Path.{◌≡◌, refl, sym, ap, ◌∙◌}
 use mathlib.Core.Bool.{Bool, true, false, cond, ◌&&◌, and-false}
 use mathlib.Core.List.{List, [], ◌∷◌, ◌++◌, append_assoc}
 use Prim.Native.Nat.{ℕ, suc, ◌+◌, ◌<◌, ◌≤◌}
@@ -13,6 +13,7 @@ use Rattle.texts.specs.Quoted.{Text, bytes}
 use Rattle.texts.specs.Buffers.{put}
 use Rattle.texts.specs.Working.Writing.{Wrote}
 use Rattle.texts.specs.Answers.{Answer, success, refusal}
+use Rattle.texts.specs.Refusals.{refusal_number}
 use Rattle.texts.proofs.Puts.{put-none, put-put, mid-put, wrote_as, wrote_then}
 use Rattle.sheets.specs.Sheet.{slots}
 use Rattle.rules.specs.declared.rules.RuleNumber.{RuleNumber}
@@ -21,7 +22,6 @@ use Rattle.drafts.specs.Draft.{fresh_draft, posting_of, posted_to}
 use Rattle.drafts.specs.History.{posted_all}
 use Rattle.drafts.specs.Promises.{Freshens}
 use Rattle.texts.specs.declared.answers.Refusal.{Refusal}
-use Rattle.drafts.specs.declared.draft.Begun.{Begun}
 use Rattle.sheets.specs.Dates.{program_dates}
 use Rattle.sheets.specs.declared.dates.Dates.{Dates}
 use Rattle.orders.specs.Complete.{completing, completed, complete_answer}
@@ -85,15 +85,15 @@ module _ (p : Page) (l : p.len + 733 ≤ length p.buffer.now) where
         (omega (arith, w.wrote.1, v.wrote.1, ok-short n, length-append t (field_lines s slots)))
 
     module _ (e : Incomplete) (h : r ≡ Err e) where
-      pub end-impossible : (n m : ℕ) → e ≡ Impossible n → m ≡ n → Puts p (line (bytes "end") (decimal 10 ∷ decimal m ∷ [])) q → Puts p (ending d) q × (q.len ≤ p.len + 733)
+      pub end-impossible : (k n m : ℕ) → k ≡ 10 → e ≡ Impossible n → m ≡ n → Puts p (line (bytes "end") (decimal k ∷ decimal m ∷ [])) q → Puts p (ending d) q × (q.len ≤ p.len + 733)
       unfolding end_lines complete_answer
-      end-impossible n m he hm w = ended _ (rw (h, he, hm) refl) w (impossible-short 10 m)
+      end-impossible k n m hk he hm w = ended _ (rw (h, he, hk, hm) refl) w (impossible-short k m)
 
-      pub end-broken : (f : Field) (u : RuleNumber) (m n : ℕ) → e ≡ Broken f u → m ≡ f.0 → n ≡ u.0 → Puts p (line (bytes "end") (decimal 8 ∷ decimal m ∷ decimal n ∷ [])) q → Puts p (ending d) q × (q.len ≤ p.len + 733)
+      pub end-broken : (f : Field) (u : RuleNumber) (k m n : ℕ) → k ≡ 8 → e ≡ Broken f u → m ≡ f.0 → n ≡ u.0 → Puts p (line (bytes "end") (decimal k ∷ decimal m ∷ decimal n ∷ [])) q → Puts p (ending d) q × (q.len ≤ p.len + 733)
       unfolding end_lines complete_answer
-      end-broken f u m n he hm hn w = ended _ (rw (h, he, hm, hn) refl) w (broken-short 8 m n)
+      end-broken f u k m n hk he hm hn w = ended _ (rw (h, he, hk, hm, hn) refl) w (broken-short k m n)
 
-      pub end_refused : (n : Refusal) (m : ℕ) → e ≡ Refused n → m ≡ n.0 → Puts p (line (bytes "end") (decimal m ∷ [])) q → Puts p (ending d) q × (q.len ≤ p.len + 733)
+      pub end_refused : (n : Refusal) (m : ℕ) → e ≡ Refused n → m ≡ refusal_number n → Puts p (line (bytes "end") (decimal m ∷ [])) q → Puts p (ending d) q × (q.len ≤ p.len + 733)
       unfolding end_lines complete_answer
       end_refused n m he hm w = ended _ (rw (h, he, hm) refl) w (refused-short m)
 
@@ -107,7 +107,7 @@ told-before D n d (m ∷ ms) = ap (λ (r : List ℕ). message_line n (posting_of
 -- ---- the whole
 
 -- a draft of 465 bytes made fresh
-pub fresh-is : (d : List ℕ) (r : Begun) (e : List ℕ) → Freshens d r e → length d ≡ 465 → e ≡ fresh_draft
+pub fresh-is : (d : List ℕ) (r : Result Unit Refusal) (e : List ℕ) → Freshens d r e → length d ≡ 465 → e ≡ fresh_draft
 unfolding posted_all
 fresh-is d r e F l = (F.start l).draft
 

@@ -14,7 +14,9 @@ use Rattle.drafts.specs.Message.{length_of, misframed, read_tests, reading_of}
 use Rattle.drafts.proofs.Messages.{frame-means}
 use Rattle.drafts.specs.Draft.{fresh_draft, post_answer}
 use Rattle.drafts.specs.Promises.{Posts}
-use Rattle.drafts.specs.declared.draft.Posted.{Posted}
+use Rattle.drafts.specs.declared.revision.Standing.{Standing}
+use Rattle.texts.specs.declared.answers.Refusal.{Refusal}
+use Rattle.std.specs.Prelude.{Result}
 use Rattle.orders.specs.Stream.{piece_of, ends_stream, messages_of}
 use Rattle.orders.proofs.Streaming.{messages-none, messages-next}
 use Rattle.report.specs.declared.lines.Page.{Page}
@@ -102,7 +104,7 @@ module _ (i : List ℕ) (p : Page) (il : length i ≤ 32768) (bl : 46080 ≤ len
           let s = puts-length p q T.text T.puts (omega (arith, few i, T.count, T.short, ap length e)) in
           omega (arith, few i, T.count, T.short, ap length e)
 
-      pub telling-next : (j n : ℕ) (r : Posted) (d' : List ℕ) (x : Page) → j ≡ k → n ≡ k + 1 → Posts d m r d' → Puts q (message_line (number j) (post_answer r)) x → x.len ≤ q.len + 11 → Telling i p n after d' x
+      pub telling-next : (j n : ℕ) (r : Result Standing Refusal) (d' : List ℕ) (x : Page) → j ≡ k → n ≡ k + 1 → Posts d m r d' → Puts q (message_line (number j) (post_answer r)) x → x.len ≤ q.len + 11 → Telling i p n after d' x
       unfolding report_from
       telling-next j n r d' x ej en P w u =
           let line = message_line (number k) (post_answer r) in

@@ -8,10 +8,11 @@ ghost use Rattle.orders.specs.Whole.{Completes};
 ghost use Rattle.report.specs.Report.{field_lines, ending};
 ghost use Rattle.report.specs.Working.Page.{Puts};
 
-use crate::lines::{Item, Page};
+use crate::lines::{Item, Page, number_of};
 use orders::complete::{Filled, Incomplete, complete};
 use sheets::dates::program_dates;
 use sheets::sheet::{SHEET_SIZE, SLOT_COUNT, field_in, text};
+use texts::answers::Refusal;
 
 // "For a blank 15 the text is `-`".
 fn shown(sheet: &[u8], slot: u8) -> &[u8]
@@ -54,18 +55,18 @@ pub(crate) fn put_end(page: &mut Page<'_>, draft: &[u8])
             put_fields(page, &sheet);
         }
         Err(Incomplete::Impossible(count)) => {
-            page.put_line(end, &[Item::Number(10), Item::Number(count)]);
+            page.put_line(end, &[Item::Number(number_of(Refusal::Impossible)), Item::Number(count)]);
         }
         Err(Incomplete::Broken(field, rule)) => page.put_line(
             end,
             &[
-                Item::Number(8),
+                Item::Number(number_of(Refusal::BrokenRule)),
                 Item::Number(usize::from(field.0)),
                 Item::Number(usize::from(rule.0)),
             ],
         ),
         Err(Incomplete::Refused(refusal)) => {
-            page.put_line(end, &[Item::Number(usize::from(refusal.0))]);
+            page.put_line(end, &[Item::Number(number_of(refusal))]);
         }
     }
 }

@@ -30,7 +30,7 @@ pub fn report(input: &[u8], out: &mut [u8]) -> usize
         return 0;
     }
     let mut draft = [0u8; DRAFT_SIZE];
-    fresh(&mut draft);
+    let _ = fresh(&mut draft);
     let mut page = Page::new(out);
     put_messages(&mut page, &mut draft, input);
     put_end(&mut page, &draft);

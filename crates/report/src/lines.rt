@@ -1,8 +1,10 @@
 // Lines of items, written into a lent buffer one behind the other.
-ghost use Rattle.std.specs.Prelude.{◌≡◌, ◌+◌, ◌≤◌, length, map};
+ghost use Rattle.std.specs.Prelude.{◌≡◌, ◌+◌, ◌<◌, ◌≤◌, length, map};
+ghost use Rattle.texts.specs.Refusals.{refusal_number};
 ghost use Rattle.report.specs.Lines.{line};
 ghost use Rattle.report.specs.Working.Page.{item_text, Puts};
 
+use texts::answers::Refusal;
 use texts::buffers::put;
 
 // A word, or a number that is written in decimal.
@@ -10,6 +12,12 @@ use texts::buffers::put;
 pub(crate) enum Item<'a> {
     Word(&'a [u8]),
     Number(usize),
+}
+
+pub(crate) fn number_of(refusal: Refusal) -> usize
+    ensures { (result ≡ refusal_number refusal) × (result < 256) }
+{
+    usize::from(u8::from(refusal))
 }
 
 // What is written so far, at the start of a buffer.

@@ -5,19 +5,21 @@ ghost use Rattle.report.specs.Report.{shown};
 ghost use Rattle.report.specs.Working.Page.{item_text};
 ghost use Rattle.report.specs.Working.Told.{Told};
 
-use crate::lines::{Item, Page};
-use drafts::draft::{Posted, post};
+use crate::lines::{Item, Page, number_of};
+use drafts::draft::post;
+use drafts::revision::Standing;
 use orders::stream::Messages;
+use texts::answers::Refusal;
 
 // "Newer, same, older or the refusal number".
-fn shown(posted: Posted) -> Item<'static>
+fn shown(posted: Result<Standing, Refusal>) -> Item<'static>
     ensures { (item_text result ≡ shown (post_answer posted)) × (length (item_text result) ≤ 5) }
 {
     match posted {
-        Posted::Newer => Item::Word(b"newer"),
-        Posted::Same => Item::Word(b"same"),
-        Posted::Older => Item::Word(b"older"),
-        Posted::Refused(refusal) => Item::Number(usize::from(refusal.0)),
+        Ok(Standing::Newer) => Item::Word(b"newer"),
+        Ok(Standing::Same) => Item::Word(b"same"),
+        Ok(Standing::Older) => Item::Word(b"older"),
+        Err(refusal) => Item::Number(number_of(refusal)),
     }
 }
 
