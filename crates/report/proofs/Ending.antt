@@ -1,20 +1,19 @@
 -- The ways through the end of the report, and the whole.
 use mathlib.Core.Path.{◌≡◌, refl, sym, ap, ◌∙◌}
 use mathlib.Core.Bool.{Bool, true, false, cond, ◌&&◌, and-false}
-use mathlib.Core.List.{List, [], ◌∷◌, ◌++◌, append_assoc}
+use mathlib.Core.List.{List, [], ◌∷◌, ◌++◌}
 use Prim.Native.Nat.{ℕ, suc, ◌+◌, ◌<◌, ◌≤◌}
 use native.Mathlib.Omega.{arith}
 use borrow.Author.Tests.{le-leb, lt-leb, leb-true}
 use lib.Dec.{leb}
 use lib.ListN.{length, take, length-append}
-use lib.Seq.{take_at}
 use Rattle.std.specs.Prelude.{Result, Ok, Err}
 use Rattle.texts.specs.Quoted.{Text, bytes}
 use Rattle.texts.specs.Buffers.{put}
 use Rattle.texts.specs.Working.Writing.{Wrote}
 use Rattle.texts.specs.Answers.{Answer, success, refusal}
 use Rattle.texts.specs.Refusals.{refusal_number}
-use Rattle.texts.proofs.Puts.{put-none, put-put, mid-put, wrote_as, wrote_then}
+use Rattle.texts.proofs.Puts.{put-none, mid-put}
 use Rattle.sheets.specs.Sheet.{slots}
 use Rattle.rules.specs.declared.rules.RuleNumber.{RuleNumber}
 use Rattle.sheets.specs.declared.sheet.Field.{Field}
@@ -26,7 +25,6 @@ use Rattle.sheets.specs.Dates.{program_dates}
 use Rattle.sheets.specs.declared.dates.Dates.{Dates}
 use Rattle.orders.specs.Complete.{completing, completed, complete_answer}
 use Rattle.orders.specs.Whole.{Completes}
-use Rattle.orders.specs.Requests.R7.{completing_before, completed_before}
 use Rattle.orders.proofs.Dated.{as-before-completed}
 use Rattle.orders.specs.declared.complete.Filled.{Filled}
 use Rattle.orders.specs.declared.complete.Incomplete.{Incomplete}

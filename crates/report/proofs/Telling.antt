@@ -1,7 +1,7 @@
 -- The lines of the messages: what is told so far, and what is left of the report.
 use mathlib.Core.Path.{◌≡◌, refl, sym, ap, ◌∙◌}
 use mathlib.Core.Bool.{Bool, true, false, cond, false≢true}
-use mathlib.Core.List.{List, [], ◌∷◌, ◌++◌, append_assoc, append-nil}
+use mathlib.Core.List.{List, [], ◌∷◌, ◌++◌, append_assoc}
 use Prim.Native.Nat.{ℕ, zero, suc, ◌+◌, ◌*◌, ◌^◌, ◌<◌, ◌≤◌}
 use native.Mathlib.Decide.{ℕ_discrete}
 use native.Mathlib.Omega.{arith}
@@ -20,7 +20,7 @@ use Rattle.std.specs.Prelude.{Result}
 use Rattle.orders.specs.Stream.{piece_of, ends_stream, messages_of}
 use Rattle.orders.proofs.Streaming.{messages-none, messages-next}
 use Rattle.report.specs.declared.lines.Page.{Page}
-use Rattle.report.specs.Report.{message_line, ending, report_from, report_of}
+use Rattle.report.specs.Report.{message_line, report_from, report_of}
 use Rattle.report.specs.Working.Page.{Puts}
 use Rattle.report.specs.Working.Told.{Told}
 use Rattle.report.proofs.Pages.{puts_as, puts_none, puts_then, puts-length}
@@ -47,7 +47,7 @@ few-in (suc n) i h =
           let l : length m ≤ length i = omega (arith, length-take (length_of i + 2) i) in
           let rest = messages_of (drop (length m) i) in
           let next : (z : Bool) → ends_stream m ≡ z → length (messages_of i) ≡ length (m ∷ cond z [] rest) =
-              λ z e. ap length (messages-next i (omega arith) ∙ ap (λ (x : Bool). m ∷ cond x [] rest) e) in
+          λ z e. ap length (messages-next i (omega arith) ∙ ap (λ (x : Bool). m ∷ cond x [] rest) e) in
           cases (ends_stream m)
           (λ t. omega (arith, next true t))
           (λ f. omega (arith, next false f, long m f, length-drop (length m) i, few-in n (drop (length m) i) (omega (arith, long m f, length-drop (length m) i))))

@@ -68,7 +68,7 @@ module _ (s : List ℕ) (p q : Page) where
     pub fields_next : (r : Page) → k < 15 → Puts q (field_line s k) r → r.len ≤ length p.buffer.now → Puts p (field_lines s (take (k + 1) slots)) r
     fields_next r h v u =
         let e : field_lines s (take (k + 1) slots) ≡ field_lines s (take k slots) ++ field_line s k =
-            rw add-one (fields_more s slots k h ∙ ap (λ (j : ℕ). field_lines s (take k slots) ++ field_line s j) (at_slots (λ (j : ℕ). j) 0 k h)) in
+        rw add-one (fields_more s slots k h ∙ ap (λ (j : ℕ). field_lines s (take k slots) ++ field_line s j) (at_slots (λ (j : ℕ). j) 0 k h)) in
         puts_as p r _ _ (sym e) (puts_then p q r (field_lines s (take k slots)) (field_line s k) w v u)
 
     pub fields_done : 15 ≤ k → Puts p (field_lines s slots) q

@@ -55,7 +55,13 @@ pub(crate) fn put_end(page: &mut Page<'_>, draft: &[u8])
             put_fields(page, &sheet);
         }
         Err(Incomplete::Impossible(count)) => {
-            page.put_line(end, &[Item::Number(number_of(Refusal::Impossible)), Item::Number(count)]);
+            page.put_line(
+                end,
+                &[
+                    Item::Number(number_of(Refusal::Impossible)),
+                    Item::Number(count),
+                ],
+            );
         }
         Err(Incomplete::Broken(field, rule)) => page.put_line(
             end,

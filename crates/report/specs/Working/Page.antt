@@ -1,5 +1,5 @@
 -- What a page holds, and what writing on it leaves. A reader of the promise needs none of this.
-use Rattle.std.specs.Prelude.{◌≡◌, List, ℕ}
+use Rattle.std.specs.Prelude.{◌≡◌}
 use Rattle.texts.specs.Quoted.{Text}
 use Rattle.texts.specs.Working.Writing.{Wrote}
 use Rattle.report.specs.declared.lines.Item.{Item}

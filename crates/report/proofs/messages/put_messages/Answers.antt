@@ -12,8 +12,8 @@ loop-index-init c =
     let e = c.enumerate-index-items.ensures in
     let s = c.into_iter-index-iterator.ensures.into_iter_gives in
     let t =
-        telling-none c.args.input.now c.args.page.now r.input_len_bound r.in_bounds r.empty _ _ _ ((λ i. (s i).count) ∙ e.count)
-        (ap messages_left ((λ i. (s i).iter) ∙ e.source) ∙ c.of.ensures) r.draft_value
+    telling-none c.args.input.now c.args.page.now r.input_len_bound r.in_bounds r.empty _ _ _ ((λ i. (s i).count) ∙ e.count)
+    (ap messages_left ((λ i. (s i).iter) ∙ e.source) ∙ c.of.ensures) r.draft_value
     in
     ((tt, tt, inl (telling-fits _ _ r.input_len_bound r.in_bounds r.empty _ _ _ _ t)), tt, t)
 
