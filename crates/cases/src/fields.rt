@@ -1,5 +1,5 @@
 // The bytes of a case, read from the front: numbers of several bytes are big-endian, and past the end there are zeros.
-ghost use Rattle.std.specs.Prelude.{◌≡◌, ◌-◌, ◌≤◌, length};
+ghost use Rattle.std.specs.Prelude.{◌≡◌, ◌+◌, ◌*◌, ◌≤◌, get_or, take, drop};
 
 use sheets::dates::{Date, Dates};
 use texts::buffers::put;
@@ -19,32 +19,36 @@ impl<'a> Fields<'a> {
 
     // So many bytes, as far as there are any.
     pub(crate) fn take(&mut self, n: usize) -> &'a [u8]
-        ensures { length self.new.rest.now ≡ length self.old.rest.now - n }
+        ensures taken { result.now ≡ take n self.old.rest.now }
+        ensures left { self.new.rest.now ≡ drop n self.old.rest.now }
     {
         let (taken, rest) = self.rest.split_at(n.min(self.rest.len()));
         self.rest = rest;
         taken
     }
 
+    pub(crate) fn u8(&mut self) -> u8
+        ensures value { result ≡ get_or self.old.rest.now 0 0 }
+        ensures left { self.new.rest.now ≡ drop 1 self.old.rest.now }
+    {
+        let first = self.rest.first().copied().unwrap_or(0);
+        self.take(1);
+        first
+    }
+
+    pub(crate) fn u16(&mut self) -> u16
+        ensures value { result ≡ get_or self.old.rest.now 0 0 * 256 + get_or self.old.rest.now 1 0 }
+        ensures left { self.new.rest.now ≡ drop 2 self.old.rest.now }
+    {
+        u16::from_be_bytes([self.u8(), self.u8()])
+    }
+
     fn array<const N: usize>(&mut self) -> [u8; N]
         requires { N ≤ 8 }
-        ensures { length self.new.rest.now ≡ length self.old.rest.now - N }
     {
         let mut bytes = [0; N];
         put(&mut bytes, 0, self.take(N));
         bytes
-    }
-
-    pub(crate) fn u8(&mut self) -> u8
-        ensures { length self.new.rest.now ≡ length self.old.rest.now - 1 }
-    {
-        u8::from_be_bytes(self.array())
-    }
-
-    pub(crate) fn u16(&mut self) -> u16
-        ensures { length self.new.rest.now ≡ length self.old.rest.now - 2 }
-    {
-        u16::from_be_bytes(self.array())
     }
 
     pub(crate) fn u32(&mut self) -> u32 {

@@ -1,4 +1,7 @@
 // The cases of an input, one behind another.
+ghost use Rattle.std.specs.Prelude.{◌≡◌};
+ghost use Rattle.cases.specs.Cases.{left};
+
 use crate::fields::Fields;
 use crate::kind::Kind;
 
@@ -18,7 +21,9 @@ pub struct Cases<'a> {
 }
 
 impl<'a> Cases<'a> {
-    pub fn of(input: &'a [u8], answered: &'a [Kind]) -> Cases<'a> {
+    pub fn of(input: &'a [u8], answered: &'a [Kind]) -> Cases<'a>
+        ensures { left result ≡ input.now }
+    {
         Cases {
             fields: Fields::of(input),
             answered,
@@ -29,10 +34,13 @@ impl<'a> Cases<'a> {
 impl<'a> Iterator for Cases<'a> {
     ghost use Rattle.std.specs.Prelude.{length};
     ghost use Rattle.std.specs.Iterator.{at_most};
+    ghost use Rattle.cases.specs.Cases.{left, TakesFirst};
 
     type Item = Case<'a>;
 
-    ghost remaining = { λ cases. at_most (length cases.fields.rest.now) };
+    ghost next_gives = { TakesFirst };
+
+    ghost remaining = { λ s. at_most (length (left s)) };
 
     fn next(&mut self) -> Option<Case<'a>> {
         if self.fields.rest.is_empty() {
