@@ -1,26 +1,22 @@
 -- What a charge promises, by its definition, and the ways through `charge`.
 use mathlib.Core.Path.{◌≡◌, refl, sym, ap, ◌∙◌, subst}
-use mathlib.Core.Bool.{Bool, true, false, not, cond, ◌&&◌, true≢false}
+use mathlib.Core.Bool.{Bool, true, false, cond, ◌&&◌, true≢false}
 use mathlib.Core.List.{[], ◌∷◌}
-use Prim.Native.Nat.{ℕ, ◌*◌, ◌≤◌}
-use native.Mathlib.Nat.{mul-le-mul, mul-le-mul_right}
+use Prim.Native.Nat.{ℕ, ◌≤◌}
+use native.Mathlib.Nat.{mul-le-mul_right}
 use native.Mathlib.Omega.{arith}
 use borrow.Author.Tests.{leb-true, le-leb, ltb-true, ltb-false, not-false}
 use lib.Dec.{leb, ltb}
 use Rattle.texts.specs.Answers.{success, number_of}
+use Rattle.texts.specs.Refusals.{refusal_number}
 use Rattle.texts.specs.declared.answers.Refusal.{Refusal}
 use Rattle.texts.proofs.Bools.{both, and2}
 use Rattle.texts.proofs.Refusals.{none_of, succeeded, Way, way_out}
 use Rattle.amounts.specs.Amount.{most_kopecks, is_amount}
 use Rattle.amounts.specs.Charge.{chargeable, rounded, raised_to, lowered_to, limited, charge_tests, charging, charge_answer, InRange, IsCharge, Charges}
 use Rattle.amounts.specs.declared.amount.Kopecks.{Kopecks}
-use Rattle.amounts.specs.declared.charge.Charged.{Charged}
-use Rattle.amounts.specs.declared.charge.Charged.TheVariants.{Made, Refused}
+use Rattle.std.specs.Prelude.{Result, Ok, Err}
 use Rattle.amounts.proofs.Ranges.{sole, no_number, amount-is, is-amount}
-
--- the product fits in 64 bits, and so does what is added
-pub product-fits : (a r : ℕ) → a ≤ most_kopecks → r ≤ 10000 → a * r ≤ 10000000000000000
-product-fits a r h k = mul-le-mul h k
 
 -- ---- the limits
 
@@ -115,20 +111,20 @@ module _ (a r l g : ℕ) where
       (in-range (not-false _ (none_of (charge_tests a r l g) q.0).0), z)
 
   -- a charge that is made, and a refusal
-  holds_by : (x : Charged) → charge_answer x ≡ charging a r l g → (c : Kopecks) → x ≡ Made c → InRange a r l g × IsCharge a r l g c.0
+  holds_by : (x : Result Kopecks Refusal) → charge_answer x ≡ charging a r l g → (c : Kopecks) → x ≡ Ok c → InRange a r l g × IsCharge a r l g c.0
   unfolding charge_answer
   holds_by x e c h =
       let q = made_of c.0 (sym e ∙ ap charge_answer h) in
       (q.0, subst (IsCharge a r l g) (sym q.1) (is-charge q.0))
 
-  number_by : (x : Charged) → charge_answer x ≡ charging a r l g → (n : Refusal) → x ≡ Refused n → (n.0 ≡ 14) × (InRange a r l g → ⊥)
+  number_by : (x : Result Kopecks Refusal) → charge_answer x ≡ charging a r l g → (n : Refusal) → x ≡ Err n → (refusal_number n ≡ 14) × (InRange a r l g → ⊥)
   unfolding charging charge_tests charge_answer
   number_by x e n h =
-      let q = sole (chargeable a r l g) 14 n.0 _ [] (sym e ∙ ap charge_answer h) in
+      let q = sole (chargeable a r l g) 14 (refusal_number n) _ [] (sym e ∙ ap charge_answer h) in
       (q.0, λ i. true≢false (sym (range-in i) ∙ q.1))
 
   -- the promise, from the equation that the code is proved to meet
-  charges-by : (x : Charged) → charge_answer x ≡ charging a r l g → Charges a r l g x
+  charges-by : (x : Result Kopecks Refusal) → charge_answer x ≡ charging a r l g → Charges a r l g x
   unfolding charging charge_tests
   charges-by x e = record {
     answer = e;
@@ -146,13 +142,9 @@ module _ (a r l g : ℕ) where
         omega (arith, p, q1, limited-rises l g (rounded a r) (rounded m r) o2);
   }
 
-  -- w is what `is_chargeable` answered
-  pub ranged : (w : Bool) → w ≡ chargeable a r l g → not w ≡ false → (a ≤ most_kopecks) × (r ≤ 10000)
-  ranged w hw h = let i = in-range (sym hw ∙ not-false w h) in (i.most, i.rates)
-
 -- ---- the ways out of `charge`
 
-pub charge-out : (k a r l g : ℕ) (x : Charged) → Way (limited l g (rounded a r) ∷ []) [] [] (charge_answer x) [] (Charges a r l g x) k (charge_tests a r l g)
+pub charge-out : (k a r l g : ℕ) (x : Result Kopecks Refusal) → Way (limited l g (rounded a r) ∷ []) [] [] (charge_answer x) [] (Charges a r l g x) k (charge_tests a r l g)
 unfolding charging
 charge-out k a r l g x = way_out _ [] [] _ [] _ k (charge_tests a r l g) (λ p q. charges-by a r l g x p)
 

@@ -1,27 +1,22 @@
 -- What a part promises, by its definition, and the ways through `part`.
 use mathlib.Core.Path.{◌≡◌, sym, ap, ◌∙◌, subst}
-use mathlib.Core.Bool.{Bool, true, false, not, ◌&&◌, true≢false}
+use mathlib.Core.Bool.{true, ◌&&◌, true≢false}
 use mathlib.Core.List.{[], ◌∷◌}
-use Prim.Native.Nat.{ℕ, ◌+◌, ◌*◌, ◌≤◌, ◌<◌}
-use native.Mathlib.Nat.{mul-le-mul, div-add-mod', mod-lt}
+use Prim.Native.Nat.{ℕ, ◌+◌, ◌*◌, ◌<◌}
+use native.Mathlib.Nat.{div-add-mod', mod-lt}
 use native.Mathlib.Omega.{arith}
-use borrow.Author.Tests.{leb-true, le-leb, not-false}
+use borrow.Author.Tests.{leb-true, le-leb}
 use lib.Dec.{leb}
 use Rattle.texts.specs.Answers.{success, number_of}
+use Rattle.texts.specs.Refusals.{refusal_number}
 use Rattle.texts.specs.declared.answers.Refusal.{Refusal}
 use Rattle.texts.proofs.Bools.{both, and2}
 use Rattle.texts.proofs.Refusals.{Way, way_out}
-use Rattle.amounts.specs.Amount.{most_kopecks, is_amount}
+use Rattle.amounts.specs.Amount.{is_amount}
 use Rattle.amounts.specs.Part.{is_year, partable, quotient_of, remainder_of, part_tests, parting, part_answer, PartRange, IsPart, Parts}
-use Rattle.amounts.specs.declared.amount.Kopecks.{Kopecks}
-use Rattle.amounts.specs.declared.part.Remainder.{Remainder}
-use Rattle.amounts.specs.declared.part.Parted.{Parted}
-use Rattle.amounts.specs.declared.part.Parted.TheVariants.{Made, Refused}
+use Rattle.std.specs.Prelude.{Result, Ok, Err}
+use Rattle.amounts.specs.declared.part.Portion.{Portion}
 use Rattle.amounts.proofs.Ranges.{sole, no_number, amount-is, is-amount, year-is, is-year, year-bound}
-
--- the product fits in 64 bits
-pub days-fit : (a d : ℕ) → a ≤ most_kopecks → d ≤ 366 → a * d ≤ 366000000000000
-days-fit a d h k = mul-le-mul h k
 
 module _ (a d y : ℕ) where
   part-range : partable a d y ≡ true → PartRange a d y
@@ -61,16 +56,16 @@ module _ (a d y : ℕ) where
       let p = is-part i in
       (i, record { exactly = (λ k. sym zq k * y + sym zr k) ∙ p.exactly; below = subst (λ (n : ℕ). n < y) zr p.below })
 
-  module _ (x : Parted) (e : part_answer x ≡ parting a d y) where
+  module _ (x : Result Portion Refusal) (e : part_answer x ≡ parting a d y) where
     -- a part that is made, and a refusal
-    holds_by : (q : Kopecks) (r : Remainder) → x ≡ Made q r → PartRange a d y × IsPart a d y q.0 r.0
+    holds_by : (p : Portion) → x ≡ Ok p → PartRange a d y × IsPart a d y p.kopecks.0 p.remainder.0
     unfolding part_answer
-    holds_by q r h = made_of q.0 r.0 (sym e ∙ ap part_answer h)
+    holds_by p h = made_of p.kopecks.0 p.remainder.0 (sym e ∙ ap part_answer h)
 
-    number_by : (n : Refusal) → x ≡ Refused n → (n.0 ≡ 15) × (PartRange a d y → ⊥)
+    number_by : (n : Refusal) → x ≡ Err n → (refusal_number n ≡ 15) × (PartRange a d y → ⊥)
     unfolding parting part_tests part_answer
     number_by n h =
-        let q = sole (partable a d y) 15 n.0 _ [] (sym e ∙ ap part_answer h) in
+        let q = sole (partable a d y) 15 (refusal_number n) _ [] (sym e ∙ ap part_answer h) in
         (q.0, λ i. true≢false (sym (range-part i) ∙ q.1))
 
     -- the promise, from the equation that the code is proved to meet
@@ -85,16 +80,9 @@ module _ (a d y : ℕ) where
       number = number_by;
     }
 
-  -- w is what `is_partable` answered
-  pub ranged : (w : Bool) → w ≡ partable a d y → not w ≡ false → (a ≤ most_kopecks) × (d ≤ 366) × (0 < y) × (y ≤ 366)
-  ranged w hw h =
-      let i = part-range (sym hw ∙ not-false w h) in
-      let b = year-bound y i.years in
-      (i.most, omega (arith, i.last, b.1), b.0, b.1)
-
 -- ---- the ways out of `part`
 
-pub part_out : (k a d y : ℕ) (x : Parted) → Way (quotient_of a d y ∷ remainder_of a d y ∷ []) [] [] (part_answer x) [] (Parts a d y x) k (part_tests a d y)
+pub part_out : (k a d y : ℕ) (x : Result Portion Refusal) → Way (quotient_of a d y ∷ remainder_of a d y ∷ []) [] [] (part_answer x) [] (Parts a d y x) k (part_tests a d y)
 unfolding parting
 part_out k a d y x = way_out _ [] [] _ [] _ k (part_tests a d y) (λ p q. parts-by a d y x p)
 

@@ -1,25 +1,26 @@
 -- What shares promise, by their definition; the loops and the ways through `shares`.
 use mathlib.Core.Path.{◌≡◌, refl, sym, ap, ◌∙◌, subst}
-use mathlib.Core.Bool.{Bool, true, false, not, ◌&&◌, true≢false}
+use mathlib.Core.Bool.{true, ◌&&◌, true≢false}
 use mathlib.Core.List.{List, [], ◌∷◌, ◌++◌}
 use Prim.Native.Nat.{ℕ, zero, suc, ◌+◌, ◌-◌, ◌*◌, ◌/◌, ◌≤◌, ◌<◌}
 use native.Mathlib.Nat.{zero-add, mul-zero, zero-div, mul-le-mul_left, le-div_iff_mul-le, div-mul-le_self, mul-div_cancel}
-use native.Mathlib.Numerals.{add-one}
 use native.Mathlib.Omega.{arith}
-use borrow.Author.Tests.{leb-true, le-leb, eqb-true, eq-eqb, not-false}
+use borrow.Author.Tests.{leb-true, le-leb, eqb-true, eq-eqb}
 use lib.Dec.{leb, eqb}
-use lib.ListN.{length, take, drop, get_or, set, replicate, length-append, length-replicate, drop_of_length-le}
-use lib.Seq.{take_all, drop-cons, sets, sets-eq, get_or-append-add}
+use lib.ListN.{length, take, drop, get_or, replicate, length-append, length-replicate, drop_of_length-le}
+use lib.Seq.{take_all, sets, sets-eq, get_or-append-add}
 use Rattle.texts.specs.Texts.{every}
 use Rattle.texts.specs.Answers.{success, refusal, number_of}
+use Rattle.texts.specs.Refusals.{refusal_number}
 use Rattle.texts.specs.declared.answers.Refusal.{Refusal}
 use Rattle.texts.proofs.Bools.{both, and2}
 use Rattle.texts.proofs.Refusals.{Way, way_out}
-use Rattle.amounts.specs.Amount.{most_kopecks, is_amount}
+use Rattle.amounts.specs.Amount.{is_amount}
 use Rattle.amounts.specs.Part.{is_year, quotient_of}
 use Rattle.amounts.specs.Shares.{total, all_some, are_periods, sharable, shares_from, places_of, share_tests, sharing, shared_to, share_answer, ShareRange, AreShares, Shares}
-use Rattle.amounts.specs.declared.shares.Shared.{Shared}
-use Rattle.amounts.specs.declared.shares.Shared.TheVariants.{Made, Refused}
+use Rattle.std.specs.Prelude.{Result, Ok, Err, sum}
+use Rattle.std.proofs.lemmas.List.{drop-replicate}
+use Rattle.std.proofs.lemmas.List.Recursion.{is_sum_by}
 use Rattle.amounts.proofs.Ranges.{sole, no_number, amount-is, is-amount, year-is, is-year, year-bound}
 
 zeros-total : (k n : ℕ) → total (take k (replicate n 0)) ≡ 0
@@ -149,7 +150,7 @@ module _ (a y : ℕ) (ps : List ℕ) where
       record { some = m.0; most = m.1; years = year-is y p.1; first = q.0; last = q.1; days = some_at ps q.2; whole = q.3 }
 
   -- the promise, from the equations that the code is proved to meet
-  module _ (b e : List ℕ) (x : Shared) (ha : share_answer x ≡ sharing a y ps) (he : e ≡ shared_to a y ps b) where
+  module _ (b e : List ℕ) (x : Result Unit Refusal) (ha : share_answer x ≡ sharing a y ps) (he : e ≡ shared_to a y ps b) where
     in-range : number_of (share_answer x) ≡ 0 → sharable a y ps ≡ true
     unfolding sharing share_tests
     in-range z = no_number (sharable a y ps) 15 [] (λ k. omega arith) (ap number_of (sym ha) ∙ z)
@@ -172,24 +173,20 @@ module _ (a y : ℕ) (ps : List ℕ) where
         let q = sole (sharable a y ps) 15 n [] vs (sym ha ∙ h) in
         (q.0, λ i. true≢false (sym (range-share i) ∙ q.1), he ∙ simp q.1)
 
-    holds_by : x ≡ Made → ShareRange a y ps × AreShares a y ps e
+    holds_by : x ≡ Ok tt → ShareRange a y ps × AreShares a y ps e
     unfolding share_answer
     holds_by h = let k = ap share_answer h in (share-range (in-range (ap number_of k)), shared-by k)
 
-    number_by : (n : Refusal) → x ≡ Refused n → (n.0 ≡ 15) × (ShareRange a y ps → ⊥) × (e ≡ b)
+    number_by : (n : Refusal) → x ≡ Err n → (refusal_number n ≡ 15) × (ShareRange a y ps → ⊥) × (e ≡ b)
     unfolding share_answer
-    number_by n h = refused-by n.0 [] (ap share_answer h)
+    number_by n h = refused-by (refusal_number n) [] (ap share_answer h)
 
     shares-by : Shares a y ps b x e
     shares-by = record { answer = ha; places = he; exactly = (λ z. share-range (in-range z), accepted); refused = λ n vs h. let q = refused-by n vs h in (q.0, q.2); shared = shared-by; holds = holds_by; number = number_by }
 
-  -- w is what `is_sharable` answered
-  pub asked : (w : Bool) → w ≡ sharable a y ps → not w ≡ false → (is_amount a ≡ true) × (is_year y ≡ true) × (are_periods y ps ≡ true)
-  asked w hw h = parts-of (sym hw ∙ not-false w h)
-
 -- ---- the ways out of `shares`
 
-pub share-out : (k a y : ℕ) (ps b : List ℕ) (x : Shared) (e : List ℕ) → Way [] (places_of a y ps) b (share_answer x) e (Shares a y ps b x e) k (share_tests a y ps)
+pub share-out : (k a y : ℕ) (ps b : List ℕ) (x : Result Unit Refusal) (e : List ℕ) → Way [] (places_of a y ps) b (share_answer x) e (Shares a y ps b x e) k (share_tests a y ps)
 unfolding sharing shared_to
 share-out k a y ps b x e = way_out _ _ _ _ e _ k (share_tests a y ps) (shares-by a y ps b e x)
 
@@ -197,16 +194,6 @@ pub shared : (a y z : ℕ) (ps e : List ℕ) → e ≡ places_of a z ps → z �
 shared a y z ps e he ez = rw (← ez) he
 
 -- ---- the loops
-
-module _ (ps : List ℕ) (i : ℕ) where
-  pub sum_more : (s p : ℕ) → total ps ≡ s + total (drop i ps) → i < length ps → p ≡ get_or ps i 0 → total ps ≡ s + p + total (drop (i + 1) ps)
-  sum_more s p e h q =
-      let d : total (drop i ps) ≡ get_or ps i 0 + total (drop (suc i) ps) = ap total (drop-cons ps i 0 h) in
-      let n : total (drop (i + 1) ps) ≡ total (drop (suc i) ps) = ap (λ (j : ℕ). total (drop j ps)) (add-one i) in
-      omega (arith, e, d, n, q)
-
-  pub sum_done : (s : ℕ) → total ps ≡ s + total (drop i ps) → length ps ≤ i → s ≡ total ps
-  sum_done s e h = let d : total (drop i ps) ≡ 0 = ap total (drop_of_length-le ps h) in omega (arith, e, d)
 
 -- the shares so far are in the places, and those of the periods from i on will be put behind them
 abbrev pub zeros : List ℕ
@@ -216,48 +203,14 @@ module _ (a y : ℕ) (ps : List ℕ) (i : ℕ) (places : List ℕ) (days : ℕ) 
   abbrev pub Putting : Type 0
   Putting = sets places i (shares_from a y days (drop i ps)) ≡ sets zeros 0 (shares_from a y 0 ps)
 
-  pub share-more : Putting → i < length ps → (d q b : ℕ) → d ≡ days + get_or ps i 0 → q ≡ quotient_of a d y → b ≡ quotient_of a days y
-      → sets (set places i (q - b)) (i + 1) (shares_from a y d (drop (i + 1) ps)) ≡ sets zeros 0 (shares_from a y 0 ps)
-  share-more e h d q b ed eq eb =
-      (λ j. sets (set places i ((eq ∙ ap (λ (n : ℕ). quotient_of a n y) ed) j - eb j)) (add-one i j) (shares_from a y (ed j) (drop (add-one i j) ps)))
-      ∙ sym (ap (λ (l : List ℕ). sets places i (shares_from a y days l)) (drop-cons ps i 0 h))
-      ∙ e
-
-  drop-zeros : (n m : ℕ) → drop m (replicate {A = ℕ} n 0) ≡ replicate (n - m) 0
-  drop-zeros n zero = ap (λ (k : ℕ). replicate {A = ℕ} k 0) (less_none n)
-    where
-      less_none : (n : ℕ) → n ≡ n - 0
-      less_none n = omega arith
-  drop-zeros zero (suc m) = ap (λ (k : ℕ). replicate {A = ℕ} k 0) (none-less m)
-    where
-      none-less : (m : ℕ) → 0 ≡ 0 - suc m
-      none-less m = omega arith
-  drop-zeros (suc n) (suc m) = drop-zeros n m ∙ ap (λ (k : ℕ). replicate {A = ℕ} k 0) (both-less n m)
-    where
-      both-less : (n m : ℕ) → n - m ≡ suc n - suc m
-      both-less n m = omega arith
-
   pub share-done : Putting → length ps ≤ i → length ps ≤ 12 → places ≡ places_of a y ps
   unfolding places_of
   share-done e h few =
       sym (ap (λ (l : List ℕ). sets places i (shares_from a y days l)) (drop_of_length-le ps h))
       ∙ e
       ∙ sets-eq (shares_from a y 0 ps) zeros 0 (omega (arith, shares-length a y 0 ps, few))
-      ∙ ap (λ (l : List ℕ). shares_from a y 0 ps ++ l) (drop-zeros 12 (0 + length (shares_from a y 0 ps)) ∙ ap (λ (k : ℕ). replicate {A = ℕ} (12 - k) 0) (zero-add _ ∙ shares-length a y 0 ps))
+      ∙ ap (λ (l : List ℕ). shares_from a y 0 ps ++ l) (drop-replicate (0 + length (shares_from a y 0 ps)) 12 0 ∙ ap (λ (k : ℕ). replicate {A = ℕ} (12 - k) 0) (zero-add _ ∙ shares-length a y 0 ps))
 
-pub sum-start : (ps : List ℕ) → total ps ≡ 0 + total (drop 0 ps)
-sum-start ps = sym (zero-add (total ps))
-
--- what `shares_of` asks for, as bounds
-module _ (a y : ℕ) (ps : List ℕ) (p : (is_amount a ≡ true) × (is_year y ≡ true) × (are_periods y ps ≡ true)) where
-  pub bounds : (a ≤ most_kopecks) × (0 < y) × (y ≤ 366) × (length ps ≤ 12) × (total ps ≡ y)
-  bounds =
-      let b = year-bound y (year-is y p.1) in
-      let q = periods-are y ps p.2 in
-      ((amount-is a p.0).1, b.0, b.1, q.1, q.3)
-
-  -- the days of the periods up to i are at most those of the year
-  pub days-bound : (i days d : ℕ) → total ps ≡ days + total (drop i ps) → i < length ps → d ≡ get_or ps i 0 → days + d ≤ 366
-  days-bound i days d e h q =
-      let m = sum_more ps i days d e h q in
-      omega (arith, m, bounds.2, bounds.4)
+-- the sum that the code makes
+pub sum-total : (ps : List ℕ) (s : ℕ) → s ≡ sum ps → s ≡ total ps
+sum-total ps s e = e ∙ sym (is_sum_by total (λ (x : ℕ). x) refl (λ _ _. refl) ps)

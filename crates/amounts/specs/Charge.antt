@@ -1,11 +1,10 @@
 -- R-10: the bank's charge, and what it promises.
-use Rattle.std.specs.Prelude.{◌≡◌, ◌↔◌, Bool, not, cond, ◌&&◌, List, [], ◌∷◌, ℕ, ◌+◌, ◌*◌, ◌/◌, ◌≤◌, ◌<◌, leb, ltb}
+use Rattle.std.specs.Prelude.{◌≡◌, ◌↔◌, Bool, not, cond, ◌&&◌, List, [], ◌∷◌, ℕ, ◌+◌, ◌*◌, ◌/◌, ◌≤◌, ◌<◌, leb, ltb, Result, Ok, Err}
 use Rattle.texts.specs.Answers.{Answer, success, refusal, number_of, Test, ◌refuses◌, answer_by}
+use Rattle.texts.specs.Refusals.{refusal_number}
 use Rattle.texts.specs.declared.answers.Refusal.{Refusal}
 use Rattle.amounts.specs.Amount.{most_kopecks, is_amount}
 use Rattle.amounts.specs.declared.amount.Kopecks.{Kopecks}
-use Rattle.amounts.specs.declared.charge.Charged.{Charged}
-use Rattle.amounts.specs.declared.charge.Charged.TheVariants.{Made, Refused}
 
 -- "From an amount of 1 to 10^12 kopecks, a rate of 0 to 10,000 hundredths of a percent, and a least and a greatest charge of at most 10^12
 -- kopecks", and no "least above the greatest"
@@ -35,9 +34,9 @@ unfoldable pub charging : ℕ → ℕ → ℕ → ℕ → Answer
 charging amount rate least greatest = answer_by (charge_tests amount rate least greatest) (limited least greatest (rounded amount rate) ∷ [])
 
 -- the paper's number and values for each case
-unfoldable pub charge_answer : Charged → Answer
-charge_answer (Made c) = success (c.0 ∷ [])
-charge_answer (Refused n) = refusal n.0 []
+unfoldable pub charge_answer : Result Kopecks Refusal → Answer
+charge_answer (Ok c) = success (c.0 ∷ [])
+charge_answer (Err n) = refusal (refusal_number n) []
 
 -- what the arguments must be, said one by one
 pub record InRange (amount rate least greatest : ℕ) : Type 0 where
@@ -60,14 +59,14 @@ pub record IsCharge (amount rate least greatest c : ℕ) : Type 0 where
   pub lowered : greatest ≤ whole → c ≡ greatest
 
 -- the promise of `charge`: it answered x
-pub record Charges (amount rate least greatest : ℕ) (x : Charged) : Type 0 where
+pub record Charges (amount rate least greatest : ℕ) (x : Result Kopecks Refusal) : Type 0 where
   pub answer : charge_answer x ≡ charging amount rate least greatest
   -- there is a charge exactly where each argument is in range; else 14
   pub exactly : (number_of (charge_answer x) ≡ 0) ↔ InRange amount rate least greatest
   pub refused : (n : ℕ) (vs : List ℕ) → charge_answer x ≡ refusal n vs → n ≡ 14
   pub charged : (c : ℕ) → charge_answer x ≡ success (c ∷ []) → IsCharge amount rate least greatest c
   -- the same of each case itself, whatever numbers stand for it
-  pub holds : (c : Kopecks) → x ≡ Made c → InRange amount rate least greatest × IsCharge amount rate least greatest c.0
-  pub number : (n : Refusal) → x ≡ Refused n → (n.0 ≡ 14) × (InRange amount rate least greatest → ⊥)
+  pub holds : (c : Kopecks) → x ≡ Ok c → InRange amount rate least greatest × IsCharge amount rate least greatest c.0
+  pub number : (n : Refusal) → x ≡ Err n → (refusal_number n ≡ 14) × (InRange amount rate least greatest → ⊥)
   -- it never falls when the amount rises
   pub rises : (more c d : ℕ) → amount ≤ more → charge_answer x ≡ success (c ∷ []) → charging more rate least greatest ≡ success (d ∷ []) → c ≤ d

@@ -1,12 +1,10 @@
 -- R-11: part of a year, and what it promises.
-use Rattle.std.specs.Prelude.{◌≡◌, Bool, not, ◌&&◌, ◌||◌, List, [], ◌∷◌, ◌⊎◌, ◌↔◌, ℕ, ◌+◌, ◌*◌, ◌/◌, ◌%◌, ◌≤◌, ◌<◌, leb, eqb}
+use Rattle.std.specs.Prelude.{◌≡◌, Bool, not, ◌&&◌, ◌||◌, List, [], ◌∷◌, ◌⊎◌, ◌↔◌, ℕ, ◌+◌, ◌*◌, ◌/◌, ◌%◌, ◌≤◌, ◌<◌, leb, eqb, Result, Ok, Err}
 use Rattle.texts.specs.Answers.{Answer, success, refusal, number_of, Test, ◌refuses◌, answer_by}
+use Rattle.texts.specs.Refusals.{refusal_number}
 use Rattle.texts.specs.declared.answers.Refusal.{Refusal}
 use Rattle.amounts.specs.Amount.{most_kopecks, is_amount}
-use Rattle.amounts.specs.declared.amount.Kopecks.{Kopecks}
-use Rattle.amounts.specs.declared.part.Remainder.{Remainder}
-use Rattle.amounts.specs.declared.part.Parted.{Parted}
-use Rattle.amounts.specs.declared.part.Parted.TheVariants.{Made, Refused}
+use Rattle.amounts.specs.declared.part.Portion.{Portion}
 
 -- no "year length other than 365 or 366"
 abbrev pub is_year : ℕ → Bool
@@ -30,9 +28,9 @@ unfoldable pub parting : ℕ → ℕ → ℕ → Answer
 parting amount days year = answer_by (part_tests amount days year) (quotient_of amount days year ∷ remainder_of amount days year ∷ [])
 
 -- the paper's number and values for each case
-unfoldable pub part_answer : Parted → Answer
-part_answer (Made q r) = success (q.0 ∷ r.0 ∷ [])
-part_answer (Refused n) = refusal n.0 []
+unfoldable pub part_answer : Result Portion Refusal → Answer
+part_answer (Ok p) = success (p.kopecks.0 ∷ p.remainder.0 ∷ [])
+part_answer (Err n) = refusal (refusal_number n) []
 
 -- what the arguments must be, said one by one
 pub record PartRange (amount days year : ℕ) : Type 0 where
@@ -48,12 +46,12 @@ pub record IsPart (amount days year quotient remainder : ℕ) : Type 0 where
   pub below : remainder < year
 
 -- the promise of `part`: it answered x
-pub record Parts (amount days year : ℕ) (x : Parted) : Type 0 where
+pub record Parts (amount days year : ℕ) (x : Result Portion Refusal) : Type 0 where
   pub answer : part_answer x ≡ parting amount days year
   -- there is a part exactly where each argument is in range; else 15
   pub exactly : (number_of (part_answer x) ≡ 0) ↔ PartRange amount days year
   pub refused : (n : ℕ) (vs : List ℕ) → part_answer x ≡ refusal n vs → n ≡ 15
   pub parted : (q r : ℕ) → part_answer x ≡ success (q ∷ r ∷ []) → IsPart amount days year q r
   -- the same of each case itself, whatever numbers stand for it
-  pub holds : (q : Kopecks) (r : Remainder) → x ≡ Made q r → PartRange amount days year × IsPart amount days year q.0 r.0
-  pub number : (n : Refusal) → x ≡ Refused n → (n.0 ≡ 15) × (PartRange amount days year → ⊥)
+  pub holds : (p : Portion) → x ≡ Ok p → PartRange amount days year × IsPart amount days year p.kopecks.0 p.remainder.0
+  pub number : (n : Refusal) → x ≡ Err n → (refusal_number n ≡ 15) × (PartRange amount days year → ⊥)

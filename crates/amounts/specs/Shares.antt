@@ -1,12 +1,11 @@
 -- R-11: a year's amount shared among periods, and what it promises.
-use Rattle.std.specs.Prelude.{◌≡◌, Bool, not, ◌&&◌, List, [], ◌∷◌, ◌++◌, ◌⊎◌, ◌↔◌, ℕ, ◌+◌, ◌-◌, ◌≤◌, ◌<◌, leb, eqb, length, take, get_or, replicate}
+use Rattle.std.specs.Prelude.{◌≡◌, Bool, not, ◌&&◌, List, [], ◌∷◌, ◌++◌, ◌⊎◌, ◌↔◌, ℕ, ◌+◌, ◌-◌, ◌≤◌, ◌<◌, leb, eqb, length, take, get_or, replicate, Result, Ok, Err}
 use Rattle.texts.specs.Texts.{every}
 use Rattle.texts.specs.Answers.{Answer, success, refusal, number_of, Test, ◌refuses◌, answer_by, buffer_by}
+use Rattle.texts.specs.Refusals.{refusal_number}
 use Rattle.texts.specs.declared.answers.Refusal.{Refusal}
 use Rattle.amounts.specs.Amount.{most_kopecks, is_amount}
 use Rattle.amounts.specs.Part.{is_year, quotient_of}
-use Rattle.amounts.specs.declared.shares.Shared.{Shared}
-use Rattle.amounts.specs.declared.shares.Shared.TheVariants.{Made, Refused}
 
 -- the sum of a list
 abbrev pub total : List ℕ → ℕ
@@ -49,9 +48,9 @@ unfoldable pub shared_to : ℕ → ℕ → List ℕ → List ℕ → List ℕ
 shared_to amount year ps b = buffer_by (share_tests amount year ps) (places_of amount year ps) b
 
 -- the paper's number for each case
-unfoldable pub share_answer : Shared → Answer
-share_answer Made = success []
-share_answer (Refused n) = refusal n.0 []
+unfoldable pub share_answer : Result Unit Refusal → Answer
+share_answer (Ok u) = success []
+share_answer (Err n) = refusal (refusal_number n) []
 
 -- what the arguments must be, said one by one
 pub record ShareRange (amount year : ℕ) (ps : List ℕ) : Type 0 where
@@ -73,7 +72,7 @@ pub record AreShares (amount year : ℕ) (ps e : List ℕ) : Type 0 where
   pub past : (i : ℕ) → length ps ≤ i → get_or e i 0 ≡ 0
 
 -- the promise of `shares`: it answered x and left e in the places that held b
-pub record Shares (amount year : ℕ) (ps b : List ℕ) (x : Shared) (e : List ℕ) : Type 0 where
+pub record Shares (amount year : ℕ) (ps b : List ℕ) (x : Result Unit Refusal) (e : List ℕ) : Type 0 where
   pub answer : share_answer x ≡ sharing amount year ps
   pub places : e ≡ shared_to amount year ps b
   -- there are shares exactly where each argument is in range; else 15, and no place is written
@@ -81,5 +80,5 @@ pub record Shares (amount year : ℕ) (ps b : List ℕ) (x : Shared) (e : List �
   pub refused : (n : ℕ) (vs : List ℕ) → share_answer x ≡ refusal n vs → (n ≡ 15) × (e ≡ b)
   pub shared : share_answer x ≡ success [] → AreShares amount year ps e
   -- the same of each case itself, whatever number stands for it
-  pub holds : x ≡ Made → ShareRange amount year ps × AreShares amount year ps e
-  pub number : (n : Refusal) → x ≡ Refused n → (n.0 ≡ 15) × (ShareRange amount year ps → ⊥) × (e ≡ b)
+  pub holds : x ≡ Ok tt → ShareRange amount year ps × AreShares amount year ps e
+  pub number : (n : Refusal) → x ≡ Err n → (refusal_number n ≡ 15) × (ShareRange amount year ps → ⊥) × (e ≡ b)

@@ -6,18 +6,11 @@ use crate::amount::{Kopecks, MOST_KOPECKS, is_amount};
 use texts::answers::Refusal;
 
 // In hundredths of a percent.
-#[derive(Clone, Copy)]
+#[derive(Clone, Copy, Debug, PartialEq, Eq)]
 pub struct Rate(pub u64);
 
 // "a rate of 0 to 10,000 hundredths of a percent"
 const MOST_RATE: u64 = 10_000;
-
-// The charge, or 14.
-#[derive(Clone, Copy)]
-pub enum Charged {
-    Made(Kopecks),
-    Refused(Refusal),
-}
 
 fn is_chargeable(amount: Kopecks, rate: Rate, least: Kopecks, greatest: Kopecks) -> bool
     ensures { result ≡ chargeable amount.0 rate.0 least.0 greatest.0 }
@@ -40,28 +33,28 @@ fn round_half_up(amount: u64, rate: u64) -> u64
 fn raise(charge: u64, least: u64) -> u64
     ensures { result ≡ raised_to least charge }
 {
-    if charge < least {
-        return least;
-    }
-    charge
+    charge.max(least)
 }
 
 // "then lowered to the greatest"
 fn lower(charge: u64, greatest: u64) -> u64
     ensures { result ≡ lowered_to greatest charge }
 {
-    if greatest < charge {
-        return greatest;
-    }
-    charge
+    charge.min(greatest)
 }
 
-pub fn charge(amount: Kopecks, rate: Rate, least: Kopecks, greatest: Kopecks) -> Charged
+// The charge, or 14.
+pub fn charge(
+    amount: Kopecks,
+    rate: Rate,
+    least: Kopecks,
+    greatest: Kopecks,
+) -> Result<Kopecks, Refusal>
     ensures { Charges amount.0 rate.0 least.0 greatest.0 result }
 {
     if !is_chargeable(amount, rate, least, greatest) {
-        return Charged::Refused(Refusal(14));
+        return Err(Refusal::BadCharge);
     }
     let raised = raise(round_half_up(amount.0, rate.0), least.0);
-    Charged::Made(Kopecks(lower(raised, greatest.0)))
+    Ok(Kopecks(lower(raised, greatest.0)))
 }

@@ -5,18 +5,18 @@ ghost use Rattle.amounts.specs.Part.{is_year, partable, quotient_of, remainder_o
 use crate::amount::{Kopecks, is_amount};
 use texts::answers::Refusal;
 
-#[derive(Clone, Copy)]
+#[derive(Clone, Copy, Debug, PartialEq, Eq)]
 pub struct Days(pub u32);
 
 // What is left of a kopeck, in parts of which the year's length makes one.
-#[derive(Clone, Copy)]
+#[derive(Clone, Copy, Debug, PartialEq, Eq)]
 pub struct Remainder(pub u32);
 
-// The whole kopecks and the remainder, or 15.
-#[derive(Clone, Copy)]
-pub enum Parted {
-    Made(Kopecks, Remainder),
-    Refused(Refusal),
+// The part of the days: whole kopecks, and the remainder.
+#[derive(Clone, Copy, Debug, PartialEq, Eq)]
+pub struct Portion {
+    pub kopecks: Kopecks,
+    pub remainder: Remainder,
 }
 
 // "a year length other than 365 or 366"
@@ -30,12 +30,6 @@ fn is_partable(amount: Kopecks, days: Days, year: Days) -> bool
     ensures { result ≡ partable amount.0 days.0 year.0 }
 {
     is_amount(amount) & is_year(year) & (1 <= days.0) & (days.0 <= year.0)
-}
-
-pub(crate) fn wide(days: u32) -> u64
-    ensures { (result ≡ days) × (result ≤ 4294967295) }
-{
-    days as u64
 }
 
 // "amount × days / year length, in whole kopecks"
@@ -54,15 +48,19 @@ fn remainder_of(amount: u64, days: u64, year: u64) -> u64
     amount * days % year
 }
 
-pub fn part(amount: Kopecks, days: Days, year: Days) -> Parted
+// The portion, or 15.
+pub fn part(amount: Kopecks, days: Days, year: Days) -> Result<Portion, Refusal>
     ensures { Parts amount.0 days.0 year.0 result }
 {
     if !is_partable(amount, days, year) {
-        return Parted::Refused(Refusal(15));
+        return Err(Refusal::BadPart);
     }
-    let d = wide(days.0);
-    let y = wide(year.0);
+    let d = u64::from(days.0);
+    let y = u64::from(year.0);
     let whole = quotient_of(amount.0, d, y);
     let rest = remainder_of(amount.0, d, y);
-    Parted::Made(Kopecks(whole), Remainder(rest as u32))
+    Ok(Portion {
+        kopecks: Kopecks(whole),
+        remainder: Remainder(rest as u32),
+    })
 }

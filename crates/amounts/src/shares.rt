@@ -5,30 +5,17 @@ ghost use Rattle.amounts.specs.Part.{is_year};
 ghost use Rattle.amounts.specs.Shares.{total, all_some, are_periods, sharable, places_of, Shares};
 
 use crate::amount::{Kopecks, is_amount};
-use crate::part::{Days, is_year, quotient_of, wide};
+use crate::part::{Days, is_year, quotient_of};
 use texts::answers::Refusal;
 
 // "of 12 places for shares"
 pub const PLACES: usize = 12;
 
-// The shares are in the places, or 15.
-#[derive(Clone, Copy)]
-pub enum Shared {
-    Made,
-    Refused(Refusal),
-}
-
 // "periods of at least one day"
 fn all_some(periods: &[u32]) -> bool
     ensures { result ≡ all_some periods.now }
 {
-    let mut good = true;
-    let mut i = 0;
-    while i < periods.len() {
-        good = good & (1 <= periods[i]);
-        i += 1;
-    }
-    good
+    periods.iter().all(|days| 1 <= *days)
 }
 
 // The days of up to 12 periods, which 64 bits hold.
@@ -36,26 +23,17 @@ fn total_of(periods: &[u32]) -> u64
     requires { length periods.now ≤ 12 }
     ensures { result ≡ total periods.now }
 {
-    let mut sum: u64 = 0;
-    let mut i = 0;
-    while i < periods.len() {
-        sum += wide(periods[i]);
-        i += 1;
-    }
-    sum
+    periods.iter().map(|days| u64::from(*days)).sum()
 }
 
 // "1 to 12 periods that together make the year"
 fn are_periods(year: u32, periods: &[u32]) -> bool
     ensures { result ≡ are_periods year periods.now }
 {
-    if periods.len() < 1 {
-        return false;
-    }
-    if PLACES < periods.len() {
-        return false;
-    }
-    all_some(periods) & (total_of(periods) == wide(year))
+    !periods.is_empty()
+        && periods.len() <= PLACES
+        && all_some(periods)
+        && total_of(periods) == u64::from(year)
 }
 
 fn is_sharable(amount: Kopecks, year: Days, periods: &[u32]) -> bool
@@ -72,23 +50,27 @@ fn shares_of(amount: u64, year: u64, periods: &[u32]) -> [u64; 12]
     let mut places = [0u64; 12];
     let mut days: u64 = 0;
     let mut before: u64 = 0;
-    let mut i = 0;
-    while i < periods.len() {
-        days += wide(periods[i]);
+    for (i, period) in periods.iter().enumerate() {
+        days += u64::from(*period);
         let running = quotient_of(amount, days, year);
         places[i] = running - before;
         before = running;
-        i += 1;
     }
     places
 }
 
-pub fn shares(amount: Kopecks, year: Days, periods: &[u32], places: &mut [u64; 12]) -> Shared
+// The shares are in the places, or 15.
+pub fn shares(
+    amount: Kopecks,
+    year: Days,
+    periods: &[u32],
+    places: &mut [u64; 12],
+) -> Result<(), Refusal>
     ensures { Shares amount.0 year.0 periods.now places.old result places.new }
 {
     if !is_sharable(amount, year, periods) {
-        return Shared::Refused(Refusal(15));
+        return Err(Refusal::BadPart);
     }
-    *places = shares_of(amount.0, wide(year.0), periods);
-    Shared::Made
+    *places = shares_of(amount.0, u64::from(year.0), periods);
+    Ok(())
 }

@@ -11,25 +11,18 @@ ghost use Rattle.sheets.specs.declared.dates.Dates.{Dates};
 ghost use Rattle.capi.specs.Numbers.{dates_of};
 
 use amounts::amount::Kopecks;
-use amounts::charge::{Charged, Rate};
-use amounts::part::{Days, Parted};
-use amounts::shares::Shared;
-use drafts::draft::{Begun, Copied, Posted};
-use drafts::message::{Reading, Version, Written};
-use drafts::revision::{Party, Revision};
-use orders::complete::Completed;
-use orders::entry::Listed;
-use orders::pretest::Pretested;
-use orders::take_up::TakenUp;
-use payments::leave::Leaving;
-use registers::pool::Pooled;
-use rules::all_broken::BrokenRules;
-use rules::check::Verdict;
+use amounts::charge::Rate;
+use amounts::part::Days;
+use drafts::message::{Heading, Version};
+use drafts::revision::{Party, Revision, Standing};
+use orders::complete::Incomplete;
+use orders::take_up::Untaken;
+use registers::pool::Unpooled;
+use rules::check::Rejection;
 use rules::class::Class;
 use sheets::dates::{Date, Dates};
 use sheets::sheet::Field;
-use swift::read::LinesRead;
-use swift::write::LinesWritten;
+use texts::answers::Refusal;
 
 #[repr(C)]
 #[derive(Clone, Copy)]
@@ -178,49 +171,56 @@ fn dates_of(date: u32, entries: Record) -> Dates
     }
 }
 
+// The class, as its letter.
+fn letter_of(class: Class) -> u8
+    ensures { result ≡ class_letter class }
+{
+    match class {
+        Class::A => b'A',
+        Class::B => b'B',
+        Class::O => b'O',
+    }
+}
+
+// How a message stands to its slot, as the first letter of the word.
+fn letter_in(standing: Standing) -> u8 {
+    match standing {
+        Standing::Newer => b'n',
+        Standing::Same => b's',
+        Standing::Older => b'o',
+    }
+}
+
+// 0 for success, which returns nothing else; or the number of a refusal.
+fn number_of(answer: Result<(), Refusal>) -> u8 {
+    match answer {
+        Ok(()) => 0,
+        Err(refusal) => u8::from(refusal),
+    }
+}
+
 #[unsafe(no_mangle)]
 pub extern "C" fn kieselbrot_check(sheet: &[u8], date: u32, entries: Record) -> Check
     ensures { CheckReturns (dates_of date entries) sheet.now result }
 {
-    let v = rules::check::check(sheet, dates_of(date, entries));
-    match v {
-        Verdict::Undated => Check {
-            number: 12,
+    match rules::check::check(sheet, dates_of(date, entries)) {
+        Ok(class) => Check {
+            number: 0,
+            field: 0,
+            rule: 0,
+            class: letter_of(class),
+        },
+        Err(Rejection::Broken(field, rule)) => Check {
+            number: u8::from(Refusal::BrokenRule),
+            field: field.0,
+            rule: rule.0,
+            class: 0,
+        },
+        Err(Rejection::Refused(refusal)) => Check {
+            number: u8::from(refusal),
             field: 0,
             rule: 0,
             class: 0,
-        },
-        Verdict::Malformed => Check {
-            number: 1,
-            field: 0,
-            rule: 0,
-            class: 0,
-        },
-        Verdict::Broken(f, r) => Check {
-            number: 8,
-            field: f.0,
-            rule: r.0,
-            class: 0,
-        },
-        Verdict::Accepted(c) => match c {
-            Class::A => Check {
-                number: 0,
-                field: 0,
-                rule: 0,
-                class: 65,
-            },
-            Class::B => Check {
-                number: 0,
-                field: 0,
-                rule: 0,
-                class: 66,
-            },
-            Class::O => Check {
-                number: 0,
-                field: 0,
-                rule: 0,
-                class: 79,
-            },
         },
     }
 }
@@ -230,14 +230,13 @@ pub extern "C" fn kieselbrot_check(sheet: &[u8], date: u32, entries: Record) -> 
 pub extern "C" fn kieselbrot_broken_rules(sheet: &[u8], date: u32, entries: Record) -> AllBroken
     ensures { BrokenRulesReturns (dates_of date entries) sheet.now result }
 {
-    let v = rules::all_broken::broken_rules(sheet, dates_of(date, entries));
-    match v {
-        BrokenRules::Set(set) => AllBroken {
+    match rules::all_broken::broken_rules(sheet, dates_of(date, entries)) {
+        Ok(set) => AllBroken {
             number: 0,
             rules: set,
         },
-        BrokenRules::Refused(n) => AllBroken {
-            number: n.0,
+        Err(refusal) => AllBroken {
+            number: u8::from(refusal),
             rules: 0,
         },
     }
@@ -249,22 +248,18 @@ pub extern "C" fn kieselbrot_read(message: &[u8]) -> Read
     ensures { ReadReturns message.now result }
 {
     let text = drafts::message::message_text(message);
-    let v = drafts::message::read(message);
-    match v {
-        Reading::Message(w, f, r) => {
-            let place = w.head_size();
-            Read {
-                number: 0,
-                version: w.0,
-                party: r.party.0,
-                field: f.0,
-                revision: r.number,
-                text: place,
-                length: text.len(),
-            }
-        }
-        Reading::Refused(n) => Read {
-            number: n.0,
+    match drafts::message::read(message) {
+        Ok(heading) => Read {
+            number: 0,
+            version: heading.version.0,
+            party: heading.revision.party.0,
+            field: heading.field.0,
+            revision: heading.revision.number,
+            text: heading.version.head_size(),
+            length: text.len(),
+        },
+        Err(refusal) => Read {
+            number: u8::from(refusal),
             version: 0,
             party: 0,
             field: 0,
@@ -286,18 +281,18 @@ pub extern "C" fn kieselbrot_write(
 ) -> Write
     ensures { WriteReturns version party field revision text.now buffer.old result buffer.new }
 {
-    let given = Revision {
-        number: revision,
-        party: Party(party),
-    };
-    let v = drafts::message::write(Version(version), Field(field), given, text, buffer);
-    match v {
-        Written::Bytes(n) => Write {
-            number: 0,
-            length: n,
+    let heading = Heading {
+        version: Version(version),
+        field: Field(field),
+        revision: Revision {
+            number: revision,
+            party: Party(party),
         },
-        Written::Refused(n) => Write {
-            number: n.0,
+    };
+    match drafts::message::write(heading, text, buffer) {
+        Ok(length) => Write { number: 0, length },
+        Err(refusal) => Write {
+            number: u8::from(refusal),
             length: 0,
         },
     }
@@ -307,33 +302,20 @@ pub extern "C" fn kieselbrot_write(
 pub extern "C" fn kieselbrot_fresh(draft: &mut [u8]) -> u8
     ensures { FreshReturns draft.old result draft.new }
 {
-    let v = drafts::draft::fresh(draft);
-    match v {
-        Begun::Made => 0,
-        Begun::Refused(n) => n.0,
-    }
+    number_of(drafts::draft::fresh(draft))
 }
 
 #[unsafe(no_mangle)]
 pub extern "C" fn kieselbrot_post(draft: &mut [u8], message: &[u8]) -> Post
     ensures { PostReturns draft.old message.now result draft.new }
 {
-    let v = drafts::draft::post(draft, message);
-    match v {
-        Posted::Newer => Post {
+    match drafts::draft::post(draft, message) {
+        Ok(standing) => Post {
             number: 0,
-            standing: 110,
+            standing: letter_in(standing),
         },
-        Posted::Same => Post {
-            number: 0,
-            standing: 115,
-        },
-        Posted::Older => Post {
-            number: 0,
-            standing: 111,
-        },
-        Posted::Refused(n) => Post {
-            number: n.0,
+        Err(refusal) => Post {
+            number: u8::from(refusal),
             standing: 0,
         },
     }
@@ -351,11 +333,7 @@ pub extern "C" fn kieselbrot_origins(input: &[u8], places: &mut [u64; 15])
 pub extern "C" fn kieselbrot_copy(draft: &[u8], sheet: &mut [u8]) -> u8
     ensures { CopyReturns draft.now sheet.old result sheet.new }
 {
-    let v = drafts::draft::copy(draft, sheet);
-    match v {
-        Copied::Made => 0,
-        Copied::Refused(n) => n.0,
-    }
+    number_of(drafts::draft::copy(draft, sheet))
 }
 
 // With how many statuses were skipped (R-14): what `quick` answers. One function of C's, so that the search is compiled into it.
@@ -368,38 +346,37 @@ pub extern "C" fn kieselbrot_complete(
 ) -> Complete
     ensures { CompleteReturns (dates_of date entries) draft.now sheet.old result sheet.new }
 {
-    let v = orders::quick::quick(draft, sheet, dates_of(date, entries));
-    let completed = v.completed;
-    match completed {
-        Completed::Filled { count, set, ones } => Complete {
+    let answer = orders::quick::quick(draft, sheet, dates_of(date, entries));
+    match answer.completed {
+        Ok(filled) => Complete {
             number: 0,
             field: 0,
             rule: 0,
-            set: set,
-            ones: ones,
-            count: count,
-            skipped: v.skipped,
+            set: filled.set,
+            ones: filled.ones,
+            count: filled.count,
+            skipped: answer.skipped,
         },
-        Completed::Impossible(n) => Complete {
-            number: 10,
+        Err(Incomplete::Impossible(count)) => Complete {
+            number: u8::from(Refusal::Impossible),
             field: 0,
             rule: 0,
             set: 0,
             ones: 0,
-            count: n,
-            skipped: v.skipped,
+            count,
+            skipped: answer.skipped,
         },
-        Completed::Broken(f, r) => Complete {
-            number: 8,
-            field: f.0,
-            rule: r.0,
+        Err(Incomplete::Broken(field, rule)) => Complete {
+            number: u8::from(Refusal::BrokenRule),
+            field: field.0,
+            rule: rule.0,
             set: 0,
             ones: 0,
             count: 0,
             skipped: 0,
         },
-        Completed::Refused(n) => Complete {
-            number: n.0,
+        Err(Incomplete::Refused(refusal)) => Complete {
+            number: u8::from(refusal),
             field: 0,
             rule: 0,
             set: 0,
@@ -414,18 +391,17 @@ pub extern "C" fn kieselbrot_complete(
 pub extern "C" fn kieselbrot_take_up(draft: &mut [u8], sheet: &[u8], set: u16) -> TakeUp
     ensures { (D : Dates) → TakeUpReturns D draft.old sheet.now set result draft.new }
 {
-    let v = orders::take_up::take_up(draft, sheet, set);
-    match v {
-        TakenUp::Made => TakeUp {
+    match orders::take_up::take_up(draft, sheet, set) {
+        Ok(()) => TakeUp {
             number: 0,
             field: 0,
         },
-        TakenUp::Unfit(f) => TakeUp {
-            number: 20,
-            field: f.0,
+        Err(Untaken::Unfit(field)) => TakeUp {
+            number: u8::from(Refusal::Unfit),
+            field: field.0,
         },
-        TakenUp::Refused(n) => TakeUp {
-            number: n.0,
+        Err(Untaken::Refused(refusal)) => TakeUp {
+            number: u8::from(refusal),
             field: 0,
         },
     }
@@ -436,25 +412,24 @@ pub extern "C" fn kieselbrot_take_up(draft: &mut [u8], sheet: &[u8], set: u16) -
 pub extern "C" fn kieselbrot_pretest(draft: &[u8]) -> Pretest
     ensures { (D : Dates) → PretestReturns D draft.now result }
 {
-    let v = orders::pretest::pretest(draft);
-    match v {
-        Pretested::Named(f, r) => Pretest {
+    match orders::pretest::pretest(draft) {
+        Ok(Some(named)) => Pretest {
             number: 0,
-            field: f.0,
-            rule: r.0,
+            field: named.field.0,
+            rule: named.rule.0,
         },
-        Pretested::Unnamed => Pretest {
+        Ok(None) => Pretest {
             number: 0,
             field: 0,
             rule: 0,
         },
-        Pretested::Broken(f, r) => Pretest {
-            number: 8,
-            field: f.0,
-            rule: r.0,
+        Err(Rejection::Broken(field, rule)) => Pretest {
+            number: u8::from(Refusal::BrokenRule),
+            field: field.0,
+            rule: rule.0,
         },
-        Pretested::Refused(n) => Pretest {
-            number: n.0,
+        Err(Rejection::Refused(refusal)) => Pretest {
+            number: u8::from(refusal),
             field: 0,
             rule: 0,
         },
@@ -466,22 +441,21 @@ pub extern "C" fn kieselbrot_pretest(draft: &[u8]) -> Pretest
 pub extern "C" fn kieselbrot_entry(field: u8, place: usize, date: u32, entries: Record) -> Entry
     ensures { EntryReturns (dates_of date entries) field place result }
 {
-    let v = orders::entry::entry(Field(field), place, dates_of(date, entries));
-    match v {
-        Listed::Entry(row) => Entry {
+    match orders::entry::entry(Field(field), place, dates_of(date, entries)) {
+        Ok(Some(row)) => Entry {
             number: 0,
             length: row.length,
             first: row.first,
             second: row.second,
         },
-        Listed::Nothing => Entry {
+        Ok(None) => Entry {
             number: 0,
             length: 0,
             first: 0,
             second: 0,
         },
-        Listed::Refused(n) => Entry {
-            number: n.0,
+        Err(refusal) => Entry {
+            number: u8::from(refusal),
             length: 0,
             first: 0,
             second: 0,
@@ -498,22 +472,21 @@ pub extern "C" fn kieselbrot_write_lines(
 ) -> Lines
     ensures { WriteLinesReturns (dates_of date entries) sheet.now buffer.old result buffer.new }
 {
-    let v = swift::write::write_lines(sheet, dates_of(date, entries), buffer);
-    match v {
-        LinesWritten::Lines(size) => Lines {
+    match swift::write::write_lines(sheet, dates_of(date, entries), buffer) {
+        Ok(length) => Lines {
             number: 0,
             field: 0,
             rule: 0,
-            length: size,
+            length,
         },
-        LinesWritten::Broken(f, r) => Lines {
-            number: 8,
-            field: f.0,
-            rule: r.0,
+        Err(Rejection::Broken(field, rule)) => Lines {
+            number: u8::from(Refusal::BrokenRule),
+            field: field.0,
+            rule: rule.0,
             length: 0,
         },
-        LinesWritten::Refused(n) => Lines {
-            number: n.0,
+        Err(Rejection::Refused(refusal)) => Lines {
+            number: u8::from(refusal),
             field: 0,
             rule: 0,
             length: 0,
@@ -525,30 +498,26 @@ pub extern "C" fn kieselbrot_write_lines(
 pub extern "C" fn kieselbrot_read_lines(block: &[u8], sheet: &mut [u8]) -> u8
     ensures { ReadLinesReturns block.now sheet.old result sheet.new }
 {
-    let v = swift::read::read_lines(block, sheet);
-    match v {
-        LinesRead::Filled => 0,
-        LinesRead::Refused(n) => n.0,
-    }
+    number_of(swift::read::read_lines(block, sheet))
 }
 
 #[unsafe(no_mangle)]
 pub extern "C" fn kieselbrot_charge(amount: u64, rate: u64, least: u64, greatest: u64) -> Charge
     ensures { ChargeReturns amount rate least greatest result }
 {
-    let v = amounts::charge::charge(
+    let answer = amounts::charge::charge(
         Kopecks(amount),
         Rate(rate),
         Kopecks(least),
         Kopecks(greatest),
     );
-    match v {
-        Charged::Made(c) => Charge {
+    match answer {
+        Ok(charged) => Charge {
             number: 0,
-            kopecks: c.0,
+            kopecks: charged.0,
         },
-        Charged::Refused(n) => Charge {
-            number: n.0,
+        Err(refusal) => Charge {
+            number: u8::from(refusal),
             kopecks: 0,
         },
     }
@@ -558,15 +527,14 @@ pub extern "C" fn kieselbrot_charge(amount: u64, rate: u64, least: u64, greatest
 pub extern "C" fn kieselbrot_part(amount: u64, days: u32, year: u32) -> Part
     ensures { PartReturns amount days year result }
 {
-    let v = amounts::part::part(Kopecks(amount), Days(days), Days(year));
-    match v {
-        Parted::Made(q, r) => Part {
+    match amounts::part::part(Kopecks(amount), Days(days), Days(year)) {
+        Ok(portion) => Part {
             number: 0,
-            remainder: r.0,
-            kopecks: q.0,
+            remainder: portion.remainder.0,
+            kopecks: portion.kopecks.0,
         },
-        Parted::Refused(n) => Part {
-            number: n.0,
+        Err(refusal) => Part {
+            number: u8::from(refusal),
             remainder: 0,
             kopecks: 0,
         },
@@ -582,31 +550,26 @@ pub extern "C" fn kieselbrot_shares(
 ) -> u8
     ensures { SharesReturns amount year periods.now shares.old result shares.new }
 {
-    let v = amounts::shares::shares(Kopecks(amount), Days(year), periods, shares);
-    match v {
-        Shared::Made => 0,
-        Shared::Refused(n) => n.0,
-    }
+    number_of(amounts::shares::shares(Kopecks(amount), Days(year), periods, shares))
 }
 
 #[unsafe(no_mangle)]
 pub extern "C" fn kieselbrot_pool(register: &[u8], amount: u64, output: &mut [u8]) -> Pool
     ensures { PoolReturns register.now amount output.old result output.new }
 {
-    let v = registers::pool::pool(register, Kopecks(amount), output);
-    match v {
-        Pooled::Made(n) => Pool {
+    match registers::pool::pool(register, Kopecks(amount), output) {
+        Ok(lines) => Pool {
             number: 0,
-            lines: n,
+            lines,
             difference: 0,
         },
-        Pooled::Differs(d) => Pool {
-            number: 17,
+        Err(Unpooled::Differs(difference)) => Pool {
+            number: u8::from(Refusal::Differs),
             lines: 0,
-            difference: d,
+            difference,
         },
-        Pooled::Refused(n) => Pool {
-            number: n.0,
+        Err(Unpooled::Refused(refusal)) => Pool {
+            number: u8::from(refusal),
             lines: 0,
             difference: 0,
         },
@@ -623,16 +586,15 @@ pub extern "C" fn kieselbrot_leave(
 ) -> Leave
     ensures { LeaveReturns balance priorities.now arrivals.now amounts.now places.old result places.new }
 {
-    let v = payments::leave::leave(Kopecks(balance), priorities, arrivals, amounts, places);
-    match v {
-        Leaving::Made { paid, sum, left } => Leave {
+    match payments::leave::leave(Kopecks(balance), priorities, arrivals, amounts, places) {
+        Ok(debited) => Leave {
             number: 0,
-            paid: paid,
-            sum: sum.0,
-            left: left.0,
+            paid: debited.paid,
+            sum: debited.sum.0,
+            left: debited.left.0,
         },
-        Leaving::Refused(n) => Leave {
-            number: n.0,
+        Err(refusal) => Leave {
+            number: u8::from(refusal),
             paid: 0,
             sum: 0,
             left: 0,

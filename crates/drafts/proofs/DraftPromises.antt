@@ -1,13 +1,13 @@
 -- What the functions of drafts come to, by each way out of them.
 use mathlib.Core.Path.{◌≡◌, refl, sym, ap, ◌∙◌}
 use mathlib.Core.Logic.{◌↔◌, ⊎_elim}
-use mathlib.Core.Bool.{Bool, true, false, cond, not, ◌&&◌, true≢false}
+use mathlib.Core.Bool.{Bool, true, false, cond, not, ◌&&◌, true≢false, false≢true}
 use mathlib.Core.List.Memᴰ
 use mathlib.Core.List.{List, [], ◌∷◌, ◌++◌, Memᴰ}
 use Prim.Native.Nat.{ℕ, ◌+◌, ◌*◌, ◌<◌, ◌≤◌}
 use native.Mathlib.Numerals.{add-one}
 use native.Mathlib.Omega.{arith}
-use borrow.Author.Tests.{lt-ltb, le-ltb, ltb-true, ltb-false, eq-eqb, eqb-true, not-true, not-false, le-leb, lt-leb}
+use borrow.Author.Tests.{ltb-true, ltb-false, eq-eqb, eqb-true, not-true, not-false, le-leb}
 use borrow.Author.Rules.{rules}
 use mir.Syntax.{w8}
 use mir.Val.{Fits}
@@ -21,52 +21,34 @@ use Rattle.texts.specs.Buffers.{put}
 use Rattle.texts.specs.Working.Writing.{put_at}
 use Rattle.texts.proofs.Puts.{put-fits, length-put, put-none, put_next, put_whole}
 use Rattle.sheets.specs.Sheet.{slot_count, text_max, cell_size, sheet_size, slot_of}
-use Rattle.sheets.specs.declared.sheet.Field.{Field}
 use Rattle.texts.specs.Answers.{Answer, success, refusal, number_of, passes, answer_by, buffer_by}
-use Rattle.drafts.specs.Revision.{rank, comparison}
+use Rattle.drafts.specs.Revision.{rank}
 use Rattle.drafts.specs.Message.{IsMessage, version_of, message_field, revision_of, message_text, read_tests, readable, reading_of, read_answer}
 use Rattle.drafts.specs.Draft.{slot_size, draft_size, slot_in, slot_revision, slot_cell, slot_text, slot_bytes, slot_with, draft_formed, fresh_draft, slot_comparison, comparison_of, word, draft_by, post_tests, posting_of, stored, posted_to, post_answer, cells, draft_sheet, copy_tests, copying_of, copied_to, copy_answer}
 use Rattle.drafts.specs.History.{posted_all}
 use Rattle.drafts.specs.Working.Steps.{text_put, sheet_into}
 use Rattle.drafts.specs.Promises.{Reads, Postings, Stands, newer as is-newer, same as is_same, older as is-older, clash as is-clash, Posts, Copies}
 use Rattle.drafts.specs.declared.revision.Revision.{Revision}
-use Rattle.drafts.specs.declared.revision.Comparison.{Comparison}
-use Rattle.drafts.specs.declared.revision.Comparison.TheVariants.{Newer, Same, Older, Clash}
+use denote.Enum.Bare.{sameb}
+use Rattle.drafts.specs.contracts.revision.Standing.{the_type}
+use Rattle.drafts.specs.declared.revision.Standing.{Standing}
 use Rattle.texts.specs.declared.answers.Refusal.{Refusal}
-use Rattle.drafts.specs.declared.message.Version.{Version}
-use Rattle.drafts.specs.declared.message.Reading.{Reading}
-use Rattle.drafts.specs.declared.message.Reading.TheVariants.{Message, Refused}
-use Rattle.drafts.specs.declared.draft.Posted.{Posted}
-use Rattle.drafts.specs.declared.draft.Posted.TheVariants as posted
-use Rattle.drafts.specs.declared.draft.Copied.{Copied}
-use Rattle.drafts.specs.declared.draft.Copied.TheVariants as copied
+use Rattle.texts.specs.declared.answers.Refusal.TheVariants.{Malformed, Clash}
+use Rattle.texts.specs.Refusals.{refusal_number}
+use Rattle.drafts.proofs.Refused.{refusal_of, refusal-of}
+use Rattle.drafts.specs.declared.revision.Standing.TheVariants.{Newer, Same, Older}
+use Rattle.drafts.specs.declared.message.Heading.{Heading}
+use Rattle.std.specs.Prelude.{Result, Ok, Err}
 use Rattle.texts.proofs.Refusals.{no-success, none_of, succeeds, succeeded, refused, unchanged, never, Way, way_out, tested}
 use Rattle.drafts.proofs.Messages.{small, readable-means, slotted, reading-is, read_found, text-short, party-known, message-is}
 use Rattle.drafts.proofs.Ranks.{clash_test, below_by, rank_same}
 use Rattle.drafts.proofs.EndSlots.{post_read, posted-more}
 use Rattle.drafts.proofs.Held.{held_by}
 use Rattle.drafts.proofs.Reaching.{messages_in, reached}
-use Rattle.drafts.proofs.DraftSheets.{length-cell, length-cells, length-sheet, sheet-made, sheet-into}
+use Rattle.drafts.proofs.DraftSheets.{length-cell, length-cells, sheet-made, sheet-into}
 use Rattle.drafts.proofs.Slots.{length-slot, party-small, formed-means}
-use Rattle.drafts.proofs.SlotBytes.{slot_read, slot-made}
+use Rattle.drafts.proofs.SlotBytes.{slot-made}
 use Rattle.drafts.proofs.Freshening.{fresh-not, fresh-made}
-
--- ---- the ways out of `against`
-
-module _ (v u : Revision) (r h : ℕ) (b : Bool) (er : r ≡ rank v) (eh : h ≡ rank u) where
-  pub stand-newer : h < r → Newer ≡ comparison v u b
-  stand-newer l = rw (← er, ← eh, lt-ltb h r l)
-
-  module _ (n : r ≤ h) where
-    pub stand-older : r < h → Older ≡ comparison v u b
-    stand-older l = rw (← er, ← eh, le-ltb h r n, lt-ltb r h l)
-
-    module _ (o : h ≤ r) where
-      pub stand-same : b ≡ true → Same ≡ comparison v u b
-      stand-same t = rw (← er, ← eh, le-ltb h r n, le-ltb r h o, t)
-
-      pub stand-clash : b ≡ false → Clash ≡ comparison v u b
-      stand-clash f = rw (← er, ← eh, le-ltb h r n, le-ltb r h o, f)
 
 -- ---- post
 
@@ -79,16 +61,16 @@ left-more d m e b q ms L = record {
 }
 
 -- what was returned, by the answer
-posted_of : Answer → Posted
-posted_of (success vs) = cond (eqb (get_or vs 0 0) 110) posted.Newer (cond (eqb (get_or vs 0 0) 115) posted.Same posted.Older)
-posted_of (refusal n vs) = posted.Refused (record { 0 = n })
+posted_of : Answer → Result Standing Refusal
+posted_of (success vs) = cond (eqb (get_or vs 0 0) 110) (Ok Newer) (cond (eqb (get_or vs 0 0) 115) (Ok Same) (Ok Older))
+posted_of (refusal n vs) = Err (refusal_of n)
 
-posted-of : (r : Posted) (a : Answer) → post_answer r ≡ a → r ≡ posted_of a
+posted-of : (r : Result Standing Refusal) (a : Answer) → post_answer r ≡ a → r ≡ posted_of a
 unfolding posted_of
-posted-of posted.Newer a p = ap posted_of p
-posted-of posted.Same a p = ap posted_of p
-posted-of posted.Older a p = ap posted_of p
-posted-of (posted.Refused n) a p = ap posted_of p
+posted-of (Ok Newer) a p = ap posted_of p
+posted-of (Ok Same) a p = ap posted_of p
+posted-of (Ok Older) a p = ap posted_of p
+posted-of (Err n) a p = ap Err (sym (refusal-of n)) ∙ ap posted_of p
 
 -- by the revision, the party and the text of the slot
 stands_by : (s : List ℕ) (v : Revision) (t : List ℕ) → (slot_revision s).party.0 < 256 → v.party.0 < 256
@@ -110,19 +92,19 @@ not-read d m n w h =
     let o = refused _ (word (comparison_of d m)) n [] (read_tests m) (clash_test (comparison_of d m)) h in
     (rw w o.1, rw (w, o.0))
 
-module _ (d m : List ℕ) (r : Posted) (p : post_answer r ≡ posting_of d m) where
-  post-kept : (e : List ℕ) → e ≡ posted_to d m → (r ≡ posted.Newer → ⊥) → e ≡ d
+module _ (d m : List ℕ) (r : Result Standing Refusal) (p : post_answer r ≡ posting_of d m) where
+  post-kept : (e : List ℕ) → e ≡ posted_to d m → (r ≡ Ok Newer → ⊥) → e ≡ d
   unfolding posting_of posted_to posted_of
   post-kept e q n =
       q ∙ cases (passes (post_tests d m)) (λ h. rw h (old (comparison_of d m) (posted-of r _ (p ∙ succeeds _ [] (post_tests d m) h)))) (λ h. rw h)
     where
-      old : (st : Comparison) → r ≡ posted_of (success (word st)) → draft_by st (stored d m) d ≡ d
-      old Newer h = absurd (n h)
-      old Same h = refl
-      old Older h = refl
-      old Clash h = refl
+      old : (st : Result Standing Refusal) → r ≡ posted_of (success (word st)) → draft_by st (stored d m) d ≡ d
+      old (Ok Newer) h = absurd (n h)
+      old (Ok Same) h = refl
+      old (Ok Older) h = refl
+      old (Err n) h = refl
 
-  post-formed : (r ≡ posted.Refused (record { 0 = 1 })) ↔ (draft_formed d ≡ false)
+  post-formed : (r ≡ Err Malformed) ↔ (draft_formed d ≡ false)
   unfolding posting_of post_tests read_tests posted_of
   post-formed = (
     λ h.
@@ -133,9 +115,9 @@ module _ (d m : List ℕ) (r : Posted) (p : post_answer r ≡ posting_of d m) wh
   )
 
   module _ (w : draft_formed d ≡ true) where
-    post-refused : (n : ℕ) → reading_of m ≡ refusal n [] → r ≡ posted.Refused (record { 0 = n })
+    post-refused : (n : Refusal) → reading_of m ≡ refusal (refusal_number n) [] → r ≡ Err n
     unfolding posted_of
-    post-refused n h = posted-of r (refusal n []) (p ∙ sym (not-read d m n w (sym h)).0)
+    post-refused n h = posted-of r (refusal (refusal_number n) []) (p ∙ sym (not-read d m (refusal_number n) w (sym h)).0) ∙ ap Err (refusal-of n)
 
     post-stands : (u f : ℕ) (v : Revision) (t : List ℕ) → IsMessage m u f v t → Stands (slot_in d (slot_of f)) v t r
     unfolding comparison_of reading_of readable
@@ -148,7 +130,7 @@ module _ (d m : List ℕ) (r : Posted) (p : post_answer r ≡ posting_of d m) wh
         rw (posted-of r _ (p ∙ sym o), ← ef, ← ev, ← et) (stands_by (slot_in d k) (revision_of m) (message_text m) b (small _ (party-known m z)))
 
 -- the promise of `post`, from its two equations
-posts-by : (d m : List ℕ) (r : Posted) (e : List ℕ) → ((k : ℕ) → Fits w8 (get_or m k 0)) → post_answer r ≡ posting_of d m → e ≡ posted_to d m → Posts d m r e
+posts-by : (d m : List ℕ) (r : Result Standing Refusal) (e : List ℕ) → ((k : ℕ) → Fits w8 (get_or m k 0)) → post_answer r ≡ posting_of d m → e ≡ posted_to d m → Posts d m r e
 posts-by d m r e h p q = record {
   answer = p;
   draft = q;
@@ -161,46 +143,73 @@ posts-by d m r e h p q = record {
   reached = λ b f. (messages_in d slot_count, reached d b f);
 }
 
+-- the one refusal of a comparison
+clash-among : (x y z : Bool) (c n : Refusal) → cond x (Ok Newer) (cond y (Ok Older) (cond z (Ok Same) (Err c))) ≡ Err n → c ≡ n
+clash-among true y z c n e = let o : ◌≡◌ {A = ℕ} 0 1 = cc in absurd (omega arith)
+clash-among false true z c n e = let o : ◌≡◌ {A = ℕ} 0 1 = cc in absurd (omega arith)
+clash-among false false true c n e = let o : ◌≡◌ {A = ℕ} 0 1 = cc in absurd (omega arith)
+clash-among false false false c n e = cc
+
+clash-is : (s : List ℕ) (v : Revision) (t : List ℕ) (n : Refusal) → slot_comparison s v t ≡ Err n → Clash ≡ n
+unfolding slot_comparison
+clash-is s v t n e = clash-among (ltb (rank (slot_revision s)) (rank v)) (ltb (rank v) (rank (slot_revision s))) (same (slot_text s) t) _ n e
+
 module _ (d m : List ℕ) (h : (k : ℕ) → Fits w8 (get_or m k 0)) (b : Bool) (eb : b ≡ draft_formed d) where
-  pub post-malformed : not b ≡ true → Posts d m (posted.Refused (record { 0 = 1 })) d
+  pub post-malformed : not b ≡ true → Posts d m (Err Malformed) d
   unfolding posting_of posted_to post_tests
   post-malformed n = posts-by d m _ d h (rw (← eb, not-true b n)) (rw (← eb, not-true b n))
 
-  module _ (nb : not b ≡ false) (rd : Reading) (R : Reads m rd) where
+  module _ (nb : b ≡ true) (rd : Result Heading Refusal) (R : Reads m rd) where
     formed : draft_formed d ≡ true
-    formed = sym eb ∙ not-false b nb
+    formed = sym eb ∙ nb
 
-    pub post-unread : (n : Refusal) → rd ≡ Refused n → Posts d m (posted.Refused n) d
-    post-unread n e = let p = not-read d m n.0 formed (ap read_answer (sym e) ∙ R.answer) in posts-by d m _ d h p.0 p.1
+    pub post-unread : (n : Refusal) → rd ≡ Err n → Posts d m (Err n) d
+    post-unread n e = let p = not-read d m (refusal_number n) formed (ap read_answer (sym e) ∙ R.answer) in posts-by d m _ d h p.0 p.1
 
-    module _ (u : Version) (f : Field) (v : Revision) (er : rd ≡ Message u f v) (t : List ℕ) (et : t ≡ message_text m) where
-      found : (readable m ≡ true) × (u.0 ≡ version_of m) × (f.0 ≡ message_field m) × (v ≡ revision_of m)
-      found = read_found m u f v (ap read_answer (sym er) ∙ R.answer)
+    module _ (g : Heading) (er : rd ≡ Ok g) (t : List ℕ) (et : t ≡ message_text m) where
+      found : (readable m ≡ true) × (g.version.0 ≡ version_of m) × (g.field.0 ≡ message_field m) × (g.revision ≡ revision_of m)
+      found = read_found m g (ap read_answer (sym er) ∙ R.answer)
 
       pub post-short : length t ≤ text_max
       post-short = rw et (text-short m found.0)
 
-      module _ (k : ℕ) (ek : k ≡ slot_of f.0) (s : List ℕ) (es : s ≡ slot_in d k) (st : Comparison) (est : st ≡ slot_comparison s v t) where
+      module _ (k : ℕ) (ek : k ≡ slot_of g.field.0) (s : List ℕ) (es : s ≡ slot_in d k) (st : Result Standing Refusal) (est : st ≡ slot_comparison s g.revision t) where
         slot_is : k ≡ slot_of (message_field m)
         slot_is = ek ∙ ap slot_of found.2
 
         stood : st ≡ comparison_of d m
         unfolding comparison_of
-        stood = est ∙ rw (es, slot_is, found.3, et)
+        stood =
+            est ∙ ap (λ (x : Revision). slot_comparison s x t) found.3 ∙ ap (λ (x : List ℕ). slot_comparison s (revision_of m) x) et ∙ ap (λ (x : List ℕ). slot_comparison x (revision_of m) (message_text m)) (es ∙ ap (slot_in d) slot_is)
 
-        pub post-newer : (e : List ℕ) → st ≡ Newer → e ≡ put_at d (k * slot_size) (slot_bytes v t) → Posts d m posted.Newer e
-        unfolding stored slot_with
-        post-newer e q w =
-            let p = post_read d m Newer formed found.0 (sym q ∙ stood) in
+        -- what a standing is answered with, and what it leaves
+        post-stood : (x : Result Standing Refusal) → st ≡ x → post_answer x ≡ answer_by (clash_test x) (word x) → (e : List ℕ) → e ≡ buffer_by (clash_test x) (draft_by x (stored d m) d) d → Posts d m x e
+        post-stood x q a e w = let p = post_read d m x formed found.0 (sym q ∙ stood) in posts-by d m x e h (a ∙ p.0) (w ∙ p.1)
+
+        put-is : text_put d k g.revision t ≡ stored d m
+        unfolding stored slot_with text_put
+        put-is =
             let n = (slotted (message_field m) (readable-means m found.0).listed).1 in
-            let l = length-slot v t post-short in
+            let l = length-slot g.revision t post-short in
             let z = (formed-means d formed).sized in
-            let y : e ≡ put d (k * slot_size) (slot_bytes v t) = w ∙ put-fits d (k * slot_size) (slot_bytes v t) (omega (arith, slot_is)) in
-            posts-by d m _ e h p.0 (y ∙ rw (slot_is, found.3, et) p.1)
+            rw (le-leb _ _ post-short) (put-fits d (k * slot_size) (slot_bytes g.revision t) (omega (arith, slot_is)))
+            ∙ ap (λ (x : List ℕ). put d (k * slot_size) x) (ap (λ (x : Revision). slot_bytes x t) found.3 ∙ ap (slot_bytes (revision_of m)) et)
+            ∙ ap (λ (x : ℕ). put d (x * slot_size) (slot_bytes (revision_of m) (message_text m))) slot_is
 
-        -- the draft as it was
-        pub post-still : (x : Comparison) (r : Posted) → st ≡ x → post_answer r ≡ answer_by (clash_test x) (word x) → d ≡ buffer_by (clash_test x) (draft_by x (stored d m) d) d → Posts d m r d
-        post-still x r q a k = let p = post_read d m x formed found.0 (sym q ∙ stood) in posts-by d m r d h (a ∙ p.0) (k ∙ p.1)
+        module _ (z : Bool) where
+          pub post-newer : (e : List ℕ) (x : Standing) → st ≡ Ok x → z ≡ sameb the_type x Newer → z ≡ true → e ≡ text_put d k g.revision t → Posts d m (Ok x) e
+          post-newer e Newer q n y w = post-stood (Ok Newer) q refl e (w ∙ put-is)
+          post-newer e Same q n y w = absurd (false≢true (sym n ∙ y))
+          post-newer e Older q n y w = absurd (false≢true (sym n ∙ y))
+
+          -- the draft as it was
+          pub post-still : (x : Standing) → st ≡ Ok x → z ≡ sameb the_type x Newer → z ≡ false → Posts d m (Ok x) d
+          post-still Newer q n y = absurd (true≢false (sym n ∙ y))
+          post-still Same q n y = post-stood (Ok Same) q refl d refl
+          post-still Older q n y = post-stood (Ok Older) q refl d refl
+
+        pub post-clash : (n : Refusal) → st ≡ Err n → Posts d m (Err n) d
+        post-clash n q = post-stood (Err n) q (ap (λ (x : Refusal). post_answer (Err x)) (sym (clash-is s g.revision t n (sym est ∙ q)))) d refl
 
 -- ---- put_sheet: the cells of the first n slots stand in what was there before
 
@@ -235,18 +244,18 @@ sheet-other d s n =
 
 -- ---- copy
 
-copied-made : (r : Copied) → copy_answer r ≡ success [] → r ≡ copied.Made
-copied-made copied.Made e = refl
-copied-made (copied.Refused n) e = absurd (no-success n.0 [] [] e)
+copied-made : (r : Result Unit Refusal) → copy_answer r ≡ success [] → r ≡ Ok tt
+copied-made (Ok tt) e = refl
+copied-made (Err n) e = absurd (no-success (refusal_number n) [] [] e)
 
-copy-means : (d s : List ℕ) (r : Copied) → copy_answer r ≡ copying_of d s → r ≡ copied.Made → (draft_formed d ≡ true) × (length s ≡ sheet_size)
+copy-means : (d s : List ℕ) (r : Result Unit Refusal) → copy_answer r ≡ copying_of d s → r ≡ Ok tt → (draft_formed d ≡ true) × (length s ≡ sheet_size)
 unfolding copying_of copy_tests
 copy-means d s r p o =
     let z = none_of (copy_tests d s) (succeeded [] [] (copy_tests d s) (ap copy_answer (sym o) ∙ p)).0 in
     (not-false _ z.0, eqb-true _ _ (not-false _ z.1.0))
 
 -- the promise of `copy`, from its two equations
-copies-by : (d s : List ℕ) (r : Copied) (e : List ℕ) → copy_answer r ≡ copying_of d s → e ≡ copied_to d s → Copies d s r e
+copies-by : (d s : List ℕ) (r : Result Unit Refusal) (e : List ℕ) → copy_answer r ≡ copying_of d s → e ≡ copied_to d s → Copies d s r e
 unfolding copying_of copied_to copy_tests
 copies-by d s r e p q = record {
   answer = p;
@@ -260,35 +269,19 @@ copies-by d s r e p q = record {
       rw u (sheet-made d c.0);
 }
 
-pub copy-out : (k : ℕ) (d s : List ℕ) (r : Copied) (e : List ℕ) → Way [] (draft_sheet d) s (copy_answer r) e (Copies d s r e) k (copy_tests d s)
+pub copy-out : (k : ℕ) (d s : List ℕ) (r : Result Unit Refusal) (e : List ℕ) → Way [] (draft_sheet d) s (copy_answer r) e (Copies d s r e) k (copy_tests d s)
 unfolding copying_of copied_to
 copy-out k d s r e = way_out _ _ _ _ e _ k (copy_tests d s) (copies-by d s r e)
 
-pub copy-made : (d s : List ℕ) (b : Bool) (o x e : List ℕ) → e ≡ put_at s 0 x → x ≡ sheet_into d o → length o ≡ sheet_size → length s ≡ sheet_size → b ≡ draft_formed d → not b ≡ false → e ≡ draft_sheet d
+pub copy-made : (d s : List ℕ) (b : Bool) (o x e : List ℕ) → e ≡ x → x ≡ sheet_into d o → length o ≡ sheet_size → length s ≡ sheet_size → b ≡ draft_formed d → not b ≡ false → e ≡ draft_sheet d
 copy-made d s b o x e ee ex lo z eb nb =
     let sized = (formed-means d (sym eb ∙ not-false b nb)).sized in
     let ed : x ≡ draft_sheet d = ex ∙ sheet-into d o sized lo in
-    let l = length-sheet d sized in
-    ee ∙ rw ed (put-fits s 0 (draft_sheet d) (omega arith) ∙ put_whole s (draft_sheet d) (l ∙ sym z))
+    ee ∙ ed
 
--- ---- the ways out of `put_text`
+pub ruleset begins = (rules, slot-made, fresh-not, fresh-made)
 
-module _ (d : List ℕ) (i : ℕ) (v : Revision) (t : List ℕ) where
-  pub text-put : (e : List ℕ) → length t ≤ text_max → e ≡ put_at d (i * slot_size) (slot_bytes v t) → e ≡ text_put d i v t
-  unfolding text_put
-  text-put e l q = rw (le-leb _ _ l) q
-
-  pub text-left : text_max < length t → d ≡ text_put d i v t
-  unfolding text_put
-  text-left l = rw (lt-leb _ _ l)
-
-pub ruleset compares = (rules, stand-newer, stand-older, stand-same, stand-clash)
-
-pub ruleset begins = (rules, slot_read, slot-made, fresh-not, fresh-made)
-
-pub ruleset puts = (rules, text-put, text-left)
-
-pub ruleset posts = (rules, post-malformed, post-unread, post-short, post-newer, post-still)
+pub ruleset posts = (rules, post-malformed, post-unread, post-short, post-newer, post-still, post-clash)
 
 pub ruleset sheets = (rules, cells-none, cells-more, cells-length, cells-all)
 

@@ -22,7 +22,9 @@ use Rattle.drafts.specs.Draft.{slot_size, draft_size, slots_formed, slot_in, slo
 use Rattle.drafts.specs.History.{posted_from, posted_all, names, rank_in, highest, first_of, empty_slot, end_slot, Ends, none, won, AllBytes}
 use Rattle.drafts.specs.Working.Steps.{slot_rank}
 use Rattle.drafts.specs.declared.revision.Revision.{Revision}
-use Rattle.drafts.specs.declared.revision.Comparison.{Comparison}
+use Rattle.drafts.specs.declared.revision.Standing.{Standing}
+use Rattle.texts.specs.declared.answers.Refusal.{Refusal}
+use Rattle.std.specs.Prelude.{Result}
 use Rattle.texts.proofs.Refusals.{succeeded, fails, more}
 use Rattle.drafts.proofs.Messages.{small, listed-slot, speaks-known, Readable, readable-means, reading-is, message-is, slotted}
 use Rattle.drafts.proofs.Ranks.{clash_test, rank-above, length-with, rank-with, with-formed, empty-rank, by-below, rank_below, rank-not-below, rank-draft}
@@ -54,7 +56,7 @@ module _ (i : ℕ) (m : List ℕ) where
 -- ---- one posting
 
 -- a readable message against a well-formed draft: what is left to test is the clash
-pub post_read : (d m : List ℕ) (st : Comparison) → draft_formed d ≡ true → readable m ≡ true → st ≡ comparison_of d m
+pub post_read : (d m : List ℕ) (st : Result Standing Refusal) → draft_formed d ≡ true → readable m ≡ true → st ≡ comparison_of d m
     → (answer_by (clash_test st) (word st) ≡ posting_of d m) × (buffer_by (clash_test st) (draft_by st (stored d m) d) d ≡ posted_to d m)
 unfolding readable posting_of posted_to post_tests
 post_read d m st w z e =

@@ -10,9 +10,10 @@ use Rattle.texts.specs.Working.Writing.{zeroed}
 use Rattle.drafts.specs.Draft.{draft_size, fresh_draft, begin_tests, beginning_of, begun_from}
 use Rattle.drafts.specs.History.{posted_all}
 use Rattle.drafts.specs.Promises.{Freshens}
-use Rattle.drafts.specs.declared.draft.Begun.TheVariants as begun
+use Rattle.std.specs.Prelude.{Ok, Err}
+use Rattle.texts.specs.declared.answers.Refusal.TheVariants.{Malformed}
 
-pub fresh-not : (d : List ℕ) → (length d ≡ draft_size → ⊥) → Freshens d (begun.Refused (record { 0 = 1 })) d
+pub fresh-not : (d : List ℕ) → (length d ≡ draft_size → ⊥) → Freshens d (Err Malformed) d
 unfolding beginning_of begun_from begin_tests
 fresh-not d e = record {
   answer = simp (ne_eqb (length d) draft_size e);
@@ -22,7 +23,7 @@ fresh-not d e = record {
   start = λ z. absurd (e z);
 }
 
-pub fresh-made : (d e : List ℕ) → length d ≡ draft_size → e ≡ zeroed d → Freshens d begun.Made e
+pub fresh-made : (d e : List ℕ) → length d ≡ draft_size → e ≡ zeroed d → Freshens d (Ok tt) e
 unfolding beginning_of begun_from begin_tests fresh_draft zeroed posted_all
 fresh-made d e z p =
     let q : e ≡ replicate draft_size 0 = p ∙ rw z in

@@ -1,3 +1,4 @@
+pub mod Refused
 pub mod Messages
 pub mod ReadBack
 pub mod Sizes

@@ -1,70 +1,68 @@
 -- The promises of `read` and `write`, and their ways out.
 use mathlib.Core.Path.{◌≡◌, sym, ap, ◌∙◌}
-use mathlib.Core.Bool.{Bool, false, not}
+use mathlib.Core.Bool.{Bool, true, false, not}
 use mathlib.Core.List.{List, [], ◌∷◌}
-use Prim.Native.Nat.{ℕ, ◌+◌, ◌-◌, ◌≤◌}
+use Prim.Native.Nat.{ℕ, ◌+◌, ◌-◌, ◌≤◌, ◌<◌}
 use native.Mathlib.Omega.{arith}
-use borrow.Author.Tests.{ne_eqb, ltb-false}
+use borrow.Author.Tests.{ltb-false}
 use borrow.Author.Rules.{rules}
+use Rattle.std.specs.Prelude.{Result, Ok, Err}
 use mir.Syntax.{w8, w32, w64}
 use mir.Val.{Fits}
 use lib.Dec.{eqb, ltb}
-use lib.ListN.{length, take, drop, get_or, length-drop}
-use lib.Seq.{take_all, get_or-take}
+use lib.ListN.{length, take, drop, get_or, replicate, length-drop}
+use lib.Seq.{take_all, get_or-take, get_or-drop}
 use Rattle.texts.specs.Answers.{success}
 use Rattle.texts.specs.Texts.{between}
 use Rattle.texts.specs.Numbers.{big, bytes_of, bytes_at}
 use Rattle.texts.specs.Buffers.{put}
+use Rattle.texts.proofs.Bools.{cases}
 use Rattle.texts.specs.Working.Writing.{put_at}
 use Rattle.texts.proofs.Puts.{put-fits, put_next, mid-put, drop-put}
 use Rattle.texts.proofs.Refusals.{no-success, succeeds, succeeded, unchanged, Way, way_out, tested}
 use Rattle.sheets.specs.Sheet.{slot_count, slot_of, text_max}
-use Rattle.sheets.specs.declared.sheet.Field.{Field}
-use Rattle.drafts.specs.Revision.{adviser, known_party}
+use Rattle.drafts.specs.Revision.{known_party}
 use Rattle.drafts.specs.Message.{known_version, opening, body_place, revision_place, revision_size, text_place, head_size, least_l, IsMessage, length_of, version_of, party_of, message_body, message_field, revision_of, message_text, misframed, disallowed, read_tests, read_values, reading_of, read_answer, head_bytes, message_of, allowed, write_tests, writing_of, written_of, write_answer}
 use Rattle.drafts.specs.Promises.{Reads, Writes}
 use Rattle.drafts.specs.Working.Steps.{takes}
 use Rattle.drafts.specs.declared.revision.Party.{Party}
 use Rattle.drafts.specs.declared.revision.Revision.{Revision}
-use Rattle.drafts.specs.declared.message.Version.{Version}
-use Rattle.drafts.specs.declared.message.Reading.{Reading}
-use Rattle.drafts.specs.declared.message.Reading.TheVariants.{Message, Refused}
-use Rattle.drafts.specs.declared.message.Written.{Written}
-use Rattle.drafts.specs.declared.message.Written.TheVariants as written
+use Rattle.drafts.specs.declared.message.Heading.{Heading}
+use Rattle.texts.specs.declared.answers.Refusal.{Refusal}
+use Rattle.texts.specs.Refusals.{refusal_number}
 use Rattle.drafts.proofs.Messages.{revision-is, placed, neither, frame-means, read_found, writable, written-by, message-of, is-message, written-again, length-head, length-message}
 use Rattle.drafts.proofs.ReadBack.{read_back}
-use Rattle.drafts.proofs.Sizes.{twice, framed-short, framed-long, framed-rest, takes-second, takes_first, takes-is}
+use Rattle.drafts.proofs.Sizes.{twice, framed-short, framed-long, framed-rest, takes-is}
 
 -- ---- read
 
-reading-made : (r : Reading) (w : Version) (f : Field) (v : Revision) → read_answer r ≡ success (read_values w.0 f.0 v) → r ≡ Message w f v
-reading-made (Message x g u) w f v e =
-    let o : x.0 ≡ w.0 = cc in
-    let p : g.0 ≡ f.0 = cc in
-    let q : u ≡ v = revision-is u _ _ (cc) (cc) in
-    λ i. Message (record { 0 = o i }) (record { 0 = p i }) (q i)
-reading-made (Refused n) w f v e = absurd (no-success n.0 [] _ e)
+heading-is : (g h : Heading) → g.version.0 ≡ h.version.0 → g.field.0 ≡ h.field.0 → g.revision ≡ h.revision → g ≡ h
+heading-is g h p q r = λ i. record { version = record { 0 = p i }; field = record { 0 = q i }; revision = r i }
+
+reading-made : (r : Result Heading Refusal) (h : Heading) → read_answer r ≡ success (read_values h.version.0 h.field.0 h.revision) → r ≡ Ok h
+reading-made (Ok g) h e = ap Ok (heading-is g h (cc) (cc) (revision-is g.revision _ _ (cc) (cc)))
+reading-made (Err n) h e = absurd (no-success (refusal_number n) [] _ e)
 
 -- the promise of `read`, from its equation
-reads-by : (m : List ℕ) (r : Reading) → ((k : ℕ) → Fits w8 (get_or m k 0)) → read_answer r ≡ reading_of m → Reads m r
+reads-by : (m : List ℕ) (r : Result Heading Refusal) → ((k : ℕ) → Fits w8 (get_or m k 0)) → read_answer r ≡ reading_of m → Reads m r
 reads-by m r h e = record {
   answer = e;
-  exactly = λ w f v t. (
+  exactly = λ g t. (
     λ p.
-        let q = read_found m w f v (ap read_answer (sym p.0) ∙ e) in
+        let q = read_found m g (ap read_answer (sym p.0) ∙ e) in
         rw (q.1, q.2, q.3, ← p.1) (is-message m (λ k. (h k).fits) q.0),
     λ M.
-        let q = read_back m w.0 f.0 v t M in
-        (reading-made r w f v (e ∙ q.0), q.1),
+        let q = read_back m g.version.0 g.field.0 g.revision t M in
+        (reading-made r g (e ∙ q.0), q.1),
   );
   made =
-      λ w f v q b u.
-      let p = read_found m w f v (ap read_answer (sym q) ∙ e) in
+      λ g q b u.
+      let p = read_found m g (ap read_answer (sym q) ∙ e) in
       rw (p.1, p.2, p.3) (written-again m b (λ k. (h k).fits) p.0 u);
 }
 
 -- the ways out of `read`
-pub read_out : (k : ℕ) (m : List ℕ) (r : Reading) → ((i : ℕ) → Fits w8 (get_or m i 0)) → Way (read_values (version_of m) (message_field m) (revision_of m)) [] [] (read_answer r) [] (Reads m r) k (read_tests m)
+pub read_out : (k : ℕ) (m : List ℕ) (r : Result Heading Refusal) → ((i : ℕ) → Fits w8 (get_or m i 0)) → Way (read_values (version_of m) (message_field m) (revision_of m)) [] [] (read_answer r) [] (Reads m r) k (read_tests m)
 unfolding reading_of
 read_out k m r h = way_out _ [] [] _ [] _ k (read_tests m) (λ p q. reads-by m r h p)
 
@@ -95,74 +93,54 @@ module _ (m : List ℕ) (z : Bool) where
     unfolding message_body
     field_is = ap (λ (x : List ℕ). get_or x 0 0) ec ∙ get_or-take text_place (drop (body_place w) m) 0 0 (omega arith) ∙ rw ew
 
-    number_is : big (bytes_at c revision_place revision_size) ≡ (revision_of m).number
-    unfolding message_body revision_of
-    number_is =
-        ap (λ (x : List ℕ). big (bytes_at x revision_place revision_size)) ec
-        ∙ rw (get_or-take text_place (drop (body_place w) m) 1 0 (omega arith), get_or-take text_place (drop (body_place w) m) 2 0 (omega arith), get_or-take text_place (drop (body_place w) m) 3 0 (omega arith), get_or-take text_place (drop (body_place w) m) 4 0 (omega arith), ew)
+    number_at : (i : ℕ) → i < revision_size → get_or (between c revision_place text_place) i 0 ≡ get_or (message_body m) (revision_place + i) 0
+    unfolding message_body between
+    number_at i h =
+        get_or-take revision_size (drop revision_place c) i 0 h
+        ∙ get_or-drop revision_place c i 0
+        ∙ ap (λ (x : List ℕ). get_or x (revision_place + i) 0) ec
+        ∙ get_or-take text_place (drop (body_place w) m) (revision_place + i) 0 (omega arith)
+        ∙ rw ew
+
+    number_is : big (bytes_at (between c revision_place text_place) 0 revision_size) ≡ (revision_of m).number
+    unfolding revision_of
+    number_is = rw (number_at 0 (omega arith), number_at 1 (omega arith), number_at 2 (omega arith), number_at 3 (omega arith))
 
     pub listed-as : (f k : ℕ) → k ≡ slot_of f → f ≡ get_or c 0 0 → eqb k slot_count ≡ z → eqb (slot_of (message_field m)) slot_count ≡ z
     listed-as f k ek ef h = field-as (message_field m) f k z ek (ef ∙ field_is) h
 
-    pub number-as : (n : ℕ) → n ≡ big (bytes_at c revision_place revision_size) → eqb n 0 ≡ z → eqb (revision_of m).number 0 ≡ z
-    number-as n en h = rw (← number_is, ← en) h
+    module _ (b : List ℕ) (eb : b ≡ between c revision_place text_place) (n : ℕ) (en : n ≡ big (bytes_at b 0 revision_size)) where
+      given_is : n ≡ (revision_of m).number
+      given_is = en ∙ ap (λ (x : List ℕ). big (bytes_at x 0 revision_size)) eb ∙ number_is
 
-    pub values-as : (f n : ℕ) (p : Party) → f ≡ get_or c 0 0 → n ≡ big (bytes_at c revision_place revision_size) → p.0 ≡ party_of m
-        → success (read_values w f (record { number = n; party = p })) ≡ success (read_values (version_of m) (message_field m) (revision_of m))
-    unfolding revision_of
-    values-as f n p ef en ep = rw (← ew, ef, en, ← ep, field_is, number_is)
+      pub number-as : eqb n 0 ≡ z → eqb (revision_of m).number 0 ≡ z
+      number-as h = rw (← given_is) h
+
+      pub values-as : (f : ℕ) (p : Party) → f ≡ get_or c 0 0 → p.0 ≡ party_of m
+          → success (read_values w f (record { number = n; party = p })) ≡ success (read_values (version_of m) (message_field m) (revision_of m))
+      unfolding revision_of
+      values-as f p ef ep = rw (← ew, ef, ← ep, field_is, given_is)
 
 -- a version that takes the size of a message leaves room for its field and its revision
-pub window-fits : (m : List ℕ) (x t : Bool) (w : ℕ) → x ≡ not (misframed m) → not x ≡ false → t ≡ takes w (length m) → not t ≡ false → body_place w + text_place ≤ length m
+pub window-fits : (m : List ℕ) (x t : Bool) (w : ℕ) → x ≡ not (misframed m) → x ≡ true → t ≡ takes w (length m) → t ≡ true → body_place w + text_place ≤ length m
 window-fits m x t w ex hx et ht =
-    let f = frame-means m (sym (twice (misframed m)) ∙ rw (← ex) hx) in
-    let d : disallowed w (length_of m) ≡ false = sym (twice (disallowed w (length_of m))) ∙ rw (← (takes-is (length m) (length_of m) f.0 f.1 f.2 w), ← et) ht in
+    let f = frame-means m (sym (twice (misframed m)) ∙ ap not (sym ex ∙ hx)) in
+    let d : disallowed w (length_of m) ≡ false = sym (twice (disallowed w (length_of m))) ∙ ap not (sym (takes-is (length m) (length_of m) f.0 f.1 f.2 w) ∙ sym et ∙ ht) in
     omega (arith, f, ltb-false (length_of m) (least_l w) (neither (ltb (length_of m) (least_l w)) _ d).0, placed w)
 
 -- the sums that the code makes
-pub length-fits : (m : List ℕ) → ((k : ℕ) → Fits w8 (get_or m k 0)) → (l : ℕ) → l ≡ length_of m → Fits w64 (l + 2)
-length-fits m h l e = record { fits = omega (arith, (h 0).fits, (h 1).fits) }
-
-pub place-fits : (w s k : ℕ) → s ≡ body_place w → k ≤ text_max → Fits w64 (s + k)
-place-fits w s k e l = record { fits = omega (arith, placed w) }
-
 pub sum_fits : (w s k : ℕ) → s ≡ head_size w → k ≤ text_max → Fits w64 (k + s)
 sum_fits w s k e l = record { fits = omega (arith, placed w) }
 
-pub ruleset framing = (rules, length-fits, framed-short, framed-long, framed-rest, takes-second, takes_first)
+pub ruleset framing = (rules, framed-short, framed-long, framed-rest)
 
 pub ruleset reading = (tested, frame-as, version-as, size-as, party-as, listed-as, number-as, values-as)
 
 -- ---- parts of a message
 
-module _ (w : ℕ) where
-  pub place-second : w ≡ 2 → 4 ≡ body_place w
-  place-second e = rw e
-
-  pub place-first : (w ≡ 2 → ⊥) → 3 ≡ body_place w
-  place-first n = rw (ne_eqb w 2 n)
-
-  pub size-second : w ≡ 2 → 9 ≡ head_size w
-  size-second e = rw e
-
-  pub size-first : (w ≡ 2 → ⊥) → 8 ≡ head_size w
-  size-first n = rw (ne_eqb w 2 n)
-
-  module _ (m : List ℕ) (ew : w ≡ version_of m) where
-    pub party-second : w ≡ 2 → (p : ℕ) → p ≡ get_or m 3 0 → p ≡ party_of m
-    unfolding party_of
-    party-second e p ep = rw (← ew, e) ep
-
-    pub party-first : (w ≡ 2 → ⊥) → adviser ≡ party_of m
-    unfolding party_of
-    party-first n = rw (← ew, ne_eqb w 2 n)
-
 rest-is : (m t : List ℕ) (k : ℕ) → t ≡ between m k (length m) → t ≡ drop k m
 unfolding between
 rest-is m t k e = let l = length-drop k m in e ∙ take_all (length m - k) (drop k m) (omega arith)
-
-pub window-is : (m : List ℕ) (w k : ℕ) → k ≡ body_place w → take (k + text_place - k) (drop k m) ≡ take text_place (drop (body_place w) m)
-window-is m w k e = let z : k + text_place - k ≡ text_place = omega arith in rw (z, e)
 
 pub body_is : (m t : List ℕ) (w k : ℕ) → w ≡ version_of m → k ≡ body_place w → t ≡ between m k (length m) → t ≡ message_body m
 unfolding message_body
@@ -174,14 +152,14 @@ text-is m b t eb e = rest-is b t text_place e ∙ rw eb
 
 -- ---- write
 
-written-made : (w : Written) (n : ℕ) → write_answer w ≡ success (n ∷ []) → w ≡ written.Bytes n
-written-made (written.Bytes k) n e = cc
-written-made (written.Refused k) n e = absurd (no-success k.0 [] _ e)
+written-made : (w : Result ℕ Refusal) (n : ℕ) → write_answer w ≡ success (n ∷ []) → w ≡ Ok n
+written-made (Ok k) n e = cc
+written-made (Err k) n e = absurd (no-success (refusal_number k) [] _ e)
 
 -- the promise of `write`, from its two equations
-writes-by : (w f : ℕ) (v : Revision) (t b : List ℕ) (r : Written) (e : List ℕ) → Fits w32 v.number → write_answer r ≡ writing_of w f v t b → e ≡ written_of w f v t b → Writes w f v t b r e
+writes-by : (g : Heading) (t b : List ℕ) (r : Result ℕ Refusal) (e : List ℕ) → Fits w32 g.revision.number → write_answer r ≡ writing_of g.version.0 g.field.0 g.revision t b → e ≡ written_of g.version.0 g.field.0 g.revision t b → Writes g t b r e
 unfolding writing_of written_of
-writes-by w f v t b r e h p q = record {
+writes-by g t b r e h p q = record {
   answer = p;
   buffer = q;
   refused = λ n. q ∙ unchanged _ _ _ (write_tests w f v t b) (λ s. n (length t + head_size w) (written-made r (length t + head_size w) (p ∙ s)));
@@ -193,8 +171,17 @@ writes-by w f v t b r e h p q = record {
   back = λ n s. let o = out_of n s in rw o.1 (read_back _ w f v t o.0);
 }
   where
+    w : ℕ
+    w = g.version.0
+
+    f : ℕ
+    f = g.field.0
+
+    v : Revision
+    v = g.revision
+
     -- the message, and what stands before and behind its end
-    out_of : (n : ℕ) → r ≡ written.Bytes n → IsMessage (message_of w f v t) w f v t × (take n e ≡ message_of w f v t) × (drop n e ≡ drop n b)
+    out_of : (n : ℕ) → r ≡ Ok n → IsMessage (message_of w f v t) w f v t × (take n e ≡ message_of w f v t) × (drop n e ≡ drop n b)
     out_of n s =
         let (z, k) = succeeded _ (n ∷ []) (write_tests w f v t b) (ap write_answer (sym s) ∙ p) in
         let o : n ≡ length t + head_size w = cc in
@@ -207,14 +194,14 @@ writes-by w f v t b r e h p q = record {
           ap (drop n) u ∙ drop-put b 0 (message_of w f v t) n (omega arith) (omega (arith, W.room)),
         )
 
-module _ (w f : ℕ) (v : Revision) (n : ℕ) (d : List ℕ) (ed : d ≡ bytes_of revision_size v.number) where
-  pub head-second : w ≡ 2 → take (head_size w) (0 ∷ (n + least_l 1 + 1) ∷ w ∷ v.party.0 ∷ f ∷ get_or d 0 0 ∷ get_or d 1 0 ∷ get_or d 2 0 ∷ get_or d 3 0 ∷ []) ≡ head_bytes w f v n
-  unfolding head_bytes opening
-  head-second e = let l : n + least_l 1 + 1 ≡ n + least_l 2 = omega arith in rw (l, ed, e)
-
-  pub head_first : (w ≡ 2 → ⊥) → take (head_size w) (0 ∷ (n + least_l 1) ∷ w ∷ f ∷ get_or d 0 0 ∷ get_or d 1 0 ∷ get_or d 2 0 ∷ get_or d 3 0 ∷ 0 ∷ []) ≡ head_bytes w f v n
-  unfolding head_bytes opening
-  head_first e = rw (ed, ne_eqb w 2 e)
+-- the head: in version 1 the field is put over the party
+pub head-made : (w f n : ℕ) (v : Revision) (d x y z : List ℕ) (l k : ℕ) → d ≡ bytes_of revision_size v.number → k ≡ body_place w → l ≡ n + least_l w
+    → x ≡ put_at (replicate 9 0) 0 (0 ∷ l ∷ w ∷ v.party.0 ∷ [])
+    → y ≡ put_at x k (f ∷ [])
+    → z ≡ put_at y (k + revision_place) d
+    → take (head_size w) z ≡ head_bytes w f v n
+unfolding head_bytes opening put_at put
+head-made w f n v d x y z l k ed ek el ex ey ez = cases (eqb w 2) (λ t. rw (ez, ey, ex, ek, el, ed, t)) (λ t. rw (ez, ey, ex, ek, el, ed, t))
 
 pub head-put : (w f : ℕ) (v : Revision) (t b d c x e : List ℕ) (s : ℕ) → s ≡ head_size w → take (head_size w) d ≡ head_bytes w f v (length t) → c ≡ between d 0 s → x ≡ put_at b 0 c → e ≡ put_at x s t
     → e ≡ put_at (put_at b 0 (head_bytes w f v (length t))) (head_size w) t
@@ -225,9 +212,10 @@ head-put w f v t b d c x e s es ed ec ex ee =
     ee ∙ rw (ex, k, es)
 
 -- the ways out of `write`
-pub write-out : (k w f : ℕ) (v : Revision) (t b : List ℕ) (r : Written) (e : List ℕ) → Fits w32 v.number → Way ((length t + head_size w) ∷ []) (put b 0 (message_of w f v t)) b (write_answer r) e (Writes w f v t b r e) k (write_tests w f v t b)
+pub write-out : (k : ℕ) (g : Heading) (t b : List ℕ) (r : Result ℕ Refusal) (e : List ℕ) → Fits w32 g.revision.number
+    → Way ((length t + head_size g.version.0) ∷ []) (put b 0 (message_of g.version.0 g.field.0 g.revision t)) b (write_answer r) e (Writes g t b r e) k (write_tests g.version.0 g.field.0 g.revision t b)
 unfolding writing_of written_of
-write-out k w f v t b r e h = way_out _ _ _ _ e _ k (write_tests w f v t b) (writes-by w f v t b r e h)
+write-out k g t b r e h = way_out _ _ _ _ e _ k (write_tests g.version.0 g.field.0 g.revision t b) (writes-by g t b r e h)
 
 -- its tests and what it leaves, by what the code has
 pub known_as : (w : ℕ) (x z : Bool) → x ≡ known_version w → not x ≡ z → not (known_version w) ≡ z
@@ -248,6 +236,6 @@ message-put w f v t b e s ee es u =
     let c = head_bytes w f v (length t) in
     ee ∙ put_next b c t (put_at b 0 c) (head_size w) (length-head w f v (length t)) (omega arith) (put-fits b 0 c (omega (arith, length-head w f v (length t))))
 
-pub ruleset heads = (rules, place-second, place-first, size-second, size-first, party-second, party-first, head_first, head-second, head-put, window-is, body_is, text-is, place-fits)
+pub ruleset heads = (rules, head-made, head-put, body_is, text-is)
 
 pub ruleset writing = (rules, tested, sum_fits, known_as, allowed-as, field-as, room_as, size_is, message-put)

@@ -16,12 +16,11 @@ use Rattle.texts.specs.Numbers.{Bytes, big, bytes_of, bytes_at}
 use Rattle.texts.specs.Buffers.{put}
 use Rattle.texts.proofs.Big.{big-bytes, each_at, bytes-big}
 use Rattle.sheets.specs.Sheet.{fields, slot_count, place_of, slot_of, text_max}
-use Rattle.sheets.specs.declared.sheet.Field.{Field}
 use Rattle.drafts.specs.Revision.{client, adviser, known_party, Known, is-client, is-adviser, ◌by◌}
 use Rattle.drafts.specs.Message.{known_version, opening, body_place, revision_place, revision_size, text_place, head_size, least_l, most_l, Speaks, first, second, IsMessage, Writable, length_of, version_of, party_of, message_body, message_field, revision_of, message_text, misframed, read_tests, readable, read_values, reading_of, read_answer, head_bytes, message_of, allowed, write_tests, writing_of, written_of}
 use Rattle.drafts.specs.declared.revision.Revision.{Revision}
-use Rattle.drafts.specs.declared.message.Version.{Version}
-use Rattle.drafts.specs.declared.message.Reading.TheVariants.{Message}
+use Rattle.drafts.specs.declared.message.Heading.{Heading}
+use Rattle.std.specs.Prelude.{Ok}
 use Rattle.texts.proofs.Bools.{cases, both}
 use Rattle.texts.proofs.Refusals.{none_of, succeeds, succeeded}
 
@@ -147,12 +146,12 @@ pub text_at : (m : List ℕ) → message_text m ≡ drop (head_size (version_of 
 unfolding message_text message_body
 text_at m = drop-drop text_place (body_place (version_of m)) m
 
-pub read_found : (m : List ℕ) (w : Version) (f : Field) (v : Revision) → read_answer (Message w f v) ≡ reading_of m
-    → (readable m ≡ true) × (w.0 ≡ version_of m) × (f.0 ≡ message_field m) × (v ≡ revision_of m)
+pub read_found : (m : List ℕ) (h : Heading) → read_answer (Ok h) ≡ reading_of m
+    → (readable m ≡ true) × (h.version.0 ≡ version_of m) × (h.field.0 ≡ message_field m) × (h.revision ≡ revision_of m)
 unfolding reading_of readable revision_of
-read_found m w f v e =
-    let (z, q) = succeeded (read_values (version_of m) (message_field m) (revision_of m)) (read_values w.0 f.0 v) (read_tests m) e in
-    (z, cc, cc, revision-is v _ _ (cc) (cc))
+read_found m h e =
+    let (z, q) = succeeded (read_values (version_of m) (message_field m) (revision_of m)) (read_values h.version.0 h.field.0 h.revision) (read_tests m) e in
+    (z, cc, cc, revision-is h.revision _ _ (cc) (cc))
 
 -- ---- what writing asks for
 

@@ -18,7 +18,9 @@ use Rattle.drafts.specs.Message.{message_field, revision_of, message_text, reada
 use Rattle.drafts.specs.Draft.{slot_size, slot_in, slot_revision, slot_text, slot_formed, rank_of, slot_with, slot_comparison, comparison_of, clashes, draft_by}
 use Rattle.drafts.specs.History.{empty_slot}
 use Rattle.drafts.specs.Working.Steps.{slot_rank}
-use Rattle.drafts.specs.declared.revision.Comparison.{Comparison}
+use Rattle.drafts.specs.declared.revision.Standing.{Standing}
+use Rattle.texts.specs.declared.answers.Refusal.{Refusal}
+use Rattle.std.specs.Prelude.{Result}
 use Rattle.drafts.specs.declared.revision.Revision.{Revision}
 use Rattle.drafts.proofs.Messages.{revision-is, small, readable-means, text-short, party-known, revision-fits}
 use Rattle.drafts.proofs.Slots.{length-slot, slot-revision, slot-formed}
@@ -79,7 +81,7 @@ module _ (a b : List ℕ) (y : readable a ≡ true) (z : readable b ≡ true) wh
   rank-equal = rank_same (revision_of a) (revision_of b) (small _ (party-known a y)) (small _ (party-known b z))
 
 -- what a readable message is tested for last
-abbrev pub clash_test : Comparison → List Test
+abbrev pub clash_test : Result Standing Refusal → List Test
 clash_test st = (clashes st refuses 6) ∷ []
 
 -- only a message of a higher rank changes the draft

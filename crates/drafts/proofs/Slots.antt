@@ -7,15 +7,12 @@ use Prim.Native.Nat.{ℕ, zero, suc, ◌+◌, ◌-◌, ◌*◌, ◌^◌, ◌<◌
 use native.Mathlib.Numerals.{add-one}
 use native.Mathlib.Decide.{dec_lt}
 use native.Mathlib.Omega.{arith}
-use borrow.Author.Tests.{ltb-true, le-leb, eq-eqb, ne_eqb, eqb-true, not-true, not-false}
+use borrow.Author.Tests.{ltb-true, le-leb, eq-eqb, ne_eqb, eqb-true}
 use borrow.Author.Rules.{rules}
-use mir.Syntax.{w8}
-use mir.Val.{Fits}
 use lib.Dec.{eqb, ltb}
 use lib.ListN.{length, get_or, take, drop, replicate, length-append, length-drop, length-replicate}
 use lib.Seq.{get_or-take, get_or-drop, take_all, take-add, take-take, drop_at, drop-drop, drop-append_seam, length-take-le}
 use Rattle.texts.specs.Texts.{between, blank, every, are}
-use Rattle.texts.specs.Numbers.{big}
 use Rattle.texts.specs.Buffers.{put}
 use Rattle.texts.proofs.Big.{big-bytes}
 use Rattle.texts.proofs.Bools.{cases, both, and2, alike}
@@ -27,7 +24,7 @@ use Rattle.sheets.specs.Working.Cells.{cell_at, cells_at}
 use Rattle.drafts.specs.Revision.{known_party, Known}
 use Rattle.drafts.specs.Message.{revision_size}
 use Rattle.drafts.specs.Draft.{cell_place, slot_size, draft_size, slot_in, slot_revision, slot_cell, slot_text, slot_bytes, party_fits, slot_formed, slots_formed, draft_formed}
-use Rattle.drafts.specs.Working.Steps.{unknown_party, misfit, misfit_all}
+use Rattle.drafts.specs.Working.Steps.{head_fits, heads_fit}
 use Rattle.drafts.specs.declared.revision.Revision.{Revision}
 use Rattle.drafts.proofs.Messages.{revision-is, known, known_by, small}
 
@@ -102,45 +99,6 @@ pub formed-other : (d : List ℕ) → (length d ≡ draft_size → ⊥) → fals
 unfolding draft_formed
 formed-other d e = simp (ne_eqb (length d) draft_size e)
 
--- the loop: what does not fit, summed
-pub misfit-none : (d : List ℕ) → 0 ≡ misfit_all d 0
-unfolding misfit_all
-misfit-none d = refl
-
-pub misfit-more : (d s : List ℕ) (n k m : ℕ) → k ≡ misfit_all d n → s ≡ slot_in d n → m ≡ misfit s → k + m ≡ misfit_all d (n + 1)
-unfolding misfit_all
-misfit-more d s n k m e es em = rw (add-one n, e, em, es)
-
--- the ways out of `unknown_party`
-module _ (p : ℕ) (b : Bool) (e : b ≡ known_party p) where
-  pub unknown-not : b ≡ true → 0 ≡ unknown_party p
-  unfolding unknown_party
-  unknown-not t = rw (← e, t)
-
-  pub unknown-is : b ≡ false → 1 ≡ unknown_party p
-  unfolding unknown_party
-  unknown-is f = rw (← e, f)
-
-unknown-most : (p : ℕ) → unknown_party p ≤ 1
-unfolding unknown_party
-unknown-most p = cases (known_party p) (λ t. rw t (omega arith)) (λ f. rw f (omega arith))
-
-party-byte : (s : List ℕ) → ((k : ℕ) → Fits w8 (get_or s k 0)) → (slot_revision s).party.0 < 256
-unfolding slot_revision
-party-byte s h = (h revision_size).fits
-
--- the ways out of `misfit`
-module _ (s : List ℕ) (v : Revision) (ev : v ≡ slot_revision s) where
-  pub misfit-zero : ((k : ℕ) → Fits w8 (get_or s k 0)) → (a n : ℕ) → a ≡ get_or s cell_place 0 → n ≡ big (a ∷ v.party.0 ∷ []) → v.number ≡ 0 → (n ≡ misfit s) × (n ≤ 65535)
-  unfolding misfit
-  misfit-zero h a n ea en z =
-      let p : v.party.0 < 256 = rw ev (party-byte s h) in
-      (rw (← ev, eq-eqb _ _ z, ← ea) en, omega (arith, (h cell_place).fits))
-
-  pub misfit-given : (m : ℕ) → m ≡ unknown_party v.party.0 → (v.number ≡ 0 → ⊥) → (m ≡ misfit s) × (m ≤ 65535)
-  unfolding misfit
-  misfit-given m e z = (rw (← ev, ne_eqb _ _ z) e, omega (arith, unknown-most v.party.0))
-
 pub record Formed (d : List ℕ) : Type 0 where
   pub sized : length d ≡ draft_size
   pub slot : (i : ℕ) → i < slot_count → slot_formed (slot_in d i) ≡ true
@@ -183,21 +141,6 @@ slot-inside : (d : List ℕ) → length d ≡ draft_size → (i : ℕ) → i < s
 unfolding cell_at
 slot-inside d z i h = rw (le-leb (cell_place + i * slot_size + cell_size) (length d) (omega arith), slot-cell-at d z i h)
 
--- a sum is 0 exactly if each of its numbers is
-sum-none : (d : List ℕ) (n : ℕ) → misfit_all d n ≡ 0 → (i : ℕ) → i < n → misfit (slot_in d i) ≡ 0
-unfolding misfit_all
-sum-none d zero e i h = absurd (omega arith)
-sum-none d (suc n) e i h =
-    elim (dec_lt i n) [
-      | yes l ↦ sum-none d n (omega arith) i l
-      | no q ↦ let k : i ≡ n = omega arith in rw k (omega arith)
-    ]
-
-none-sum : (d : List ℕ) (n : ℕ) → ((i : ℕ) → i < n → misfit (slot_in d i) ≡ 0) → misfit_all d n ≡ 0
-unfolding misfit_all
-none-sum d zero f = refl
-none-sum d (suc n) f = rw (none-sum d n (λ i h. f i (omega arith)), f n (omega arith))
-
 -- a text is blank exactly if its length is 0
 short-blank : (c : List ℕ) → 2 ≤ length c → eqb (length (take (1 + get_or c 0 0 - 1) (drop 1 c))) 0 ≡ eqb (get_or c 0 0) 0
 short-blank [] h = absurd (omega arith)
@@ -220,39 +163,56 @@ twice : (b : Bool) → not (not b) ≡ b
 twice true = refl
 twice false = refl
 
-neither : (n p : ℕ) → (eqb p 0 && not (not (eqb n 0))) ≡ eqb (big (n ∷ p ∷ [])) 0
-neither n p =
-    alike (eqb p 0 && not (not (eqb n 0))) (eqb (big (n ∷ p ∷ [])) 0)
-    (λ t. let q = both (eqb p 0) (not (not (eqb n 0))) t in eq-eqb (big (n ∷ p ∷ [])) 0 (omega (arith, eqb-true p 0 q.0, eqb-true n 0 (sym (twice (eqb n 0)) ∙ q.1))))
-    (λ t. let e = eqb-true (big (n ∷ p ∷ [])) 0 t in and2 (eqb p 0) (not (not (eqb n 0))) (eq-eqb p 0 (omega arith)) (twice (eqb n 0) ∙ eq-eqb n 0 (omega arith)))
-
-heads-fit : (z : Bool) (n p : ℕ) → (cond z (eqb p 0) (known_party p) && not (z && not (eqb n 0))) ≡ eqb (cond z (big (n ∷ p ∷ [])) (unknown_party p)) 0
-unfolding unknown_party
-heads-fit true n p = neither n p
+heads-fit : (z : Bool) (n p : ℕ) → (cond z (eqb p 0) (known_party p) && not (z && not (eqb n 0))) ≡ cond z (eqb p 0 && eqb n 0) (known_party p)
+heads-fit true n p = rw (twice (eqb n 0))
 heads-fit false n p = cases (known_party p) (λ t. rw t) (λ f. rw f)
 
-slot_is : (s : List ℕ) → length s ≡ slot_size → slot_formed s ≡ (cell_ok (slot_cell s) && eqb (misfit s) 0)
-unfolding slot_formed misfit
+slot_is : (s : List ℕ) → length s ≡ slot_size → slot_formed s ≡ (cell_ok (slot_cell s) && head_fits s)
+unfolding slot_formed head_fits
 slot_is s l = rw (text-blank s l, heads-fit (eqb (slot_revision s).number 0) (get_or s cell_place 0) (slot_revision s).party.0)
 
+heads-each : (d : List ℕ) (n : ℕ) → heads_fit d n ≡ true → (i : ℕ) → i < n → head_fits (slot_in d i) ≡ true
+unfolding heads_fit
+heads-each d zero e i h = absurd (omega arith)
+heads-each d (suc n) e i h =
+    let p = both (heads_fit d n) (head_fits (slot_in d n)) e in
+    elim (dec_lt i n) [
+      | yes l ↦ heads-each d n p.0 i l
+      | no q ↦ let k : i ≡ n = omega arith in rw k p.1
+    ]
+
+heads-by : (d : List ℕ) (n : ℕ) → ((i : ℕ) → i < n → head_fits (slot_in d i) ≡ true) → heads_fit d n ≡ true
+unfolding heads_fit
+heads-by d zero f = refl
+heads-by d (suc n) f = and2 _ _ (heads-by d n (λ i h. f i (omega arith))) (f n (omega arith))
+
+-- the loop over the slots
+pub heads-none : (d : List ℕ) → true ≡ heads_fit d 0
+unfolding heads_fit
+heads-none d = refl
+
+pub heads-more : (d s : List ℕ) (n : ℕ) (k b : Bool) → k ≡ heads_fit d n → s ≡ slot_in d n → b ≡ head_fits s → (k && b) ≡ heads_fit d (n + 1)
+unfolding heads_fit
+heads-more d s n k b e es eb = rw (add-one n, e, eb, es)
+
 module _ (d : List ℕ) (z : length d ≡ draft_size) (q : Bool) (e : q ≡ cells_at slot_size slot_count d cell_place) where
-  slot_at : (i : ℕ) → i < slot_count → slot_formed (slot_in d i) ≡ (cell_at d (cell_place + i * slot_size) && eqb (misfit (slot_in d i)) 0)
+  slot_at : (i : ℕ) → i < slot_count → slot_formed (slot_in d i) ≡ (cell_at d (cell_place + i * slot_size) && head_fits (slot_in d i))
   slot_at i h = slot_is (slot_in d i) (length-slot-in d z i h) ∙ rw (slot-inside d z i h)
 
-  both-formed : draft_formed d ≡ true → (q ≡ true) × (misfit_all d slot_count ≡ 0)
+  both-formed : draft_formed d ≡ true → (q ≡ true) × ((i : ℕ) → i < slot_count → head_fits (slot_in d i) ≡ true)
   both-formed t =
       let w = formed-means d t in
-      let each : (i : ℕ) → i < slot_count → (cell_at d (cell_place + i * slot_size) ≡ true) × (eqb (misfit (slot_in d i)) 0 ≡ true) = λ i j. both _ _ (sym (slot_at i j) ∙ w.slot i j) in
-      (e ∙ cells-by slot_size d slot_count cell_place (λ i j. (each i j).0), none-sum d slot_count (λ i j. eqb-true _ _ (each i j).1))
+      let each : (i : ℕ) → i < slot_count → (cell_at d (cell_place + i * slot_size) ≡ true) × (head_fits (slot_in d i) ≡ true) = λ i j. both _ _ (sym (slot_at i j) ∙ w.slot i j) in
+      (e ∙ cells-by slot_size d slot_count cell_place (λ i j. (each i j).0), λ i j. (each i j).1)
 
-  pub cells-not : not q ≡ true → false ≡ draft_formed d
-  cells-not f = alike false (draft_formed d) (λ x. absurd (false≢true x)) (λ t. sym (not-true q f) ∙ (both-formed t).0)
+  pub cells-not : q ≡ false → false ≡ draft_formed d
+  cells-not f = alike false (draft_formed d) (λ x. absurd (false≢true x)) (λ t. sym f ∙ (both-formed t).0)
 
-  pub tested : (n k : ℕ) → not q ≡ false → k ≡ misfit_all d n → n ≤ slot_count → slot_count ≤ n → eqb k 0 ≡ draft_formed d
+  pub tested : (n : ℕ) (k : Bool) → q ≡ true → k ≡ heads_fit d n → n ≤ slot_count → slot_count ≤ n → k ≡ draft_formed d
   tested n k t c l h =
-      let all : misfit_all d slot_count ≡ k = let m : n ≡ slot_count = omega arith in rw (← m) (sym c) in
-      alike (eqb k 0) (draft_formed d)
-      (λ u. formed-by d (record { sized = z; slot = λ i j. slot_at i j ∙ and2 _ _ (cells-each slot_size d slot_count cell_place (sym e ∙ not-false q t) i j) (eq-eqb _ _ (sum-none d slot_count (all ∙ eqb-true _ _ u) i j)) }))
-      (λ u. eq-eqb _ _ (sym all ∙ (both-formed u).1))
+      let all : heads_fit d slot_count ≡ k = let m : n ≡ slot_count = omega arith in rw (← m) (sym c) in
+      alike k (draft_formed d)
+      (λ u. formed-by d (record { sized = z; slot = λ i j. slot_at i j ∙ and2 _ _ (cells-each slot_size d slot_count cell_place (sym e ∙ t) i j) (heads-each d slot_count (all ∙ u) i j) }))
+      (λ u. sym all ∙ heads-by d slot_count (both-formed u).1)
 
-pub ruleset forms = (rules, formed-other, cells-not, unknown-not, unknown-is, misfit-none, misfit-more, tested)
+pub ruleset forms = (rules, formed-other, cells-not, heads-none, heads-more, tested)

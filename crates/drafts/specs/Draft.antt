@@ -1,5 +1,5 @@
 -- The draft (document 01, "Draft and sheet"; R-8).
-use Rattle.std.specs.Prelude.{Bool, true, false, cond, not, ◌&&◌, List, [], ◌∷◌, ◌++◌, ℕ, zero, suc, ◌+◌, ◌*◌, eqb, length, get_or, replicate}
+use Rattle.std.specs.Prelude.{Bool, true, false, cond, not, ◌&&◌, List, [], ◌∷◌, ◌++◌, ℕ, zero, suc, ◌+◌, ◌*◌, eqb, length, get_or, replicate, Result, Ok, Err}
 use Rattle.texts.specs.Quoted.{Text, bytes}
 use Rattle.texts.specs.Texts.{between, same, blank}
 use Rattle.texts.specs.Numbers.{big, bytes_of, bytes_at}
@@ -9,14 +9,10 @@ use Rattle.sheets.specs.Sheet.{slot_count, slot_of, cell_size, sheet_size, cell,
 use Rattle.drafts.specs.Revision.{known_party, ◌by◌, rank, comparison}
 use Rattle.drafts.specs.Message.{revision_size, message_field, revision_of, message_text, read_tests}
 use Rattle.drafts.specs.declared.revision.Revision.{Revision}
-use Rattle.drafts.specs.declared.revision.Comparison.{Comparison}
-use Rattle.drafts.specs.declared.revision.Comparison.TheVariants.{Newer, Same, Older, Clash}
-use Rattle.drafts.specs.declared.draft.Begun.{Begun}
-use Rattle.drafts.specs.declared.draft.Begun.TheVariants as begun
-use Rattle.drafts.specs.declared.draft.Posted.{Posted}
-use Rattle.drafts.specs.declared.draft.Posted.TheVariants as posted
-use Rattle.drafts.specs.declared.draft.Copied.{Copied}
-use Rattle.drafts.specs.declared.draft.Copied.TheVariants as copied
+use Rattle.drafts.specs.declared.revision.Standing.{Standing}
+use Rattle.drafts.specs.declared.revision.Standing.TheVariants.{Newer, Same, Older}
+use Rattle.texts.specs.declared.answers.Refusal.{Refusal}
+use Rattle.texts.specs.Refusals.{refusal_number}
 
 -- a slot: "revision (4, big-endian, 0 = never given)", "a party byte after its revision", "text length (1), text padded with zero bytes to
 -- 25": a sheet's cell ends it
@@ -82,36 +78,34 @@ beginning_of d = answer_by (begin_tests d) []
 unfoldable pub begun_from : List ℕ → List ℕ
 begun_from d = buffer_by (begin_tests d) fresh_draft d
 
-abbrev pub begin_answer : Begun → Answer
-begin_answer begun.Made = success []
-begin_answer (begun.Refused n) = refusal n.0 []
+abbrev pub begin_answer : Result Unit Refusal → Answer
+begin_answer (Ok u) = success []
+begin_answer (Err n) = refusal (refusal_number n) []
 
 -- "Posting a message, by its revision against the slot's", and by the party
-unfoldable pub slot_comparison : List ℕ → Revision → Text → Comparison
+unfoldable pub slot_comparison : List ℕ → Revision → Text → Result Standing Refusal
 slot_comparison s v t = comparison v (slot_revision s) (same (slot_text s) t)
 
 -- how a message stands to the slot of its field
-unfoldable pub comparison_of : List ℕ → List ℕ → Comparison
+unfoldable pub comparison_of : List ℕ → List ℕ → Result Standing Refusal
 comparison_of d m = slot_comparison (slot_in d (slot_of (message_field m))) (revision_of m) (message_text m)
 
-abbrev pub clashes : Comparison → Bool
-clashes Newer = false
-clashes Same = false
-clashes Older = false
-clashes Clash = true
+abbrev pub clashes : Result Standing Refusal → Bool
+clashes (Ok st) = false
+clashes (Err n) = true
 
-abbrev pub word : Comparison → Text
-word Newer = bytes "newer"
-word Same = bytes "same"
-word Older = bytes "older"
-word Clash = []
+abbrev pub word : Result Standing Refusal → Text
+word (Ok Newer) = bytes "newer"
+word (Ok Same) = bytes "same"
+word (Ok Older) = bytes "older"
+word (Err n) = []
 
 -- the draft afterwards, by how the message stands to its slot: "the last two change nothing"
-abbrev pub draft_by : Comparison → List ℕ → List ℕ → List ℕ
-draft_by Newer new old = new
-draft_by Same new old = old
-draft_by Older new old = old
-draft_by Clash new old = old
+abbrev pub draft_by : Result Standing Refusal → List ℕ → List ℕ → List ℕ
+draft_by (Ok Newer) new old = new
+draft_by (Ok Same) new old = old
+draft_by (Ok Older) new old = old
+draft_by (Err n) new old = old
 
 unfoldable pub post_tests : List ℕ → List ℕ → List Test
 post_tests d m = (not (draft_formed d) refuses 1) ∷ (read_tests m ++ ((clashes (comparison_of d m) refuses 6) ∷ []))
@@ -126,11 +120,11 @@ stored d m = put d (slot_of (message_field m) * slot_size) (slot_with m)
 unfoldable pub posted_to : List ℕ → List ℕ → List ℕ
 posted_to d m = buffer_by (post_tests d m) (draft_by (comparison_of d m) (stored d m) d) d
 
-abbrev pub post_answer : Posted → Answer
-post_answer posted.Newer = success (bytes "newer")
-post_answer posted.Same = success (bytes "same")
-post_answer posted.Older = success (bytes "older")
-post_answer (posted.Refused n) = refusal n.0 []
+abbrev pub post_answer : Result Standing Refusal → Answer
+post_answer (Ok Newer) = success (bytes "newer")
+post_answer (Ok Same) = success (bytes "same")
+post_answer (Ok Older) = success (bytes "older")
+post_answer (Err n) = refusal (refusal_number n) []
 
 -- "Copying a draft to a sheet drops the revisions; what it gives is the draft's sheet": the first n cells, and all 15
 unfoldable pub cells : List ℕ → ℕ → List ℕ
@@ -150,6 +144,6 @@ copying_of d s = answer_by (copy_tests d s) []
 unfoldable pub copied_to : List ℕ → List ℕ → List ℕ
 copied_to d s = buffer_by (copy_tests d s) (draft_sheet d) s
 
-abbrev pub copy_answer : Copied → Answer
-copy_answer copied.Made = success []
-copy_answer (copied.Refused n) = refusal n.0 []
+abbrev pub copy_answer : Result Unit Refusal → Answer
+copy_answer (Ok u) = success []
+copy_answer (Err n) = refusal (refusal_number n) []

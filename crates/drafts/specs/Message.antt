@@ -1,5 +1,5 @@
 -- Messages (document 01, "Fields and messages", "Writer and program"; R-8).
-use Rattle.std.specs.Prelude.{◌≡◌, Bool, cond, not, ◌&&◌, ◌||◌, ℕ, ◌+◌, ◌-◌, ◌≤◌, eqb, ltb, length, get_or, drop}
+use Rattle.std.specs.Prelude.{◌≡◌, Bool, cond, not, ◌&&◌, ◌||◌, ℕ, ◌+◌, ◌-◌, ◌≤◌, eqb, ltb, length, get_or, drop, Result, Ok, Err}
 use mathlib.Core.List.{List, [], ◌∷◌, ◌++◌, Memᴰ}
 use Rattle.texts.specs.Quoted.{Text}
 use Rattle.texts.specs.Numbers.{big, bytes_of, bytes_at}
@@ -8,10 +8,9 @@ use Rattle.texts.specs.Answers.{Answer, success, refusal, Test, ◌refuses◌, p
 use Rattle.sheets.specs.Sheet.{fields, slot_count, slot_of, text_max}
 use Rattle.drafts.specs.Revision.{adviser, known_party, Known, ◌by◌}
 use Rattle.drafts.specs.declared.revision.Revision.{Revision}
-use Rattle.drafts.specs.declared.message.Reading.{Reading}
-use Rattle.drafts.specs.declared.message.Reading.TheVariants as reading
-use Rattle.drafts.specs.declared.message.Written.{Written}
-use Rattle.drafts.specs.declared.message.Written.TheVariants as written
+use Rattle.drafts.specs.declared.message.Heading.{Heading}
+use Rattle.texts.specs.declared.answers.Refusal.{Refusal}
+use Rattle.texts.specs.Refusals.{refusal_number}
 
 abbrev pub known_version : ℕ → Bool
 known_version w = eqb w 1 || eqb w 2
@@ -126,9 +125,9 @@ read_values w f v = w ∷ v.party.0 ∷ f ∷ v.number ∷ []
 unfoldable pub reading_of : List ℕ → Answer
 reading_of m = answer_by (read_tests m) (read_values (version_of m) (message_field m) (revision_of m))
 
-abbrev pub read_answer : Reading → Answer
-read_answer (reading.Message w f v) = success (read_values w.0 f.0 v)
-read_answer (reading.Refused n) = refusal n.0 []
+abbrev pub read_answer : Result Heading Refusal → Answer
+read_answer (Ok h) = success (read_values h.version.0 h.field.0 h.revision)
+read_answer (Err n) = refusal (refusal_number n) []
 
 -- the bytes before a text of n bytes; L is at most 32, so that its first byte is 0
 unfoldable pub head_bytes : ℕ → ℕ → Revision → ℕ → List ℕ
@@ -168,6 +167,6 @@ writing_of w f v t b = answer_by (write_tests w f v t b) ((length t + head_size 
 unfoldable pub written_of : ℕ → ℕ → Revision → Text → List ℕ → List ℕ
 written_of w f v t b = buffer_by (write_tests w f v t b) (put b 0 (message_of w f v t)) b
 
-abbrev pub write_answer : Written → Answer
-write_answer (written.Bytes n) = success (n ∷ [])
-write_answer (written.Refused n) = refusal n.0 []
+abbrev pub write_answer : Result ℕ Refusal → Answer
+write_answer (Ok n) = success (n ∷ [])
+write_answer (Err n) = refusal (refusal_number n) []

@@ -1,8 +1,10 @@
 -- A revision and the party that gave it, and which of two stands (R-8).
-use Rattle.std.specs.Prelude.{◌≡◌, ◌⊎◌, Bool, cond, ◌||◌, ℕ, ◌+◌, ◌*◌, ◌<◌, eqb, ltb}
+use Rattle.std.specs.Prelude.{◌≡◌, ◌⊎◌, Bool, cond, ◌||◌, ℕ, ◌+◌, ◌*◌, ◌<◌, eqb, ltb, Result, Ok, Err}
 use Rattle.drafts.specs.declared.revision.Revision.{Revision}
-use Rattle.drafts.specs.declared.revision.Comparison.{Comparison}
-use Rattle.drafts.specs.declared.revision.Comparison.TheVariants.{Newer, Same, Older, Clash}
+use Rattle.drafts.specs.declared.revision.Standing.{Standing}
+use Rattle.drafts.specs.declared.revision.Standing.TheVariants.{Newer, Same, Older}
+use Rattle.texts.specs.declared.answers.Refusal.{Refusal}
+use Rattle.texts.specs.declared.answers.Refusal.TheVariants.{Clash}
 
 infix 5 ◌by◌ ◌below◌
 -- "1 client or 2 adviser"
@@ -33,5 +35,5 @@ rank v = v.number * 256 + v.party.0
 
 -- how a message of the revision v stands to a slot of the revision h, by whether their texts are the same: "higher, stored, "newer"; equal
 -- with the same text, "same"; lower, "older""; "Clash 6 needs equal party too"
-abbrev pub comparison : Revision → Revision → Bool → Comparison
-comparison v h alike = cond (ltb (rank h) (rank v)) Newer (cond (ltb (rank v) (rank h)) Older (cond alike Same Clash))
+abbrev pub comparison : Revision → Revision → Bool → Result Standing Refusal
+comparison v h alike = cond (ltb (rank h) (rank v)) (Ok Newer) (cond (ltb (rank v) (rank h)) (Ok Older) (cond alike (Ok Same) (Err Clash)))

@@ -3,17 +3,17 @@ ghost use Rattle.std.specs.Prelude.{◌≡◌, ◌*◌, ◌≤◌, length};
 ghost use Rattle.texts.specs.Working.Writing.{put_at};
 ghost use Rattle.sheets.specs.Sheet.{text_max};
 ghost use Rattle.drafts.specs.Draft.{slot_size, slot_in, slot_revision, slot_cell, slot_text, draft_formed, slot_comparison, slot_bytes};
-ghost use Rattle.drafts.specs.Working.Steps.{length_in, unknown_party, misfit, text_put, sheet_into};
+ghost use Rattle.drafts.specs.Working.Steps.{length_in, head_fits, text_put, sheet_into};
 ghost use Rattle.drafts.specs.Promises.{Freshens, Posts, Copies};
 
-use crate::message::{REVISION_SIZE, Reading, message_text, read};
-use crate::revision::{Comparison, Party, Revision};
+use crate::message::{REVISION_SIZE, message_text, read};
+use crate::revision::{Party, Revision, Standing, revision_number};
 use sheets::sheet::{CELL_SIZE, SHEET_SIZE, SLOT_COUNT, TEXT_MAX, cell_text, cells_ok, slot_of};
 use texts::answers::Refusal;
 use texts::buffers::{clear, put};
 use texts::comparisons::equals;
-use texts::numbers::{bytes_of_4, number_of_2, number_of_4};
-use texts::parts::{at, part, wide};
+use texts::numbers::{bytes_of, number_of};
+use texts::parts::{at, part};
 
 // A slot is a revision, its party and a sheet's cell: where the cell begins, and the text in it.
 const CELL_PLACE: usize = REVISION_SIZE + 1;
@@ -30,40 +30,22 @@ const FIRST_CELL: u8 = CELL_PLACE as u8;
 
 const SLOT_STEP: u8 = SLOT_SIZE as u8;
 
-#[derive(Clone, Copy)]
-pub enum Begun {
-    Made,
-    Refused(Refusal),
-}
-
-#[derive(Clone, Copy)]
-pub enum Posted {
-    Newer,
-    Same,
-    Older,
-    Refused(Refusal),
-}
-
-#[derive(Clone, Copy)]
-pub enum Copied {
-    Made,
-    Refused(Refusal),
-}
-
 // Slot i of a draft.
+#[tactic(auto, unfolding(crate::specs::Draft::slot_in))]
 fn slot_in(draft: &[u8], slot: u8) -> &[u8]
     ensures { result.now ≡ slot_in draft.now slot }
 {
-    let a = wide(slot) * SLOT_SIZE;
+    let a = usize::from(slot) * SLOT_SIZE;
     part(draft, a, a + SLOT_SIZE)
 }
 
 // The revision that a slot holds, and its party.
+#[tactic(auto, unfolding(crate::specs::Draft::slot_revision))]
 fn slot_revision(slot: &[u8]) -> Revision
     ensures { result ≡ slot_revision slot.now }
 {
     Revision {
-        number: number_of_4(at(slot, 0), at(slot, 1), at(slot, 2), at(slot, 3)),
+        number: revision_number(slot),
         party: Party(at(slot, REVISION_SIZE)),
     }
 }
@@ -75,6 +57,7 @@ pub fn revision_in(draft: &[u8], slot: u8) -> Revision
     slot_revision(slot_in(draft, slot))
 }
 
+#[tactic(auto, unfolding(crate::specs::Draft::slot_text))]
 pub fn text_in(draft: &[u8], slot: u8) -> &[u8]
     ensures { result.now ≡ slot_text (slot_in draft.now slot) }
 {
@@ -85,37 +68,31 @@ pub fn text_in(draft: &[u8], slot: u8) -> &[u8]
 pub fn length_in(draft: &[u8], slot: u8) -> u8
     ensures { result ≡ length_in draft.now slot }
 {
-    at(draft, wide(slot) * SLOT_SIZE + CELL_PLACE)
+    at(draft, usize::from(slot) * SLOT_SIZE + CELL_PLACE)
 }
 
 // A slot without its revision, as a sheet has it.
+#[tactic(auto, unfolding(crate::specs::Draft::slot_cell))]
 fn slot_cell(slot: &[u8]) -> &[u8]
     ensures { result.now ≡ slot_cell slot.now }
 {
     part(slot, CELL_PLACE, SLOT_SIZE)
 }
 
-// 1 for a party that is not known.
-fn unknown_party(party: Party) -> usize
-    ensures { result ≡ unknown_party party.0 }
-{
-    if party.known() { 0 } else { 1 }
-}
-
-// What does not fit before a slot's text, as a number: in a slot of revision 0 the length of a text and the party, read as one, in another
-// 1 for an unknown party. Both are made before it is asked which, so that no branch stands for it.
-fn misfit(slot: &[u8]) -> usize
-    ensures { (result ≡ misfit slot.now) × (result ≤ 65535) }
+// What stands before a slot's text fits it: a party "0 exactly if the revision is 0 and otherwise 1 or 2", and no text at revision 0.
+#[tactic(auto, unfolding(crate::specs::Working::Steps::head_fits))]
+fn fits(slot: &[u8]) -> bool
+    ensures { result ≡ head_fits slot.now }
 {
     let revision = slot_revision(slot);
-    let given = number_of_2(at(slot, CELL_PLACE), revision.party.0);
-    let unknown = unknown_party(revision.party);
-    if revision.number == 0 { given } else { unknown }
+    let none = (revision.party.0 == 0) & (at(slot, CELL_PLACE) == 0);
+    let known = revision.party.known();
+    if revision.number == 0 { none } else { known }
 }
 
-// "Malformed: another size, a length above 25, a nonzero pad byte; in a draft also revision 0 with a text", and a party that is not "0 exactly
-// if the revision is 0 and otherwise 1 or 2". What does not fit is summed: a test for each slot is compiled to a branch, and which slots are
-// given is hard to foretell.
+// "Malformed: another size, a length above 25, a nonzero pad byte; in a draft also revision 0 with a text", and a party that does not fit.
+// No slot's answer ends the loop: which slots are given is hard to foretell.
+#[tactic(auto, using(crate::proofs::Slots::forms))]
 pub fn well_formed(draft: &[u8]) -> bool
     ensures { result ≡ draft_formed draft.now }
 {
@@ -125,28 +102,27 @@ pub fn well_formed(draft: &[u8]) -> bool
     if !cells_ok(draft, FIRST_CELL, SLOT_STEP) {
         return false;
     }
-    let mut sum = 0;
-    let mut slot: u8 = 0;
-    while slot < SLOT_COUNT {
-        sum += misfit(slot_in(draft, slot));
-        slot += 1;
+    let mut fit = true;
+    for slot in 0..SLOT_COUNT {
+        fit &= fits(slot_in(draft, slot));
     }
-    sum == 0
+    fit
 }
 
 // "Fresh: all zero".
-pub fn fresh(draft: &mut [u8]) -> Begun
+pub fn fresh(draft: &mut [u8]) -> Result<(), Refusal>
     ensures { Freshens draft.old result draft.new }
 {
     if draft.len() != DRAFT_SIZE {
-        return Begun::Refused(Refusal(1));
+        return Err(Refusal::Malformed);
     }
     clear(draft);
-    Begun::Made
+    Ok(())
 }
 
 // How a message of a revision and a text stands to a slot.
-fn stands(slot: &[u8], revision: Revision, text: &[u8]) -> Comparison
+#[tactic(auto, unfolding(crate::specs::Draft::slot_comparison, crate::specs::Draft::slot_text))]
+fn stands(slot: &[u8], revision: Revision, text: &[u8]) -> Result<Standing, Refusal>
     ensures { result ≡ slot_comparison slot.now revision text.now }
 {
     let same_text = equals(cell_text(slot_cell(slot)), text);
@@ -158,57 +134,47 @@ fn slot_bytes(revision: Revision, text: &[u8]) -> [u8; SLOT_SIZE]
     requires { length text.now ≤ text_max }
     ensures { result ≡ slot_bytes revision text.now }
 {
-    let d = bytes_of_4(revision.number);
-    let head = [d[0], d[1], d[2], d[3], revision.party.0, text.len() as u8];
     let mut slot = [0u8; SLOT_SIZE];
-    put(&mut slot, 0, &head);
+    put(&mut slot, 0, &bytes_of::<4>(u64::from(revision.number)));
+    put(
+        &mut slot,
+        REVISION_SIZE,
+        &[revision.party.0, text.len() as u8],
+    );
     put(&mut slot, TEXT_PLACE, text);
     slot
 }
 
-fn store(draft: &mut [u8], slot: u8, revision: Revision, text: &[u8])
-    requires { length text.now ≤ text_max }
-    ensures { draft.new ≡ put_at draft.old (slot * slot_size) (slot_bytes revision text.now) }
-{
-    let bytes = slot_bytes(revision, text);
-    put(draft, wide(slot) * SLOT_SIZE, &bytes);
-}
-
 // Stores a text in a slot of a draft, with a revision; one that is too long is not stored.
+#[tactic(auto, unfolding(crate::specs::Working::Steps::text_put))]
 pub fn put_text(draft: &mut [u8], slot: u8, revision: Revision, text: &[u8])
     ensures { draft.new ≡ text_put draft.old slot revision text.now }
 {
     if text.len() <= TEXT_MAX {
-        store(draft, slot, revision, text);
+        let bytes = slot_bytes(revision, text);
+        put(draft, usize::from(slot) * SLOT_SIZE, &bytes);
     }
 }
 
 // Posts a message to a draft.
-pub fn post(draft: &mut [u8], message: &[u8]) -> Posted
+pub fn post(draft: &mut [u8], message: &[u8]) -> Result<Standing, Refusal>
     ensures { Posts draft.old message.now result draft.new }
 {
     if !well_formed(draft) {
-        return Posted::Refused(Refusal(1));
+        return Err(Refusal::Malformed);
     }
-    match read(message) {
-        Reading::Refused(refusal) => Posted::Refused(refusal),
-        Reading::Message(_, field, revision) => {
-            let slot = slot_of(field);
-            let text = message_text(message);
-            match stands(slot_in(draft, slot), revision, text) {
-                Comparison::Newer => {
-                    store(draft, slot, revision, text);
-                    Posted::Newer
-                }
-                Comparison::Same => Posted::Same,
-                Comparison::Older => Posted::Older,
-                Comparison::Clash => Posted::Refused(Refusal(6)),
-            }
-        }
+    let heading = read(message)?;
+    let slot = slot_of(heading.field);
+    let text = message_text(message);
+    let standing = stands(slot_in(draft, slot), heading.revision, text)?;
+    if standing == Standing::Newer {
+        put_text(draft, slot, heading.revision, text);
     }
+    Ok(standing)
 }
 
 // Puts a draft's sheet into a buffer. Callers lend an array of their own, which the compiler knows not to overlap the draft.
+#[tactic(auto, using(crate::proofs::DraftPromises::sheets))]
 pub fn put_sheet(draft: &[u8], sheet: &mut [u8])
     ensures { sheet.new ≡ sheet_into draft.now sheet.old }
 {
@@ -218,29 +184,27 @@ pub fn put_sheet(draft: &[u8], sheet: &mut [u8])
     if sheet.len() != SHEET_SIZE {
         return;
     }
-    let mut slot: u8 = 0;
-    while slot < SLOT_COUNT {
+    for slot in 0..SLOT_COUNT {
         put(
             sheet,
-            wide(slot) * CELL_SIZE,
+            usize::from(slot) * CELL_SIZE,
             slot_cell(slot_in(draft, slot)),
         );
-        slot += 1;
     }
 }
 
 // "Copying a draft to a sheet drops the revisions".
-pub fn copy(draft: &[u8], sheet: &mut [u8]) -> Copied
+pub fn copy(draft: &[u8], sheet: &mut [u8]) -> Result<(), Refusal>
     ensures { Copies draft.now sheet.old result sheet.new }
 {
     if !well_formed(draft) {
-        return Copied::Refused(Refusal(1));
+        return Err(Refusal::Malformed);
     }
     if sheet.len() != SHEET_SIZE {
-        return Copied::Refused(Refusal(7));
+        return Err(Refusal::WrongSize);
     }
     let mut cells = [0u8; SHEET_SIZE];
     put_sheet(draft, &mut cells);
-    put(sheet, 0, &cells);
-    Copied::Made
+    sheet.copy_from_slice(&cells);
+    Ok(())
 }

@@ -1,17 +1,16 @@
 // Messages: reading and writing.
 ghost use Rattle.std.specs.Prelude.{◌≡◌, not, ◌+◌, ◌≤◌, length, take, drop};
 ghost use Rattle.texts.specs.Working.Writing.{put_at};
-ghost use Rattle.texts.specs.Numbers.{big, bytes_at};
 ghost use Rattle.sheets.specs.Sheet.{text_max};
 ghost use Rattle.drafts.specs.Message.{known_version, body_place, head_size, revision_place, revision_size, text_place, length_of, misframed, party_of, message_body, message_text, allowed, head_bytes};
 ghost use Rattle.drafts.specs.Working.Steps.{takes};
 ghost use Rattle.drafts.specs.Promises.{Reads, Writes};
 
-use crate::revision::{ADVISER, Party, Revision};
+use crate::revision::{ADVISER, Party, Revision, revision_number};
 use sheets::sheet::{Field, SLOT_COUNT, TEXT_MAX, slot_of};
 use texts::answers::Refusal;
 use texts::buffers::put;
-use texts::numbers::{bytes_of_4, number_of_2, number_of_4};
+use texts::numbers::{bytes_of, number_of};
 use texts::parts::{at, part};
 
 // What both versions have behind the version, and in version 2 the party: the field in one byte, "revision in four bytes", and the text.
@@ -42,7 +41,7 @@ impl Version {
     fn known(self) -> bool
         ensures { result ≡ known_version self.0 }
     {
-        (self.0 == 1) | (self.0 == 2)
+        self.0 == 1 || self.0 == 2
     }
 
     fn body_place(self) -> usize
@@ -52,6 +51,7 @@ impl Version {
     }
 
     // Whether a message of this version may have n bytes, of those that one of either version may have.
+    #[tactic(auto, unfolding(crate::specs::Working::Steps::takes))]
     fn takes(self, n: usize) -> bool
         ensures { result ≡ takes self.0 n }
     {
@@ -66,41 +66,34 @@ impl Version {
     pub fn head_size(self) -> usize
         ensures { result ≡ head_size self.0 }
     {
-        if self.0 == 2 {
-            HEAD_MOST
-        } else {
-            HEAD_MOST - 1
-        }
+        self.body_place() + TEXT_PLACE
     }
 
     // Whether a message of this version may be of a party: "the client when writing version 1" may not.
     fn allows(self, party: Party) -> bool
         ensures { result ≡ allowed self.0 party.0 }
     {
-        party.known() & ((self.0 == 2) | (party.0 == ADVISER))
+        party.known() && (self.0 == 2 || party.0 == ADVISER)
     }
 }
 
+// What a message says beside its text.
 #[derive(Clone, Copy)]
-pub enum Reading {
-    Message(Version, Field, Revision),
-    Refused(Refusal),
-}
-
-#[derive(Clone, Copy)]
-pub enum Written {
-    Bytes(usize),
-    Refused(Refusal),
+pub struct Heading {
+    pub version: Version,
+    pub field: Field,
+    pub revision: Revision,
 }
 
 // L.
 fn length_of(message: &[u8]) -> usize
     ensures { result ≡ length_of message.now }
 {
-    number_of_2(at(message, 0), at(message, 1))
+    number_of([at(message, 0), at(message, 1)]) as usize
 }
 
 // The party of a message: "Version 1 counts as the adviser".
+#[tactic(auto, unfolding(crate::specs::Message::party_of))]
 fn party_of(message: &[u8]) -> Party
     ensures { result.0 ≡ party_of message.now }
 {
@@ -112,35 +105,19 @@ fn party_of(message: &[u8]) -> Party
 }
 
 // The field, the revision and the text of a message, as a part of it.
+#[tactic(auto, using(crate::proofs::MessagePromises::heads))]
 fn message_body(message: &[u8]) -> &[u8]
     ensures { result.now ≡ message_body message.now }
 {
     part(message, Version(at(message, 2)).body_place(), message.len())
 }
 
-// The revision in it.
-fn body_revision(body: &[u8]) -> u32
-    ensures { result ≡ big (bytes_at body.now revision_place revision_size) }
-{
-    number_of_4(
-        at(body, REVISION_PLACE),
-        at(body, REVISION_PLACE + 1),
-        at(body, REVISION_PLACE + 2),
-        at(body, REVISION_PLACE + 3),
-    )
-}
-
 // A message has a size that one of either version may have, and L is the rest.
+#[tactic(auto, using(crate::proofs::MessagePromises::framing))]
 fn framed(message: &[u8]) -> bool
     ensures { result ≡ not (misframed message.now) }
 {
-    if message.len() < LEAST_L + 2 {
-        return false;
-    }
-    if MOST_L + 2 < message.len() {
-        return false;
-    }
-    length_of(message) + 2 == message.len()
+    (LEAST_L + 2..=MOST_L + 2).contains(&message.len()) && length_of(message) + 2 == message.len()
 }
 
 // The field and the revision of a message.
@@ -153,36 +130,42 @@ fn field_and_revision(message: &[u8], version: Version) -> &[u8]
 }
 
 // The version, the field and the revision of a message; `message_text` has its text.
-pub fn read(message: &[u8]) -> Reading
+pub fn read(message: &[u8]) -> Result<Heading, Refusal>
     ensures { Reads message.now result }
 {
     if !framed(message) {
-        return Reading::Refused(Refusal(2));
+        return Err(Refusal::BadLength);
     }
     let version = Version(at(message, 2));
     if !version.known() {
-        return Reading::Refused(Refusal(3));
+        return Err(Refusal::UnknownVersion);
     }
     if !version.takes(message.len()) {
-        return Reading::Refused(Refusal(2));
+        return Err(Refusal::BadLength);
     }
     let body = field_and_revision(message, version);
     let party = party_of(message);
     if !party.known() {
-        return Reading::Refused(Refusal(13));
+        return Err(Refusal::UnknownParty);
     }
     let field = Field(at(body, 0));
     if slot_of(field) == SLOT_COUNT {
-        return Reading::Refused(Refusal(4));
+        return Err(Refusal::UnknownField);
     }
-    let number = body_revision(body);
+    let number = revision_number(part(body, REVISION_PLACE, TEXT_PLACE));
     if number == 0 {
-        return Reading::Refused(Refusal(5));
+        return Err(Refusal::NoRevision);
     }
-    Reading::Message(version, field, Revision { number, party })
+    let revision = Revision { number, party };
+    Ok(Heading {
+        version,
+        field,
+        revision,
+    })
 }
 
 // The text of a message, as a part of it: the bytes behind its head, none where there are none.
+#[tactic(auto, using(crate::proofs::MessagePromises::heads))]
 pub fn message_text(message: &[u8]) -> &[u8]
     ensures { result.now ≡ message_text message.now }
 {
@@ -190,80 +173,71 @@ pub fn message_text(message: &[u8]) -> &[u8]
     part(body, TEXT_PLACE, body.len())
 }
 
-// The bytes before a text of n bytes, at the start of an array that has room for the longest head.
-fn head(version: Version, field: Field, revision: Revision, n: usize) -> [u8; HEAD_MOST]
+// The bytes before a text of n bytes, at the start of an array that has room for the longest head. The field of version 1 stands where the
+// party of version 2 does.
+#[tactic(auto, using(crate::proofs::MessagePromises::heads))]
+fn head(heading: Heading, n: usize) -> [u8; HEAD_MOST]
     requires { n ≤ text_max }
-    ensures { take (head_size version.0) result ≡ head_bytes version.0 field.0 revision n }
+    ensures { take (head_size heading.version.0) result ≡ head_bytes heading.version.0 heading.field.0 heading.revision n }
 {
-    let d = bytes_of_4(revision.number);
-    if version.0 == 2 {
-        [
-            0,
-            (n + LEAST_L + 1) as u8,
-            version.0,
-            revision.party.0,
-            field.0,
-            d[0],
-            d[1],
-            d[2],
-            d[3],
-        ]
-    } else {
-        [
-            0,
-            (n + LEAST_L) as u8,
-            version.0,
-            field.0,
-            d[0],
-            d[1],
-            d[2],
-            d[3],
-            0,
-        ]
-    }
+    let Heading {
+        version,
+        field,
+        revision,
+    } = heading;
+    let l = version.head_size() - 2 + n;
+    let place = version.body_place();
+    let mut head = [0u8; HEAD_MOST];
+    put(&mut head, 0, &[0, l as u8, version.0, revision.party.0]);
+    put(&mut head, place, &[field.0]);
+    put(
+        &mut head,
+        place + REVISION_PLACE,
+        &bytes_of::<4>(u64::from(revision.number)),
+    );
+    head
 }
 
 // Puts a message's head and its text at the buffer's start.
-fn put_message(version: Version, field: Field, revision: Revision, text: &[u8], buffer: &mut [u8])
+fn put_message(heading: Heading, text: &[u8], buffer: &mut [u8])
     requires { length text.now ≤ text_max }
-    ensures { buffer.new ≡ put_at (put_at buffer.old 0 (head_bytes version.0 field.0 revision (length text.now))) (head_size version.0) text.now }
+    ensures { buffer.new ≡ put_at (put_at buffer.old 0 (head_bytes heading.version.0 heading.field.0 heading.revision (length text.now))) (head_size heading.version.0) text.now }
 {
-    let size = version.head_size();
-    let h = head(version, field, revision, text.len());
+    let size = heading.version.head_size();
+    let h = head(heading, text.len());
     put(buffer, 0, part(&h, 0, size));
     put(buffer, size, text);
 }
 
-// Writes a message at the buffer's start, and leaves the rest.
-pub fn write(
-    version: Version,
-    field: Field,
-    revision: Revision,
-    text: &[u8],
-    buffer: &mut [u8],
-) -> Written
-    ensures { Writes version.0 field.0 revision text.now buffer.old result buffer.new }
+// Writes a message at the buffer's start, and leaves the rest. It answers how many bytes the message has.
+pub fn write(heading: Heading, text: &[u8], buffer: &mut [u8]) -> Result<usize, Refusal>
+    ensures { Writes heading text.now buffer.old result buffer.new }
 {
     let n = text.len();
     if TEXT_MAX < n {
-        return Written::Refused(Refusal(2));
+        return Err(Refusal::BadLength);
     }
+    let Heading {
+        version,
+        field,
+        revision,
+    } = heading;
     if !version.known() {
-        return Written::Refused(Refusal(3));
+        return Err(Refusal::UnknownVersion);
     }
     if !version.allows(revision.party) {
-        return Written::Refused(Refusal(13));
+        return Err(Refusal::UnknownParty);
     }
     if slot_of(field) == SLOT_COUNT {
-        return Written::Refused(Refusal(4));
+        return Err(Refusal::UnknownField);
     }
     if revision.number == 0 {
-        return Written::Refused(Refusal(5));
+        return Err(Refusal::NoRevision);
     }
     let size = version.head_size();
     if buffer.len() < n + size {
-        return Written::Refused(Refusal(7));
+        return Err(Refusal::WrongSize);
     }
-    put_message(version, field, revision, text, buffer);
-    Written::Bytes(n + size)
+    put_message(heading, text, buffer);
+    Ok(n + size)
 }

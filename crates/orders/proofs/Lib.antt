@@ -10,6 +10,7 @@ pub mod Whole
 pub mod WholeLaw
 pub mod Taking
 pub mod TakingUp
+pub mod Paying
 pub mod Completing
 pub mod Skipping
 pub mod Caught

@@ -7,12 +7,13 @@ use native.Mathlib.Omega.{arith}
 use borrow.Author.Tests.{leb-true, eq-eqb, ne_eqb, not-true, not-false}
 use lib.Dec.{leb}
 use lib.ListN.{length, get_or}
+use Rattle.texts.specs.Refusals.{refusal_number}
+use Rattle.texts.specs.declared.answers.Refusal.TheVariants.{Undated, UnknownField}
 use Rattle.texts.specs.Quoted.{Text, words}
 use Rattle.texts.specs.Texts.{every, any, same}
 use Rattle.texts.proofs.Bools.{both}
 use Rattle.texts.specs.Answers.{success}
 use Rattle.sheets.specs.Sheet.{slot_count, slot_of, text_max}
-use Rattle.sheets.specs.Lists.{basis_texts, zero_texts}
 use Rattle.sheets.specs.Dates.{dates_fit, texts_in, status_texts, force_of}
 use Rattle.sheets.specs.Working.Entries.{row_of}
 use Rattle.sheets.specs.declared.dates.Dates.{Dates}
@@ -22,8 +23,12 @@ use Rattle.fillings.proofs.EveryFilling.{every-at}
 use Rattle.orders.specs.Fillings.{lists, list_of}
 use Rattle.orders.specs.Entry.{list_for, entry_tests, listing, row_text, text_row, entry_answer, Lists}
 use Rattle.orders.specs.declared.entry.Row.{Row}
-use Rattle.orders.specs.declared.entry.Listed.{Listed}
-use Rattle.orders.specs.declared.entry.Listed.TheVariants.{Entry, Nothing, Refused}
+use Rattle.texts.specs.declared.answers.Refusal.{Refusal}
+use Rattle.std.specs.Prelude.{Option, Some, None, Result, Ok, Err}
+use Rattle.orders.specs.Working.Listing.{texts_by}
+use Rattle.std.proofs.lemmas.List.{get_or_past}
+use Rattle.orders.specs.declared.entry.Entries.{Entries}
+use Rattle.orders.specs.declared.entry.Entries.TheVariants.{Zero, Zeros, Bases, Statuses}
 use Rattle.orders.proofs.Lists.{at_map, proper}
 
 -- ---- only_row, row_in
@@ -37,36 +42,26 @@ unfolding row_of
 only-past zero n = absurd (n refl)
 only-past (suc k) n = refl
 
--- the table LISTS, and the list that each of its numbers stands for
-abbrev numbers : List ℕ
-numbers = 0 ∷ 0 ∷ 0 ∷ 1 ∷ 1 ∷ 0 ∷ 4 ∷ 1 ∷ 0 ∷ 1 ∷ 1 ∷ 3 ∷ 1 ∷ 2 ∷ 2 ∷ []
+-- the table LISTS
+abbrev table : List (Option Entries)
+table =
+    None ∷ None ∷ None ∷ Some Zero ∷ Some Zero ∷ None ∷ Some Statuses ∷ Some Zero ∷ None ∷ Some Zero ∷ Some Zero ∷ Some Bases ∷ Some Zero ∷ Some Zeros
+    ∷ Some Zeros ∷ []
 
-abbrev by_number : List Text → ℕ → List Text
-by_number ts n = get_or ([] ∷ words "0" ∷ zero_texts ∷ basis_texts ∷ ts ∷ []) n []
+pub list-is : (D : Dates) (k : ℕ) → texts_by D (get_or table k None) ≡ list_of D k
+unfolding list_of
+list-is D k = sym (at_map (texts_by D) None table k)
 
-no_number : (ts : List Text) (n : ℕ) → (n ≡ 1 → ⊥) → (n ≡ 2 → ⊥) → (n ≡ 3 → ⊥) → (n ≡ 4 → ⊥) → by_number ts n ≡ []
-no_number ts zero a b c d = refl
-no_number ts (suc zero) a b c d = absurd (a refl)
-no_number ts (suc (suc zero)) a b c d = absurd (b refl)
-no_number ts (suc (suc (suc zero))) a b c d = absurd (c refl)
-no_number ts (suc (suc (suc (suc zero)))) a b c d = absurd (d refl)
-no_number ts (suc (suc (suc (suc (suc n))))) a b c d = refl
+pub list-listed : (D : Dates) (k w : ℕ) → w ≡ k → texts_by D (get_or table w None) ≡ list_of D k
+list-listed D k w e = list-is D w ∙ ap (list_of D) e
 
--- w is the slot s, and n its number in the table
-module _ (D : Dates) (s w n k : ℕ) (a : w ≡ s) (h : n ≡ get_or (0 ∷ 0 ∷ 0 ∷ 1 ∷ 1 ∷ 0 ∷ 4 ∷ 1 ∷ 0 ∷ 1 ∷ 1 ∷ 3 ∷ 1 ∷ 2 ∷ 2 ∷ []) w 0) where
-  list-is : (m : ℕ) → n ≡ m → by_number (status_texts D) m ≡ list_of D s
-  unfolding list_of
-  list-is m e =
-      ap (by_number (status_texts D)) (sym e ∙ h ∙ ap (λ (j : ℕ). get_or numbers j 0) a)
-      ∙ sym (at_map (by_number (status_texts D)) 0 numbers s)
+pub list-past : (D : Dates) (k w : ℕ) → w ≡ k → 15 ≤ w → [] ≡ list_of D k
+unfolding list_of
+list-past D k w e h = sym (get_or_past (lists (status_texts D)) k [] (omega arith))
 
-  pub row-none : (n ≡ 1 → ⊥) → (n ≡ 2 → ⊥) → (n ≡ 3 → ⊥) → (n ≡ 4 → ⊥) → 0 ∷ 0 ∷ 0 ∷ [] ≡ row_of (get_or (list_of D s) k [])
-  unfolding row_of
-  row-none x y z v = ap (λ (l : List Text). row_of (get_or l k [])) (sym (no_number (status_texts D) n x y z v) ∙ list-is n refl)
-
-pub row-of : (m : ℕ) (D : Dates) (s w n k : ℕ) → w ≡ s → n ≡ get_or (0 ∷ 0 ∷ 0 ∷ 1 ∷ 1 ∷ 0 ∷ 4 ∷ 1 ∷ 0 ∷ 1 ∷ 1 ∷ 3 ∷ 1 ∷ 2 ∷ 2 ∷ []) w 0
-    → (r : List ℕ) → n ≡ m → r ≡ row_of (get_or (by_number (status_texts D) m) k []) → r ≡ row_of (get_or (list_of D s) k [])
-row-of m D s w n k a h r e q = q ∙ ap (λ (l : List Text). row_of (get_or l k [])) (list-is D s w n k a h m e)
+pub row-none : (D : Dates) (s k : ℕ) → ((E : Dates) → [] ≡ list_of E s) → 0 ∷ 0 ∷ 0 ∷ [] ≡ row_of (get_or (list_of D s) k [])
+unfolding row_of
+row-none D s k h = ap (λ (ts : List Text). row_of (get_or ts k [])) (h D)
 
 -- ---- an entry has one or two bytes; a place without one is past the end
 
@@ -103,10 +98,10 @@ row-text (a ∷ (b ∷ (c ∷ t))) l = absurd (omega arith)
 
 -- ---- the ways out
 
-kind : Listed → ℕ
-kind (Entry r) = 0
-kind Nothing = 1
-kind (Refused n) = suc (suc n.0)
+kind : Result (Option Row) Refusal → ℕ
+kind (Ok (Some r)) = 0
+kind (Ok None) = 1
+kind (Err n) = suc (suc (refusal_number n))
 
 empty : (t : Text) → length t ≡ 0 → t ≡ []
 empty [] e = refl
@@ -116,11 +111,11 @@ empty (x ∷ t) e = absurd (omega arith)
 abbrev row_in : List ℕ → Row
 row_in r = record { length = get_or r 0 0; first = get_or r 1 0; second = get_or r 2 0 }
 
-entry-same : (r s : Row) → Entry r ≡ Entry s → r ≡ s
+entry-same : (r s : Row) → ◌≡◌ {A = Result (Option Row) Refusal} (Ok (Some r)) (Ok (Some s)) → r ≡ s
 entry-same r s e = cc
 
 module _ (D : Dates) (f k : ℕ) (w : Bool) (h : w ≡ dates_fit D) where
-  pub entry-undated : not w ≡ true → Lists D f k (Refused (record { 0 = 12 }))
+  pub entry-undated : not w ≡ true → Lists D f k (Err Undated)
   unfolding kind listing entry_tests entry_answer
   entry-undated e =
       let n : dates_fit D ≡ false = sym h ∙ not-true w e in
@@ -136,7 +131,7 @@ module _ (D : Dates) (f k : ℕ) (w : Bool) (h : w ≡ dates_fit D) where
     fit : dates_fit D ≡ true
     fit = sym h ∙ not-false w g
 
-    pub entry-unlisted : s ≡ slot_count → Lists D f k (Refused (record { 0 = 4 }))
+    pub entry-unlisted : s ≡ slot_count → Lists D f k (Err UnknownField)
     unfolding kind listing entry_tests entry_answer
     entry-unlisted e =
         record {
@@ -158,7 +153,7 @@ module _ (D : Dates) (f k : ℕ) (w : Bool) (h : w ≡ dates_fit D) where
       unfolding listing entry_tests
       answered = rw (fit, ne_eqb (slot_of f) slot_count (λ e. n (a ∙ e)))
 
-      pub entry-nothing : get_or row 0 0 ≡ 0 → Lists D f k Nothing
+      pub entry-nothing : get_or row 0 0 ≡ 0 → Lists D f k (Ok None)
       unfolding kind entry_answer row_of
       entry-nothing e =
           let l : length text ≡ 0 = sym (ap (λ (r : List ℕ). get_or r 0 0) row_is) ∙ e in
@@ -170,7 +165,7 @@ module _ (D : Dates) (f k : ℕ) (w : Bool) (h : w ≡ dates_fit D) where
             unlisted = (λ p. let z : ◌≡◌ {A = ℕ} 1 6 = ap kind p in absurd (omega arith), λ p. absurd (n (a ∙ p.1)));
           }
 
-      pub entry_found : (get_or row 0 0 ≡ 0 → ⊥) → Lists D f k (Entry (row_in row))
+      pub entry_found : (get_or row 0 0 ≡ 0 → ⊥) → Lists D f k (Ok (Some (row_in row)))
       unfolding kind entry_answer row_of
       entry_found e =
           let l : length text ≡ 0 → ⊥ = λ z. e (ap (λ (r : List ℕ). get_or r 0 0) row_is ∙ z) in

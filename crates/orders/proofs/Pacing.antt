@@ -33,7 +33,7 @@ use Rattle.orders.specs.Working.Search.{passes_at, picks, first_pick, Payment}
 use Rattle.orders.specs.Working.Quick.{with_status, early_rules, skips, rest_picks}
 use Rattle.orders.specs.Working.Found.{found_by, found_of, pace_of}
 use Rattle.orders.specs.declared.search.Pace.{Pace}
-use Rattle.orders.specs.declared.search.Found.TheVariants.{Nothing}
+use Rattle.std.specs.Prelude.{None}
 use Rattle.orders.proofs.Keeping.{picks-fit, filled-alike, status-alike, later_entries}
 use Rattle.orders.proofs.Linking.{length-picks}
 use Rattle.orders.proofs.Passing.{Kept, unkept, broken-fixed, rest}
@@ -151,11 +151,11 @@ module _ {f : Facts} {k : Bool} (h : Kept f k fixed_rules) (e : not k ≡ true) 
       let c : every (keeps D w) early_rules ≡ false = sym (every_append (keeps D w) fixed_rules status_rules) ∙ rw b in
       ap not c
 
-  pub none_passes : (n w each : ℕ) → n ≡ w * each → w ≡ width (blank (text_of s 6)) (status_count D) → each ≡ length (rest_picks s) → Nothing n w ≡ found_of D s
+  pub none_passes : (n w each : ℕ) → n ≡ w * each → w ≡ width (blank (text_of s 6)) (status_count D) → each ≡ length (rest_picks s) → record { pick = None; count = n; skipped = w } ≡ found_of D s
   unfolding found_of first_pick passes_at picks rest_picks every any are among
   none_passes n w each en ew ee =
       let p = broken-fixed D s fixed_rules o.read.size refl refl broken in
       let c : 0 + length (picks D s) ≡ n = (omega arith) ∙ length-picks _ _ _ _ ∙ sym (en ∙ (λ i. ew i * (ee ∙ length_rest _ _ _) i)) in
       let l : first_pick D s ≡ none n = none-look (passes_at D s) (picks D s) 0 (λ q m. p q) ∙ ap none c in
       let t : w ≡ tally (skips D s) (places (width (blank (text_of s 6)) (status_count D)) 0) = ew ∙ sym (tally-all (skips D s) all-skipped (width (blank (text_of s 6)) (status_count D)) 0) in
-      ap (Nothing n) t ∙ sym (ap (found_by (skips D s) (width (blank (text_of s 6)) (status_count D))) l)
+      (λ i. record { pick = None; count = n; skipped = t i }) ∙ sym (ap (found_by (skips D s) (width (blank (text_of s 6)) (status_count D))) l)

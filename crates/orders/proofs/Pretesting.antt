@@ -1,24 +1,27 @@
 -- What `pretest` promises, by its definition, and the ways through it.
 use mathlib.Core.Path.{◌≡◌, refl, sym, ap, ◌∙◌, subst}
 use mathlib.Core.Logic.{◌↔◌}
-use mathlib.Core.Bool.{Bool, true, false, not}
+use mathlib.Core.Bool.{Bool, true, false, not, true≢false}
 use mathlib.Core.List.{List, [], ◌∷◌, ◌++◌, Memᴰ}
 use Prim.Native.Nat.{ℕ}
 use native.Mathlib.Omega.{arith}
 use borrow.Author.Tests.{eqb-true, eq-eqb, ne_eqb, not-false}
 use lib.ListN.{length, get_or}
+use Rattle.texts.specs.Refusals.{refusal_number}
+use Rattle.texts.specs.declared.answers.Refusal.TheVariants.{Malformed, NotBudget}
+use Rattle.texts.specs.declared.answers.Refusal.{Refusal}
 use Rattle.texts.specs.Texts.{every, any, are, among}
 use Rattle.texts.specs.Answers.{success, refusal, number_of, Test, test, ◌refuses◌with◌, answer_by}
 use Rattle.texts.proofs.Bools.{both}
 use Rattle.texts.proofs.Refusals.{no-success, none_of, succeeded, refused, Way, way_out}
-use Rattle.rules.specs.Rules.{budget, rules, test_of, order, basic, ahead, field_of, keeps, first_not, first_broken}
+use Rattle.rules.specs.Rules.{budget, rules, test_of, order, basic, ahead, field_of, keeps, first_not, first_broken, rule_named}
 use Rattle.texts.specs.Quoted.{Text}
 use Rattle.sheets.specs.Sheet.{Sheet, cell, sheet_size}
 use Rattle.sheets.specs.Lists.{basis_texts, zero_texts}
 use Rattle.sheets.specs.Dates.{force_of, dates_fit}
 use Rattle.sheets.proofs.InForce.{first-in}
 use Rattle.sheets.specs.declared.dates.Dates.{Dates}
-use Rattle.rules.proofs.First.{none_kept, kept-none, split}
+use Rattle.rules.proofs.First.{none_kept, kept-none, split, named-some, named-none}
 use Rattle.rules.specs.declared.rules.RuleNumber.{RuleNumber}
 use Rattle.sheets.specs.Working.Facts.{Read}
 use Rattle.sheets.specs.declared.facts.Facts.{Facts}
@@ -31,12 +34,15 @@ use Rattle.orders.specs.Complete.{budget_payment, nothing, counted, sheet_tests,
 use Rattle.orders.specs.Whole.{count_of}
 use Rattle.orders.specs.Pretest.{broken_by_all, named_field, pretest_answer, pretest_tests, pretesting, Names, Pretests}
 use Rattle.orders.specs.Working.Entering.{picked_of}
-use Rattle.orders.specs.declared.pretest.Pretested.{Pretested}
-use Rattle.orders.specs.declared.pretest.Pretested.TheVariants.{Named, Unnamed, Broken, Refused}
+use Rattle.orders.specs.declared.pretest.Named.{Named}
+use Rattle.rules.specs.declared.check.Rejection.{Rejection}
+use Rattle.rules.specs.declared.check.Rejection.TheVariants.{Broken, Refused}
+use Rattle.orders.specs.Working.Paying.{Pays}
+use Rattle.std.specs.Prelude.{Option, Some, None, Result, Ok, Err, IsErrAnd}
 use Rattle.orders.proofs.Ahead.{every-alike, earliest, first-filling, first-budget, like-first, fields-first, first-broken, named-field}
 use Rattle.orders.proofs.Keeping.{picked-length}
 use Rattle.orders.proofs.Passing.{unkept}
-use Rattle.orders.proofs.Completing.{Prepared, class-is, first-at, beside-8, pays-by}
+use Rattle.orders.proofs.Completing.{Prepared, base-sized, class-is, first-at, beside-8, pays-by}
 use Rattle.orders.proofs.Whole.{basic-numbered, length-draftSheet, answer-is, look_answer, refused-by, all-by}
 
 -- a refusal with another number than that of the last test is one of the tests before it
@@ -47,11 +53,10 @@ before-10 us ws n vs o z cs (test true k xs ∷ ts) e = e
 before-10 us ws n vs o z cs (test false k xs ∷ ts) e = before-10 us ws n vs o z cs ts e
 
 -- the rule that is named, and 1 where none is
-abbrev rule_named : Pretested → ℕ
-rule_named (Named f n) = n.0
-rule_named Unnamed = 1
-rule_named (Broken f n) = 1
-rule_named (Refused n) = 1
+abbrev number-in : Result (Option Named) Rejection → ℕ
+number-in (Ok (Some m)) = m.rule.0
+number-in (Ok None) = 1
+number-in (Err e) = 1
 
 pub not_named : ◌≡◌ {A = ℕ} 1 0 → ⊥
 not_named e = omega arith
@@ -142,7 +147,7 @@ module _ (D : Dates) (d : List ℕ) where
       (not-false _ o.0, rw (k, b))
 
   -- the promise, from the equation that the code is proved to meet
-  pub pretests-by : (r : Pretested) → pretest_answer r ≡ pretesting D d → (rule_named r ≡ 0 → ⊥) → Pretests D d r
+  pub pretests-by : (r : Result (Option Named) Rejection) → pretest_answer r ≡ pretesting D d → (number-in r ≡ 0 → ⊥) → Pretests D d r
   unfolding pretest_answer
   pretests-by r e y = record {
     answer = e;
@@ -151,14 +156,14 @@ module _ (D : Dates) (d : List ℕ) where
     paid = λ f p. ap number_of (e ∙ paid-is f p);
     none = λ f p. rw e (says_none f p);
     named = λ g n y h. let w = passed (g ∷ n ∷ []) (sym e ∙ h) in names w.0 w.1 g n y (sym e ∙ h);
-    numbered = λ f n h z. y (ap rule_named h ∙ z);
-    holds = λ f n h.
+    numbered = λ m h z. y (ap number-in h ∙ z);
+    holds = λ m h.
         let a = sym e ∙ ap pretest_answer h in
-        let w = passed (f.0 ∷ n.0 ∷ []) a in
-        names w.0 w.1 f.0 n.0 (λ z. y (ap rule_named h ∙ z)) a;
+        let w = passed (m.field.0 ∷ m.rule.0 ∷ []) a in
+        names w.0 w.1 m.field.0 m.rule.0 (λ z. y (ap number-in h ∙ z)) a;
     unnamed = λ h. let a = sym e ∙ ap pretest_answer h in let w = passed (0 ∷ 0 ∷ []) a in (says_none w.0 w.1).0 a;
     broken = λ f n h b z t. refuses-as b z t 8 (f.0 ∷ n.0 ∷ []) (sym e ∙ ap pretest_answer h);
-    number = λ n h b z t. refuses-as b z t n.0 [] (sym e ∙ ap pretest_answer h);
+    number = λ n h b z t. refuses-as b z t (refusal_number n) [] (sym e ∙ ap pretest_answer h);
   }
 
 -- ---- the ways through `pretest`: it reads the facts at some dates E, and what it says holds at all dates
@@ -178,44 +183,58 @@ zeros-same D E u =
     ap (λ (t : Text). filled_with u ((6, cell t) ∷ (11, cell (get_or basis_texts 0 [])) ∷ (13, cell (get_or zero_texts 0 [])) ∷ (14, cell (get_or zero_texts 0 [])) ∷ []))
     (first-in (force_of D) ∙ sym (first-in (force_of E)))
 
-pub pretest-out : (k : ℕ) (D : Dates) (d : List ℕ) (r : Pretested) → (rule_named r ≡ 0 → ⊥)
+pub pretest-out : (k : ℕ) (D : Dates) (d : List ℕ) (r : Result (Option Named) Rejection) → (number-in r ≡ 0 → ⊥)
     → Way (named_field D (draft_sheet d) ∷ broken_by_all D (draft_sheet d) ∷ []) [] [] (pretest_answer r) [] (Pretests D d r) k (pretest_tests D d)
 unfolding pretesting
 pretest-out k D d r y = way_out _ [] [] _ [] _ k (pretest_tests D d) (λ p q. pretests-by D d r p y)
 
-module _ {E : Dates} {d s u : List ℕ} {x : Facts} {g : RuleNumber} (B : Prepared E d s u x g) where
-  pub ahead-8 : (f : Field) → (g.0 ≡ 0 → ⊥) → f.0 ≡ field_of rules g.0 u → (D : Dates) → Pretests D d (Broken f g)
-  unfolding pretest_answer pretest_tests
-  ahead-8 f y j D = pretest-out 1 D d (Broken f g) not_named (rw B.formed) (rw (first-at B D, ne_eqb g.0 0 y)) (beside-8 B D f j) refl
+pub ahead-1 : (D : Dates) (d : List ℕ) → false ≡ draft_formed d → Pretests D d (Err (Refused Malformed))
+unfolding pretest_answer pretest_tests
+ahead-1 D d f = pretest-out 0 D d (Err (Refused Malformed)) not_named (rw (← f) refl) refl refl
 
-  pub ahead-9 : g.0 ≡ 0 → (r : Bool) → ((D : Dates) (t : List ℕ) → Read D x t → r ≡ budget t) → not r ≡ true → (D : Dates) → Pretests D d (Refused (record { 0 = 9 }))
+module _ (E : Dates) {d u : List ℕ} (B : Prepared d u) where
+  ahead-8 : (f : Field) (g : RuleNumber) → (g.0 ≡ 0 → ⊥) → first_broken E u basic ≡ g.0 → f.0 ≡ field_of rules g.0 u → (D : Dates) → Pretests D d (Err (Broken f g))
   unfolding pretest_answer pretest_tests
-  ahead-9 y r hr t D = pretest-out 2 D d (Refused (record { 0 = 9 })) not_named (rw B.formed) (rw (first-at B D, y)) (rw (← (class-is B r hr)) t) refl refl
+  ahead-8 f g y h j D = pretest-out 1 D d (Err (Broken f g)) not_named (rw B.formed) (rw (first-at E B h D, ne_eqb g.0 0 y)) (beside-8 E B h D f.0 j) refl
 
-module _ {E : Dates} {d s u : List ℕ} {x : Facts} {g : RuleNumber} (B : Prepared E d s u x g) (y : g.0 ≡ 0) (r : Bool) (hr : (D : Dates) (t : List ℕ) → Read D x t → r ≡ budget t) (t : not r ≡ false) (v : List ℕ) (hv : v ≡ picked_of E u (0 ∷ 0 ∷ 0 ∷ 0 ∷ [])) (fx : Facts) (hfx : length v ≡ sheet_size → Read E fx v) (m : RuleNumber) (hm : (D : Dates) (k : List ℕ) → Read D fx k → budget k ≡ true → m.0 ≡ first_broken D k ahead) where
+  ahead-9 : first_broken E u basic ≡ 0 → budget u ≡ false → (D : Dates) → Pretests D d (Err (Refused NotBudget))
+  unfolding pretest_answer pretest_tests
+  ahead-9 h r D = pretest-out 2 D d (Err (Refused NotBudget)) not_named (rw B.formed) (rw (first-at E B h D)) (rw (class-is E B false r)) refl refl
+
+  -- a sheet that is no budget payment
+  unpaid : (r : Rejection) → Pays E u (Err r) → (D : Dates) → Pretests D d (Err r)
+  unpaid (Broken f g) p D = let (y, h, j) = p (base-sized B E) in ahead-8 f g y h j D
+  unpaid (Refused n) p D = let (y, h, j) = p (base-sized B E) in subst (λ (k : Refusal). Pretests D d (Err (Refused k))) (sym y) (ahead-9 h j D)
+
+  pub ahead-unpaid : (r : Rejection) → Pays E u (Err r) → (e : Result (Option Named) Rejection) → IsErrAnd e (λ (x : Rejection). x ≡ r) → (D : Dates) → Pretests D d e
+  ahead-unpaid r p (Ok x) q D = absurd q
+  ahead-unpaid r p (Err e) q D = subst (λ (x : Rejection). Pretests D d (Err x)) (sym q) (unpaid r p D)
+
+module _ (E : Dates) {d u : List ℕ} (B : Prepared d u) (x : Facts) (P : Pays E u (Ok x)) (v : List ℕ) (hv : v ≡ picked_of E u (0 ∷ 0 ∷ 0 ∷ 0 ∷ [])) (fx : Facts) (hfx : length v ≡ sheet_size → Read E fx v) (m : Option RuleNumber) (hm : (D : Dates) (k : List ℕ) → Read D fx k → budget k ≡ true → m ≡ rule_named (first_broken D k ahead)) where
   pays : budget (draft_sheet d) ≡ true
-  pays = sym (class-is B r hr) ∙ not-false r t
+  pays = class-is E B true (P (base-sized B E)).2
 
   paid : (D : Dates) → budget_payment D (draft_sheet d) ≡ true
-  paid D = payment-same D E (draft_sheet d) ∙ pays-by B y pays
+  paid D = let p = P (base-sized B E) in payment-same D E (draft_sheet d) ∙ pays-by E B p.1 p.2
 
   filled : (D : Dates) → v ≡ earliest D (draft_sheet d) B.size
   unfolding earliest
   filled D = hv ∙ zeros-same E D u ∙ ap (λ (k : List ℕ). picked_of D k (0 ∷ 0 ∷ 0 ∷ 0 ∷ [])) B.base
 
-  by_all : (D : Dates) → m.0 ≡ broken_by_all D (draft_sheet d)
+  by_all : (D : Dates) → m ≡ rule_named (broken_by_all D (draft_sheet d))
   unfolding earliest
   by_all D =
       let seen = subst (Read E fx) (filled D) (hfx (ap length (filled D) ∙ picked-length D (draft_sheet d) B.size (0 ∷ 0 ∷ 0 ∷ 0 ∷ []))) in
       hm E (earliest D (draft_sheet d) B.size) seen (first-budget D (draft_sheet d) B.size ∙ pays)
-      ∙ ahead-same E D (earliest D (draft_sheet d) B.size) ∙ sym (first-broken D (draft_sheet d) B.size)
+      ∙ ap rule_named (ahead-same E D (earliest D (draft_sheet d) B.size) ∙ sym (first-broken D (draft_sheet d) B.size))
 
-  pub ahead_none : m.0 ≡ 0 → (D : Dates) → Pretests D d Unnamed
+  pub ahead_none : m ≡ None → (D : Dates) → Pretests D d (Ok None)
   unfolding pretest_answer
-  ahead_none z D = pretests-by D d Unnamed (sym (none-answer D d B.formed (paid D) (sym (by_all D) ∙ z))) not_named
+  ahead_none z D = pretests-by D d (Ok None) (sym (none-answer D d B.formed (paid D) (named-none _ (sym z ∙ by_all D)))) not_named
 
-  pub ahead-named : (f : Field) → (m.0 ≡ 0 → ⊥) → f.0 ≡ field_of rules m.0 v → (D : Dates) → Pretests D d (Named f m)
+  pub ahead-named : (g : RuleNumber) → m ≡ Some g → (f : Field) → f.0 ≡ field_of rules g.0 v → (D : Dates) → Pretests D d (Ok (Some (record { field = f; rule = g })))
   unfolding pretest_answer
-  ahead-named f z j D =
-      let n0 : f.0 ≡ named_field D (draft_sheet d) = j ∙ (λ i. field_of rules (by_all D i) (filled D i)) ∙ sym (named-field D (draft_sheet d) B.size) in
-      pretests-by D d (Named f m) (sym (paid-is D d B.formed (paid D) ∙ (λ i. success (sym n0 i ∷ sym (by_all D) i ∷ [])))) z
+  ahead-named g z f j D =
+      let (n, y) = named-some (broken_by_all D (draft_sheet d)) g (sym z ∙ by_all D) in
+      let n0 : f.0 ≡ named_field D (draft_sheet d) = j ∙ (λ i. field_of rules (sym n i) (filled D i)) ∙ sym (named-field D (draft_sheet d) B.size) in
+      pretests-by D d (Ok (Some (record { field = f; rule = g }))) (sym (paid-is D d B.formed (paid D) ∙ (λ i. success (sym n0 i ∷ n i ∷ [])))) (λ q. true≢false (sym y ∙ ap not (eq-eqb _ 0 (n ∙ q))))

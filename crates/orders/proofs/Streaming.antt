@@ -10,25 +10,26 @@ use borrow.Author.Rules.{rules}
 use borrow.Author.Tests.{eq-eqb, ne_eqb, eqb-true}
 use lib.Dec.{eqb}
 use lib.ListN.{length, get_or, take, drop, length-take, length-drop}
-use lib.Seq.{take_all, drop-drop}
+use lib.Seq.{take_all}
 use Rattle.texts.specs.Numbers.{big}
 use Rattle.texts.specs.Texts.{between}
-use Rattle.sheets.specs.declared.sheet.Field.{Field}
 use Rattle.texts.specs.Answers.{refusal, number_of, Test, test, answer_by}
 use Rattle.texts.proofs.Bools.{cases}
 use Rattle.drafts.specs.Message.{length_of, read_tests, reading_of}
-use Rattle.drafts.specs.Promises.{Reads, Postings, Posts}
-use Rattle.drafts.specs.declared.revision.Revision.{Revision}
-use Rattle.drafts.specs.declared.message.Version.{Version}
+use denote.Enum.Bare.{sameb}
+use Rattle.texts.specs.contracts.answers.Refusal.{the_type}
+use Rattle.texts.specs.Refusals.{refusal_number}
+use Rattle.texts.specs.declared.answers.Refusal.TheVariants.{Malformed, BadLength, UnknownVersion, UnknownField, NoRevision, Clash, WrongSize, BrokenRule, NotBudget, Impossible, NotLines, Undated, UnknownParty, BadCharge, BadPart, BadRegister, Differs, BadPayments, SameArrivals, Unfit}
+use Rattle.drafts.specs.declared.message.Heading.{Heading}
+use Rattle.drafts.specs.Promises.{Reads, Postings}
 use Rattle.texts.specs.declared.answers.Refusal.{Refusal}
-use Rattle.drafts.specs.declared.message.Reading.{Reading}
-use Rattle.drafts.specs.declared.message.Reading.TheVariants.{Message, Refused}
-use Rattle.drafts.specs.declared.draft.Posted.{Posted}
 use Rattle.sheets.specs.declared.dates.Dates.{Dates}
 use Rattle.orders.specs.Complete.{completing, completed, complete_answer}
 use Rattle.orders.specs.Whole.{Whole, Completes}
 use Rattle.orders.specs.Stream.{piece_of, ends_stream, pieces, messages_of, Parted, finished, stops, goes_on, Streams}
-use Rattle.orders.specs.declared.complete.Completed.{Completed}
+use Rattle.orders.specs.declared.complete.Filled.{Filled}
+use Rattle.orders.specs.declared.complete.Incomplete.{Incomplete}
+use Rattle.std.specs.Prelude.{Result, Ok, Err}
 use Rattle.orders.proofs.Whole.{left-formed}
 
 -- ---- a piece
@@ -46,14 +47,36 @@ piece-length s n = simp length-take (omega arith, omega arith)
 
 -- ---- the end of a stream
 
-module _ (m : List ℕ) (rd : Reading) (R : Reads m rd) where
-  pub ends-not : (w : Version) (f : Field) (v : Revision) → rd ≡ Message w f v → false ≡ ends_stream m
-  unfolding ends_stream
-  ends-not w f v e = rw (← R.answer, e)
+is-short : (n : Refusal) → sameb the_type n BadLength ≡ eqb (refusal_number n) 2
+is-short Malformed = refl
+is-short BadLength = refl
+is-short UnknownVersion = refl
+is-short UnknownField = refl
+is-short NoRevision = refl
+is-short Clash = refl
+is-short WrongSize = refl
+is-short BrokenRule = refl
+is-short NotBudget = refl
+is-short Impossible = refl
+is-short NotLines = refl
+is-short Undated = refl
+is-short UnknownParty = refl
+is-short BadCharge = refl
+is-short BadPart = refl
+is-short BadRegister = refl
+is-short Differs = refl
+is-short BadPayments = refl
+is-short SameArrivals = refl
+is-short Unfit = refl
 
-  pub ends_by : (n : Refusal) → rd ≡ Refused n → eqb n.0 2 ≡ ends_stream m
+module _ (m : List ℕ) (rd : Result Heading Refusal) (R : Reads m rd) where
+  pub ends-not : (g : Heading) → rd ≡ Ok g → false ≡ ends_stream m
   unfolding ends_stream
-  ends_by n e = rw (← R.answer, e)
+  ends-not g e = rw (← R.answer, e)
+
+  pub ends_by : (n : Refusal) → rd ≡ Err n → sameb the_type n BadLength ≡ ends_stream m
+  unfolding ends_stream
+  ends_by n e = is-short n ∙ (rw (← R.answer, e))
 
 -- a refusal of tests that return nothing beside their numbers
 abbrev Bare : List Test → Type 0
@@ -138,31 +161,71 @@ parted-in (suc n) i h =
           parted-next i o (parted-in n (drop (length (piece_of i)) i) (omega (arith, p.0, l)))
     ]
 
--- ---- the loop
+-- ---- the iterator
 
--- P holds of the messages before place k, those from there on are left
-pub record Gone (i : List ℕ) (k : ℕ) (P : List (List ℕ) → Type 0) : Type 0 where
+-- what is left behind the first message m of s: nothing after one that ends the stream
+module _ (s m r : List ℕ) (h : 0 < length s) (em : m ≡ piece_of s) (b : Bool) (eb : b ≡ ends_stream m) where
+  ends : ends_stream (piece_of s) ≡ b
+  ends = sym (eb ∙ ap ends_stream em)
+
+  given-last : b ≡ true → r ≡ between s (length s) (length s) → messages_of s ≡ m ∷ messages_of r
+  unfolding between
+  given-last t q =
+      let z : length r ≡ 0 = omega (arith, ap length q, length-take (length s - length s) (drop (length s) s)) in
+      messages-next s h
+      ∙ (λ i. piece_of s ∷ cond ((ends ∙ t) i) [] (messages_of (drop (length (piece_of s)) s)))
+      ∙ (λ i. sym em i ∷ sym (messages-none r z) i)
+
+  given-next : b ≡ false → r ≡ between s (length m) (length s) → messages_of s ≡ m ∷ messages_of r
+  unfolding between
+  given-next t q =
+      let d : drop (length (piece_of s)) s ≡ r = ap (λ (l : List ℕ). drop (length l) s) (sym em) ∙ sym (q ∙ take_all (length s - length m) (drop (length m) s) (omega (arith, length-drop (length m) s))) in
+      messages-next s h
+      ∙ (λ i. piece_of s ∷ cond ((ends ∙ t) i) [] (messages_of (drop (length (piece_of s)) s)))
+      ∙ (λ i. sym em i ∷ messages_of (d i))
+
+  pub given : (e : ℕ) → r ≡ between s e (length s) → (b ≡ true → e ≡ length s) → (b ≡ false → e ≡ length m) → messages_of s ≡ m ∷ messages_of r
+  given e q u v = cases b (λ t. given-last t (q ∙ ap (λ (k : ℕ). between s k (length s)) (u t))) (λ f. given-next f (q ∙ ap (λ (k : ℕ). between s k (length s)) (v f)))
+
+-- a message has a byte at least, so that there are no more of them than bytes
+pieces-room : (n : ℕ) (s : List ℕ) → length (pieces n s) ≤ n
+unfolding pieces
+pieces-room zero s = omega arith
+pieces-room (suc n) s =
+    elim (ℕ_discrete (length s) 0) [
+      | yes e ↦ rw (eq-eqb _ _ e) (omega arith)
+      | no q ↦
+          rw (ne_eqb _ _ q)
+          (cases (ends_stream (piece_of s)) (λ t. rw t (omega arith)) (λ f. rw f (omega (arith, pieces-room n (drop (length (piece_of s)) s)))))
+    ]
+
+pub messages-room : (i : List ℕ) → length (messages_of i) ≤ length i
+unfolding messages_of
+messages-room i = pieces-room (length i) i
+
+-- ---- a loop over messages
+
+-- P holds of those that were given, and the others are left
+pub record Gone (all left : List (List ℕ)) (P : List (List ℕ) → Type 0) : Type 0 where
   pub seen : List (List ℕ)
   pub holds : P seen
-  pub rest : seen ++ messages_of (drop k i) ≡ messages_of i
+  pub rest : seen ++ left ≡ all
 
-pub gone-done : (i : List ℕ) (k : ℕ) (P : List (List ℕ) → Type 0) → Gone i k P → length i ≤ k → P (messages_of i)
-gone-done i k P S h =
-    let z : length (drop k i) ≡ 0 = omega (arith, length-drop k i) in
-    let e : S.seen ≡ messages_of i = sym (append-nil S.seen) ∙ ap (λ (l : List (List ℕ)). S.seen ++ l) (sym (messages-none (drop k i) z)) ∙ S.rest in
-    subst P e S.holds
+module _ {all left : List (List ℕ)} {P : List (List ℕ) → Type 0} where
+  pub gone-none : P [] → left ≡ all → Gone all left P
+  gone-none h e = record { seen = []; holds = h; rest = e }
 
--- they are posted
-abbrev pub Streamed : List ℕ → ℕ → List ℕ → Type 0
-Streamed i k d = Gone i k (λ (ms : List (List ℕ)). Postings ms d)
+  pub gone-done : Gone all left P → left ≡ [] → P all
+  gone-done S e = subst P (sym (append-nil S.seen) ∙ ap (λ (l : List (List ℕ)). S.seen ++ l) (sym e) ∙ S.rest) S.holds
 
-pub stream-none : (i d : List ℕ) → Postings [] d → Streamed i 0 d
-stream-none i d L = record { seen = []; holds = L; rest = refl }
+  pub gone-next : (Q : List (List ℕ) → Type 0) (m : List ℕ) (after : List (List ℕ)) → left ≡ m ∷ after → (S : Gone all left P) → Q (S.seen ++ m ∷ []) → Gone all after Q
+  gone-next Q m after e S h = record {
+    seen = S.seen ++ m ∷ [];
+    holds = h;
+    rest = append_assoc S.seen (m ∷ []) after ∙ ap (λ (l : List (List ℕ)). S.seen ++ l) (sym e) ∙ S.rest;
+  }
 
-pub stream-done : (i : List ℕ) (k : ℕ) (d : List ℕ) → Streamed i k d → length i ≤ k → Postings (messages_of i) d
-stream-done i k d S h = gone-done i k (λ (ms : List (List ℕ)). Postings ms d) S h
-
--- one message m, from place k on
+-- one message m of an input i, from place k on
 module _ (i : List ℕ) (k : ℕ) (h : k < length i) (s m : List ℕ) (es : s ≡ between i k (length i)) (em : m ≡ piece_of s) where
   pub rest-is : s ≡ drop k i
   unfolding between
@@ -180,34 +243,9 @@ module _ (i : List ℕ) (k : ℕ) (h : k < length i) (s m : List ℕ) (es : s �
   pub stream-less : length i - (k + length m) < length i - k
   stream-less = omega (arith, (piece-length (drop k i) some).0, ap length first-is)
 
-  module _ (P Q : List (List ℕ) → Type 0) (S : Gone i k P) (more : Q (S.seen ++ (m ∷ []))) (b : Bool) (eb : b ≡ ends_stream m) where
-    next : messages_of (drop k i) ≡ m ∷ cond b [] (messages_of (drop (length m) (drop k i)))
-    next = rw (eb, first-is) (messages-next (drop k i) some)
-
-    pub gone-last : b ≡ true → Q (messages_of i)
-    gone-last t = subst Q (ap (λ (l : List (List ℕ)). S.seen ++ l) (sym (next ∙ rw t)) ∙ S.rest) more
-
-    pub gone-next : b ≡ false → Gone i (k + length m) Q
-    gone-next t = record {
-      seen = S.seen ++ (m ∷ []);
-      holds = more;
-      rest =
-          append_assoc S.seen (m ∷ []) (messages_of (drop (k + length m) i))
-          ∙ ap (λ (l : List ℕ). S.seen ++ (m ∷ messages_of l)) (sym (drop-drop (length m) k i))
-          ∙ ap (λ (l : List (List ℕ)). S.seen ++ l) (sym (next ∙ rw t))
-          ∙ S.rest;
-    }
-
-  module _ (d e : List ℕ) (r : Posted) (S : Streamed i k d) (P : Posts d m r e) (b : Bool) (eb : b ≡ ends_stream m) where
-    pub stream-last : b ≡ true → Postings (messages_of i) e
-    stream-last t = gone-last (λ (ms : List (List ℕ)). Postings ms d) (λ (ms : List (List ℕ)). Postings ms e) S (P.after S.seen S.holds) b eb t
-
-    pub stream-next : b ≡ false → Streamed i (k + length m) e
-    stream-next t = gone-next (λ (ms : List (List ℕ)). Postings ms d) (λ (ms : List (List ℕ)). Postings ms e) S (P.after S.seen S.holds) b eb t
-
 -- ---- the whole
 
-pub streamed : (D : Dates) (i b d : List ℕ) (r : Completed) (t : List ℕ) → Postings (messages_of i) d → Completes D d b r t → Streams D i b r t
+pub streamed : (D : Dates) (i b d : List ℕ) (r : Result Filled Incomplete) (t : List ℕ) → Postings (messages_of i) d → Completes D d b r t → Streams D i b r t
 streamed D i b d r t L C = record {
   answer = C.answer ∙ ap (λ (x : List ℕ). completing D x b) L.draft;
   sheet = C.sheet ∙ ap (λ (x : List ℕ). completed D x b) L.draft;
@@ -219,4 +257,4 @@ streamed D i b d r t L C = record {
   whole = subst (λ (x : List ℕ). Whole D (messages_of i) x b (complete_answer r) t) L.draft (C.whole (messages_of i) L);
 }
 
-pub ruleset streams = (rules, piece_is, ends-not, ends_by, stream-none, stream-within, stream-less, stream-last, stream-next, stream-done)
+pub ruleset streams = (rules, piece_is)

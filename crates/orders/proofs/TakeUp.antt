@@ -9,12 +9,12 @@ use native.Mathlib.Decide.{dec_lt, ℕ_discrete}
 use native.Mathlib.Nat.{div-eq_of_lt}
 use native.Mathlib.Numerals.{add-one}
 use native.Mathlib.Omega.{arith}
-use borrow.Author.Tests.{leb-true, le-leb, lt-ltb, le-ltb, ltb-true, eq-eqb, ne_eqb, not-true, not-false}
+use borrow.Author.Tests.{leb-true, le-leb, lt-ltb, le-ltb, ltb-true, eq-eqb, ne_eqb, not-true}
 use mir.Syntax.{w32}
 use mir.Val.{Fits}
 use lib.Dec.{eqb, ltb, leb}
 use lib.ListN.{length, get_or, drop, replicate, length-replicate, length-take}
-use Rattle.texts.specs.Quoted.{Text}
+use Rattle.texts.specs.declared.answers.Refusal.TheVariants.{Malformed, WrongSize}
 use Rattle.texts.specs.Texts.{every, between, blank}
 use Rattle.texts.specs.Answers.{success, refusal, passes}
 use Rattle.texts.proofs.Bools.{both, and2}
@@ -23,7 +23,6 @@ use Rattle.texts.specs.Working.Writing.{put_at}
 use Rattle.texts.proofs.Puts.{put-fits}
 use Rattle.texts.proofs.Refusals.{no-success, succeeds, unchanged}
 use Rattle.sheets.specs.Sheet.{slots, slot_count, sheet_size, text_max, slot_of, field_in, cell, cell_of, cell_text, cell_ok, slot_ok, text_of, given, well_formed}
-use Rattle.sheets.specs.Dates.{status_texts}
 use Rattle.sheets.specs.declared.dates.Dates.{Dates}
 use Rattle.sheets.specs.declared.sheet.Field.{Field}
 use Rattle.rules.specs.Rules.{keeps_all}
@@ -42,36 +41,23 @@ use Rattle.fillings.specs.Working.Places as at
 use Rattle.fillings.proofs.EveryFilling.{every-mem, entry-sized, choice-given}
 use Rattle.fillings.proofs.First.{found_first}
 use Rattle.fillings.specs.Fillings as of
-use Rattle.orders.specs.Fillings.{lists, list_of, to_fill, Filling}
+use Rattle.orders.specs.Fillings.{list_of, to_fill, Filling}
 use Rattle.orders.specs.Complete.{completing, completed}
 use Rattle.orders.specs.Again.{CompletesAgain}
 use Rattle.orders.specs.TakeUp.{in_set, greatest, fit, spared, first_unfit, take_tests, next, proposal, proposals, taking, taken_into, take_answer, TakesUp}
-use Rattle.orders.specs.declared.take_up.TakenUp.{TakenUp}
-use Rattle.orders.specs.declared.take_up.TakenUp.TheVariants.{Made, Unfit, Refused}
+use Rattle.orders.specs.declared.take_up.Untaken.{Untaken}
+use Rattle.orders.specs.declared.take_up.Untaken.TheVariants.{Unfit, Refused}
+use Rattle.std.specs.Prelude.{Option, Some, None, Result, Ok, Err}
 use Rattle.orders.specs.Working.Upto.{FirstUnfit, Postable}
-use Rattle.orders.proofs.Lists.{at_map, proper, some-status}
+use Rattle.orders.proofs.Lists.{proper}
 use Rattle.orders.proofs.Whole.{length-draftSheet}
 use Rattle.orders.proofs.Skipping.{at_place}
 use Rattle.orders.proofs.Taking.{was-formed, was-found, was-set, taken-completes}
 use Rattle.orders.proofs.TakingUp.{proposed-cell}
 
--- ---- has_list
-
-abbrev some : List Text → ℕ
-some ts = cond (ltb 0 (length ts)) 1 0
-
 some_one : (b : Bool) → eqb (cond {A = ℕ} b 1 0) 1 ≡ b
 some_one true = refl
 some_one false = refl
-
-pub list-is : (D : Dates) (k n m : ℕ) → n ≡ k → m ≡ get_or (0 ∷ 0 ∷ 0 ∷ 1 ∷ 1 ∷ 0 ∷ 1 ∷ 1 ∷ 0 ∷ 1 ∷ 1 ∷ 1 ∷ 1 ∷ 1 ∷ 1 ∷ []) n 0 → eqb m 1 ≡ ltb 0 (length (list_of D k))
-unfolding list_of
-list-is D k n m e h =
-    ap (λ (x : ℕ). eqb x 1) (h ∙ ap (λ (j : ℕ). get_or (0 ∷ 0 ∷ 0 ∷ 1 ∷ 1 ∷ 0 ∷ 1 ∷ 1 ∷ 0 ∷ 1 ∷ 1 ∷ 1 ∷ 1 ∷ 1 ∷ 1 ∷ []) j 0) e ∙ table)
-    ∙ some_one (ltb 0 (length (get_or (lists (status_texts D)) k [])))
-  where
-    table : get_or (0 ∷ 0 ∷ 0 ∷ 1 ∷ 1 ∷ 0 ∷ 1 ∷ 1 ∷ 0 ∷ 1 ∷ 1 ∷ 1 ∷ 1 ∷ 1 ∷ 1 ∷ []) k 0 ≡ some (get_or (lists (status_texts D)) k [])
-    table = sym (ap (λ (b : Bool). get_or (0 ∷ 0 ∷ 0 ∷ 1 ∷ 1 ∷ 0 ∷ cond b 1 0 ∷ 1 ∷ 0 ∷ 1 ∷ 1 ∷ 1 ∷ 1 ∷ 1 ∷ 1 ∷ []) k 0) (some-status D)) ∙ at_map some [] (lists (status_texts D)) k
 
 -- ---- first_unfit
 
@@ -88,6 +74,19 @@ module _ (D : Dates) (d t : List ℕ) (set i : ℕ) (a b : Bool) (ha : a ≡ in_
       go true true h = refl
       go true false h = absurd (true≢false h)
       go false y h = refl
+
+module _ (D : Dates) (d t : List ℕ) (set : ℕ) where
+  pub first-some : (u : ℕ) → u < slot_count + 1 → ((i : ℕ) → i < u → spared D d t set i ≡ true) → spared D d t set u ≡ false → FirstUnfit D d t set (Some u)
+  first-some u l b a = record {
+    none = λ e. let z : ◌≡◌ {A = ℕ} 0 1 = cc in absurd (omega arith);
+    some = λ v e. let q : u ≡ v = cc in subst (λ (k : ℕ). (k < slot_count + 1) × ((i : ℕ) → i < k → spared D d t set i ≡ true) × (spared D d t set k ≡ false)) q (l, b, a);
+  }
+
+  pub first-none : ((i : ℕ) → i < slot_count + 1 → spared D d t set i ≡ true) → FirstUnfit D d t set None
+  first-none h = record {
+    none = λ e. h;
+    some = λ v e. let z : ◌≡◌ {A = ℕ} 0 1 = cc in absurd (omega arith);
+  }
 
 -- ---- take
 
@@ -268,10 +267,10 @@ module _ (D : Dates) (d t : List ℕ) (set : ℕ) (b : List ℕ) (n all k : ℕ)
 
 -- what is refused changes nothing
 module _ {D : Dates} {d t : List ℕ} {set : ℕ} where
-  pub take-refuses : (r : TakenUp) (n : ℕ) (vs : List ℕ) → take_answer r ≡ refusal n vs → refusal n vs ≡ taking D d t set → TakesUp D d t set r d
+  pub take-refuses : (r : Result Unit Untaken) (n : ℕ) (vs : List ℕ) → take_answer r ≡ refusal n vs → refusal n vs ≡ taking D d t set → TakesUp D d t set r d
   unfolding take_answer taking taken_into
   take-refuses r n vs a p =
-      let no : r ≡ Made → ⊥ = λ e. no-success n vs [] (sym a ∙ ap take_answer e) in
+      let no : r ≡ Ok tt → ⊥ = λ e. no-success n vs [] (sym a ∙ ap take_answer e) in
       record {
         answer = a ∙ p;
         draft = sym (unchanged [] _ d (take_tests D d t set) (λ e. no-success n vs [] (p ∙ e)));
@@ -281,35 +280,36 @@ module _ {D : Dates} {d t : List ℕ} {set : ℕ} where
         again = λ e. absurd (no e);
       }
 
-  module _ (w : Bool) (hw : w ≡ draft_formed d) where
-    pub take-malformed : not w ≡ true → TakesUp D d t set (Refused (record { 0 = 1 })) d
+  module _ where
+    pub take-malformed : false ≡ draft_formed d → TakesUp D d t set (Err (Refused Malformed)) d
     unfolding take_answer taking take_tests
-    take-malformed e = take-refuses (Refused (record { 0 = 1 })) 1 [] refl (rw (← hw, not-true w e))
+    take-malformed e = take-refuses (Err (Refused Malformed)) 1 [] refl (rw (← e))
 
-    module _ (f : not w ≡ false) where
-      pub take-sized : (length t ≡ sheet_size → ⊥) → TakesUp D d t set (Refused (record { 0 = 7 })) d
+    module _ (f : true ≡ draft_formed d) where
+      pub take-sized : (length t ≡ sheet_size → ⊥) → TakesUp D d t set (Err (Refused WrongSize)) d
       unfolding take_answer taking take_tests
-      take-sized z = take-refuses (Refused (record { 0 = 7 })) 7 [] refl (rw (← hw, not-false w f, ne_eqb (length t) sheet_size z))
+      take-sized z = take-refuses (Err (Refused WrongSize)) 7 [] refl (rw (← f, ne_eqb (length t) sheet_size z))
 
-      module _ (z : length t ≡ sheet_size) (v : Bool) (hv : v ≡ well_formed t) where
-        pub take-sheet : not v ≡ true → TakesUp D d t set (Refused (record { 0 = 1 })) d
+      module _ (z : length t ≡ sheet_size) where
+        pub take-sheet : false ≡ well_formed t → TakesUp D d t set (Err (Refused Malformed)) d
         unfolding take_answer taking take_tests
-        take-sheet e = take-refuses (Refused (record { 0 = 1 })) 1 [] refl (rw (← hw, not-false w f, ← hv, not-true v e, eq-eqb (length t) sheet_size z))
+        take-sheet e = take-refuses (Err (Refused Malformed)) 1 [] refl (rw (← f, ← e, eq-eqb (length t) sheet_size z))
 
-        module _ (g : not v ≡ false) (u : ℕ) (U : FirstUnfit D d t set u) where
-          pub take-unfit : u < slot_count + 1 → (f : Field) → f.0 ≡ field_in u → TakesUp D d t set (Unfit f) d
+        module _ (g : true ≡ well_formed t) (r : Option ℕ) (U : FirstUnfit D d t set r) where
+          pub take-unfit : (u : ℕ) → r ≡ Some u → (f : Field) → f.0 ≡ field_in u → TakesUp D d t set (Err (Unfit f)) d
           unfolding take_answer taking take_tests at.places
-          take-unfit l x e =
-              let (a, b) = one-unfit (spared D d t set) (slot_count + 1) 0 u (omega arith) (omega arith) (λ k i j. U.before k j) (U.at l) in
-              take-refuses (Unfit x) 20 (x.0 ∷ []) refl (rw (← hw, not-false w f, ← hv, not-false v g, eq-eqb (length t) sheet_size z, a, b, e))
+          take-unfit u q x e =
+              let (l, before, at) = U.some u q in
+              let (a, b) = one-unfit (spared D d t set) (slot_count + 1) 0 u (omega arith) (omega arith) (λ k i j. before k j) at in
+              take-refuses (Err (Unfit x)) 20 (x.0 ∷ []) refl (rw (← f, ← g, eq-eqb (length t) sheet_size z, a, b, e))
 
-          module _ (l : slot_count + 1 ≤ u) where
+          module _ (o : r ≡ None) where
             formed : draft_formed d ≡ true
-            formed = sym hw ∙ not-false w f
+            formed = sym f
 
             each : (i : ℕ) → i < slot_count → in_set set i ≡ true → fit D d t i ≡ true
             unfolding spared
-            each i j e = let q = U.before i (omega arith) in rw e at q
+            each i j e = let q = U.none o i (omega arith) in rw e at q
 
             pub postable : Postable d t set
             unfolding fit
@@ -317,7 +317,7 @@ module _ {D : Dates} {d t : List ℕ} {set : ℕ} where
               formed = formed;
               slot = λ i j e. (
                 ltb-true _ _ (both (given t i) (ltb (slot_revision (slot_in d i)).number greatest) (both (ltb 0 (length (list_of D i)) && blank (slot_text (slot_in d i))) _ (each i j e)).1).1,
-                text-fits t (sym hv ∙ not-false v g) i j,
+                text-fits t (sym g) i j,
               );
             }
 
@@ -355,14 +355,14 @@ module _ {D : Dates} {d t : List ℕ} {set : ℕ} where
                   )
                   y
 
-            pub take-made : (e : List ℕ) → e ≡ taken → TakesUp D d t set Made e
+            pub take-made : (e : List ℕ) → e ≡ taken → TakesUp D d t set (Ok tt) e
             unfolding take_answer taking taken_into take_tests at.places
             take-made e q =
-                subst (TakesUp D d t set Made) (sym q)
-                (let a = all-spared (spared D d t set) (slot_count + 1) 0 (λ i x y. U.before i (omega arith)) in
+                subst (TakesUp D d t set (Ok tt)) (sym q)
+                (let a = all-spared (spared D d t set) (slot_count + 1) 0 (λ i x y. U.none o i (omega arith)) in
                 record {
-                  answer = rw (← hw, not-false w f, ← hv, not-false v g, eq-eqb (length t) sheet_size z, a);
-                  draft = rw (← hw, not-false w f, ← hv, not-false v g, eq-eqb (length t) sheet_size z, a);
+                  answer = rw (← f, ← g, eq-eqb (length t) sheet_size z, a);
+                  draft = rw (← f, ← g, eq-eqb (length t) sheet_size z, a);
                   refused = λ h. absurd (h refl);
                   slot = λ h. left.1;
                   made = λ b m all k done same part. refl;

@@ -40,9 +40,10 @@ use Rattle.orders.specs.Whole.{Completes}
 use Rattle.orders.specs.Working.Search.{passes_at, picks, first_pick}
 use Rattle.orders.specs.Working.Entering.{base_of, picked_of}
 use Rattle.orders.specs.TakeUp.{in_set, greatest, fit, spared, take_tests, taking, taken_into, TakesUp}
-use Rattle.orders.specs.declared.complete.Completed.{Completed}
-use Rattle.orders.specs.declared.take_up.TakenUp.{TakenUp}
-use Rattle.orders.specs.declared.take_up.TakenUp.TheVariants.{Made}
+use Rattle.orders.specs.declared.complete.Filled.{Filled}
+use Rattle.orders.specs.declared.complete.Incomplete.{Incomplete}
+use Rattle.std.specs.Prelude.{Result, Ok}
+use Rattle.orders.specs.declared.take_up.Untaken.{Untaken}
 use Rattle.orders.proofs.Keeping.{first-is}
 use Rattle.orders.proofs.Whole.{answer-is, sheet-is, look_answer, look_sheet}
 use Rattle.orders.proofs.Skipping.{at_place}
@@ -223,13 +224,13 @@ module _ (b : List ℕ) (z : length b ≡ 390) where
   filled = sheet-is D (draft order) b formed z fits paid ∙ ap (look_sheet b) looked
 
   -- so `take_up`'s promise speaks of it, for every set that it takes up
-  taken-again : (n : ℕ) (e : List ℕ) → TakesUp D (draft order) (sheet proposed) n Made e → (c : List ℕ) → length c ≡ 390 → CompletesAgain D (in_set n) (draft order) b 97 e c
+  taken-again : (n : ℕ) (e : List ℕ) → TakesUp D (draft order) (sheet proposed) n (Ok tt) e → (c : List ℕ) → length c ≡ 390 → CompletesAgain D (in_set n) (draft order) b 97 e c
   taken-again n e T c size = T.again refl b 97 31816 7 answered filled c size
 
   -- and `complete`'s, with 101 "04" of the revision 5
-  chosen-again : (r : Completed) (t : List ℕ) → Completes D (draft order) b r t → (c : List ℕ) → length c ≡ 390 → CompletesAgain D (chosen_by (status ∷ [])) (draft order) b 97 (posted_from (draft order) (status ∷ [])) c
+  chosen-again : (r : Result Filled Incomplete) (t : List ℕ) → Completes D (draft order) b r t → (c : List ℕ) → length c ≡ 390 → CompletesAgain D (chosen_by (status ∷ [])) (draft order) b 97 (posted_from (draft order) (status ∷ [])) c
   chosen-again r t C c size = C.again 97 31816 7 (C.answer ∙ answered) (status ∷ []) (subst (λ (x : List ℕ). Choice D (draft order) x (status ∷ [])) (sym (C.sheet ∙ filled)) chosen) c size
 
   -- and `take_up` does take up 101 and 106
-  taken-up : (r : TakenUp) (e : List ℕ) → TakesUp D (draft order) (sheet proposed) 2112 r e → r ≡ Made
+  taken-up : (r : Result Unit Untaken) (e : List ℕ) → TakesUp D (draft order) (sheet proposed) 2112 r e → r ≡ Ok tt
   taken-up r e T = T.made b 97 31816 7 answered filled below-greatest

@@ -30,7 +30,9 @@ use Rattle.fillings.proofs.First.{found_first}
 use Rattle.orders.specs.Fillings.{list_of, to_fill}
 use Rattle.orders.specs.Complete.{complete_answer, complete_tests, completing, completed}
 use Rattle.orders.specs.Whole.{Completes}
-use Rattle.orders.specs.declared.complete.Completed.{Completed}
+use Rattle.orders.specs.declared.complete.Filled.{Filled}
+use Rattle.orders.specs.declared.complete.Incomplete.{Incomplete}
+use Rattle.std.specs.Prelude.{Result}
 use Rattle.orders.specs.Again.{Choice, chosen_by, CompletesAgain}
 use Rattle.orders.proofs.Lists.{proper}
 use Rattle.orders.proofs.Whole.{length-draftSheet, filled_of, malformed-by, sized-by, undated-by}
@@ -107,12 +109,12 @@ module _ (D : Dates) (d b : List ℕ) (n set k : ℕ) (ms : List (List ℕ)) (do
 
 -- ---- the promise of `complete`, from the two equations that its code is proved to meet
 
-pub completes-by : (D : Dates) (d b : List ℕ) (r : Completed) (t : List ℕ) → complete_answer r ≡ completing D d b → t ≡ completed D d b → Completes D d b r t
+pub completes-by : (D : Dates) (d b : List ℕ) (r : Result Filled Incomplete) (t : List ℕ) → complete_answer r ≡ completing D d b → t ≡ completed D d b → Completes D d b r t
 unfolding completing completed
 completes-by D d b r t p q = record {
   answer = p;
   sheet = q;
-  refused = λ h. q ∙ unchanged _ _ _ (complete_tests D d b) (λ e. h _ _ _ (filled_of r _ _ _ (p ∙ e)));
+  refused = λ h. q ∙ unchanged _ _ _ (complete_tests D d b) (λ e. h _ (filled_of r _ _ _ (p ∙ e)));
   malformed = rw p (malformed-by D d b);
   sized = rw p (sized-by D d b);
   undated = rw p (undated-by D d b);

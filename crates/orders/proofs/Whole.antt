@@ -9,6 +9,7 @@ use borrow.Author.Tests.{ne_eqb}
 use lib.Count.{ones}
 use lib.Dec.{eqb}
 use lib.ListN.{length}
+use Rattle.texts.specs.Refusals.{refusal_number}
 use Rattle.texts.specs.Texts.{every}
 use Rattle.texts.specs.Answers.{Answer, success, refusal, number_of, ◌refuses◌, ◌refuses◌with◌, answer_by, buffer_by}
 use Rattle.texts.proofs.Bools.{both, cases}
@@ -29,8 +30,10 @@ use Rattle.fillings.proofs.Counting.{filled-set}
 use Rattle.orders.specs.Fillings.{list_of, Filling, All, first_filling, FirstFilling, set_of, FilledSet}
 use Rattle.orders.specs.Complete.{budget_payment, complete_answer, nothing, counted, sheet_in, sheet_tests, complete_tests, completing, completed}
 use Rattle.orders.specs.Whole.{count_of, Unpaid, broken, ordinary}
-use Rattle.orders.specs.declared.complete.Completed.{Completed}
-use Rattle.orders.specs.declared.complete.Completed.TheVariants.{Filled, Impossible, Broken, Refused}
+use Rattle.orders.specs.declared.complete.Filled.{Filled}
+use Rattle.orders.specs.declared.complete.Incomplete.{Incomplete}
+use Rattle.orders.specs.declared.complete.Incomplete.TheVariants.{Impossible, Broken, Refused}
+use Rattle.std.specs.Prelude.{Result, Ok, Err}
 use Rattle.orders.proofs.Lists.{proper}
 use Rattle.sheets.specs.Sheet.{sheet_size}
 
@@ -100,12 +103,12 @@ module _ (D : Dates) (d b : List ℕ) (f : draft_formed d ≡ true) (z : length 
           rw (f, z, t, i, ne_eqb n 0 y) (broken before after n e k p)
 
 -- refusals: a test that is true, and no other, gives its number
-pub filled_of : (r : Completed) (n set k : ℕ) → complete_answer r ≡ success (n ∷ set ∷ k ∷ []) → r ≡ Filled n set k
+pub filled_of : (r : Result Filled Incomplete) (n set k : ℕ) → complete_answer r ≡ success (n ∷ set ∷ k ∷ []) → r ≡ Ok (record { count = n; set = set; ones = k })
 unfolding complete_answer
-filled_of (Filled m t j) n set k e = cc
-filled_of (Impossible m) n set k e = absurd (no-success 10 _ _ e)
-filled_of (Broken g m) n set k e = absurd (no-success 8 _ _ e)
-filled_of (Refused m) n set k e = absurd (no-success m.0 _ _ e)
+filled_of (Ok f) n set k e = let a : f.count ≡ n = cc in let b : f.set ≡ set = cc in let c : f.ones ≡ k = cc in λ i. Ok (record { count = a i; set = b i; ones = c i })
+filled_of (Err (Impossible m)) n set k e = absurd (no-success 10 _ _ e)
+filled_of (Err (Broken g m)) n set k e = absurd (no-success 8 _ _ e)
+filled_of (Err (Refused m)) n set k e = absurd (no-success (refusal_number m) _ _ e)
 
 module _ (D : Dates) (d b : List ℕ) where
   values : List ℕ

@@ -1,43 +1,39 @@
 -- The message that wins each slot, one message at a time, and the ways through the functions that number the winners.
 use mathlib.Core.Path.{◌≡◌, refl, sym, ap, ◌∙◌}
 use mathlib.Core.Logic.{⊎_elim}
-use mathlib.Core.Bool.{Bool, true, false, true≢false}
+use mathlib.Core.Bool.{true, false, true≢false}
 use mathlib.Core.List.Memᴰ
 use mathlib.Core.List.{List, [], ◌∷◌, ◌++◌, map, Memᴰ}
 use Prim.Native.Nat.{ℕ, suc, ◌+◌, ◌≤◌, ◌<◌, max}
 use native.Mathlib.Decide.{dec_lt, ℕ_discrete}
 use native.Mathlib.Numerals.{add-one}
 use native.Mathlib.Omega.{arith}
-use borrow.Author.Rules.{rules}
 use borrow.Author.Tests.{eq-eqb, ne_eqb}
 use mir.Syntax.{w8}
 use mir.Val.{Fits}
 use lib.ListN.{length, get_or, set, length-set, length-append}
 use lib.Seq.{ext_get_or, get_or-set_same, get_or-set_other}
-use Rattle.texts.specs.Texts.{between}
 use Rattle.texts.proofs.Bools.{cases}
 use Rattle.texts.specs.declared.answers.Refusal.{Refusal}
 use Rattle.sheets.specs.Sheet.{slots, slot_count, slot_of}
-use Rattle.sheets.specs.declared.sheet.Field.{Field}
+use Rattle.texts.specs.Refusals.{refusal_number}
+use Rattle.drafts.specs.declared.message.Heading.{Heading}
+use Rattle.std.specs.Prelude.{Result, Ok, Err}
 use Rattle.drafts.specs.Revision.{rank}
 use Rattle.drafts.specs.Message.{version_of, message_field, revision_of, readable, read_answer}
 use Rattle.drafts.specs.Draft.{rank_of}
 use Rattle.drafts.specs.History.{names, rank_in, highest, end_slot, AllBytes}
 use Rattle.drafts.specs.Promises.{Reads}
-use Rattle.drafts.specs.declared.revision.Revision.{Revision}
-use Rattle.drafts.specs.declared.message.Version.{Version}
-use Rattle.drafts.specs.declared.message.Reading.{Reading}
-use Rattle.drafts.specs.declared.message.Reading.TheVariants.{Message, Refused}
 use Rattle.drafts.proofs.Messages.{slotted, readable-means, read_found, reading-is}
 use Rattle.drafts.proofs.Ranks.{rank-above, rank_below, rank-not-below}
 use Rattle.drafts.proofs.EndSlots.{named, ranked, unranked, all-slot, top, top-at, bound}
 use Rattle.texts.proofs.Refusals.{no-success}
 use Rattle.fillings.proofs.EveryFilling.{at_slots}
-use Rattle.orders.specs.Stream.{piece_of, ends_stream, messages_of}
+use Rattle.orders.specs.Stream.{messages_of}
 use Rattle.orders.specs.Origins.{number_in, origin_of, Origin, none, given, Origins}
-use Rattle.orders.specs.Working.Winners.{Won}
-use Rattle.orders.specs.declared.origins.Winners.{Winners}
-use Rattle.orders.proofs.Streaming.{Gone, gone-done, gone-last, gone-next, stream-within, stream-less}
+use Rattle.orders.specs.Working.Winners.{nobody, Won}
+use Rattle.orders.specs.declared.origins.Winner.{Winner}
+use Rattle.orders.proofs.Streaming.{Gone, gone-next}
 
 -- ---- the number of the message that wins slot i
 
@@ -106,16 +102,16 @@ origin-right i ms b l =
 -- ---- with_message
 
 -- what a message m that is read says of its field's slot k and its rank r
-module _ (m : List ℕ) (rd : Reading) (R : Reads m rd) where
-  unread : (n : Refusal) → rd ≡ Refused n → readable m ≡ false
+module _ (m : List ℕ) (rd : Result Heading Refusal) (R : Reads m rd) where
+  unread : (n : Refusal) → rd ≡ Err n → readable m ≡ false
   unread n e =
       cases (readable m)
-      (λ z. absurd (no-success n.0 [] _ (ap read_answer (sym e) ∙ R.answer ∙ reading-is m (readable-means m z))))
+      (λ z. absurd (no-success (refusal_number n) [] _ (ap read_answer (sym e) ∙ R.answer ∙ reading-is m (readable-means m z))))
       (λ z. z)
 
-  module _ (u : Version) (f : Field) (v : Revision) (e : rd ≡ Message u f v) (o k : ℕ) (eo : o ≡ slot_of f.0) (ek : k ≡ o) where
-    found : (readable m ≡ true) × (u.0 ≡ version_of m) × (f.0 ≡ message_field m) × (v ≡ revision_of m)
-    found = read_found m u f v (ap read_answer (sym e) ∙ R.answer)
+  module _ (g : Heading) (e : rd ≡ Ok g) (o k : ℕ) (eo : o ≡ slot_of g.field.0) (ek : k ≡ o) where
+    found : (readable m ≡ true) × (g.version.0 ≡ version_of m) × (g.field.0 ≡ message_field m) × (g.revision ≡ revision_of m)
+    found = read_found m g (ap read_answer (sym e) ∙ R.answer)
 
     own_is : k ≡ slot_of (message_field m)
     own_is = ek ∙ eo ∙ ap slot_of found.2
@@ -124,115 +120,88 @@ module _ (m : List ℕ) (rd : Reading) (R : Reads m rd) where
     slot-within = omega (arith, own_is, (slotted (message_field m) (readable-means m found.0).listed).1)
 
     -- its rank in each slot
-    own-rank : (r : ℕ) → r ≡ rank v → rank_in k m ≡ r
+    own-rank : (r : ℕ) → r ≡ rank g.revision → rank_in k m ≡ r
     unfolding names rank_in rank_of
     own-rank r er = rw (found.0, eq-eqb _ _ (sym own_is)) (ap rank (sym found.3) ∙ sym er)
 
     other-rank : (i : ℕ) → (i ≡ k → ⊥) → rank_in i m ≡ 0
     other-rank i n = unranked i m (cases (names i m) (λ t. absurd (n (sym (named i m t).1 ∙ sym own_is))) (λ t. t))
 
-module _ (m : List ℕ) (h : (k : ℕ) → Fits w8 (get_or m k 0)) (ms : List (List ℕ)) (w : Winners) (W : Won ms w) where
+module _ (m : List ℕ) (h : (k : ℕ) → Fits w8 (get_or m k 0)) (ms : List (List ℕ)) (ws : List Winner) (W : Won ms ws) where
   strings-more : AllBytes (ms ++ m ∷ [])
   strings-more a q =
       ⊎_elim (λ (k : Memᴰ a ms). W.strings a k) (λ (k : Memᴰ a (m ∷ [])). rw (Memᴰ.eq_of_singleton k) (λ j. (h j).fits)) (Memᴰ.append_cases ms q)
 
-  -- it is above no slot
-  still : ((i : ℕ) → i < slot_count → rank_in i m ≤ highest i ms) → Won (ms ++ m ∷ []) w
-  still g = record {
-    strings = strings-more;
-    ranked = W.ranked;
-    numbered = W.numbered;
-    rank = λ i l. W.rank i l ∙ sym (unraised i m ms (g i l)).0;
-    number = λ i l. W.number i l ∙ sym (unraised i m ms (g i l)).1;
-  }
+  -- it is not above what slot i holds
+  as-before : (i : ℕ) → i < slot_count → rank_in i m ≤ highest i ms → get_or ws i nobody ≡ record { rank = highest i (ms ++ m ∷ []); number = origin_of (ms ++ m ∷ []) i }
+  as-before i l g = let (a, b) = unraised i m ms g in W.each i l ∙ (λ j. record { rank = sym a j; number = sym b j })
 
-module _ (m : List ℕ) (h : (k : ℕ) → Fits w8 (get_or m k 0)) (w : Winners) (x : ℕ) (rd : Reading) (R : Reads m rd) where
-  pub won-unread : (n : Refusal) → rd ≡ Refused n → (ms : List (List ℕ)) → x ≡ length ms + 1 → Won ms w → Won (ms ++ m ∷ []) w
-  won-unread n e ms c W = still m h ms w W (λ i l. omega (arith, unranked i m (unnamed i)))
+  -- it is above no slot
+  still : ((i : ℕ) → i < slot_count → rank_in i m ≤ highest i ms) → Won (ms ++ m ∷ []) ws
+  still g = record { strings = strings-more; sized = W.sized; each = λ i l. as-before i l (g i l) }
+
+module _ (m : List ℕ) (h : (k : ℕ) → Fits w8 (get_or m k 0)) (ws : List Winner) (x : ℕ) (rd : Result Heading Refusal) (R : Reads m rd) where
+  pub won-unread : (n : Refusal) → rd ≡ Err n → (ms : List (List ℕ)) → x ≡ length ms + 1 → Won ms ws → Won (ms ++ m ∷ []) ws
+  won-unread n e ms c W = still m h ms ws W (λ i l. omega (arith, unranked i m (unnamed i)))
     where
       unnamed : (i : ℕ) → names i m ≡ false
       unnamed i = cases (names i m) (λ t. absurd (true≢false (sym (named i m t).0 ∙ unread m rd R n e))) (λ t. t)
 
-  module _ (u : Version) (f : Field) (v : Revision) (e : rd ≡ Message u f v) (o k : ℕ) (eo : o ≡ slot_of f.0) (ek : k ≡ o) (r : ℕ) (er : r ≡ rank v) where
-    pub won-older : r ≤ get_or w.ranks k 0 → (ms : List (List ℕ)) → x ≡ length ms + 1 → Won ms w → Won (ms ++ m ∷ []) w
+  module _ (g : Heading) (e : rd ≡ Ok g) (o k : ℕ) (eo : o ≡ slot_of g.field.0) (ek : k ≡ o) (r : ℕ) (er : r ≡ rank g.revision) where
+    pub won-older : r ≤ (get_or ws k nobody).rank → (ms : List (List ℕ)) → x ≡ length ms + 1 → Won ms ws → Won (ms ++ m ∷ []) ws
     won-older q ms c W =
-        still m h ms w W (λ i l.
+        still m h ms ws W (λ i l.
         elim (ℕ_discrete i k) [
-          | yes z ↦ rw z (omega (arith, W.rank k (slot-within m rd R u f v e o k eo ek), own-rank m rd R u f v e o k eo ek r er))
-          | no z ↦ omega (arith, other-rank m rd R u f v e o k eo ek i z)
+          | yes z ↦ rw z (omega (arith, ap (λ (w : Winner). w.rank) (W.each k (slot-within m rd R g e o k eo ek)), own-rank m rd R g e o k eo ek r er))
+          | no z ↦ omega (arith, other-rank m rd R g e o k eo ek i z)
         ])
 
-    pub won-newer : (rs ns : List ℕ) → get_or w.ranks k 0 < r → rs ≡ set w.ranks k r → ns ≡ set w.numbers k x
-        → (ms : List (List ℕ)) → x ≡ length ms + 1 → Won ms w → Won (ms ++ m ∷ []) (record { ranks = rs; numbers = ns })
-    won-newer rs ns q er' en ms c W =
-        let l = slot-within m rd R u f v e o k eo ek in
-        let p = own-rank m rd R u f v e o k eo ek r er in
-        let up = raised k m ms (omega (arith, W.rank k l, p)) in
-        let low : (i : ℕ) → (i ≡ k → ⊥) → rank_in i m ≤ highest i ms = λ i z. omega (arith, other-rank m rd R u f v e o k eo ek i z) in
+    pub won-newer : (get_or ws k nobody).rank < r → (ms : List (List ℕ)) → x ≡ length ms + 1 → Won ms ws → Won (ms ++ m ∷ []) (set ws k (record { rank = r; number = x }))
+    won-newer q ms c W =
+        let l = slot-within m rd R g e o k eo ek in
+        let p = own-rank m rd R g e o k eo ek r er in
+        let (a, b) = raised k m ms (omega (arith, ap (λ (w : Winner). w.rank) (W.each k l), p)) in
+        let new : Winner = record { rank = r; number = x } in
         record {
-          strings = strings-more m h ms w W;
-          ranked = ap length er' ∙ length-set w.ranks k r ∙ W.ranked;
-          numbered = ap length en ∙ length-set w.numbers k x ∙ W.numbered;
-          rank = λ i b.
+          strings = strings-more m h ms ws W;
+          sized = length-set ws k new ∙ W.sized;
+          each = λ i y.
               elim (ℕ_discrete i k) [
-                | yes z ↦ rw (er', z) (get_or-set_same w.ranks k r 0 (omega (arith, W.ranked)) ∙ sym (up.0 ∙ p))
-                | no z ↦ rw er' (get_or-set_other w.ranks k i r 0 z ∙ W.rank i b ∙ sym (unraised i m ms (low i z)).0)
-              ];
-          number = λ i b.
-              elim (ℕ_discrete i k) [
-                | yes z ↦ rw (en, z) (get_or-set_same w.numbers k x 0 (omega (arith, W.numbered)) ∙ c ∙ sym up.1)
-                | no z ↦ rw en (get_or-set_other w.numbers k i x 0 z ∙ W.number i b ∙ sym (unraised i m ms (low i z)).1)
+                | yes z ↦ rw z (get_or-set_same ws k new nobody (omega (arith, W.sized)) ∙ (λ j. record { rank = sym (a ∙ p) j; number = (c ∙ sym b) j }))
+                | no z ↦ get_or-set_other ws k i new nobody z ∙ as-before m h ms ws W i y (omega (arith, other-rank m rd R g e o k eo ek i z))
               ];
         }
 
-pub ruleset winning = (rules, slot-within, won-unread, won-older, won-newer)
+-- ---- the loop: n messages were given, and the others are left
 
--- ---- the loop: n messages are seen, those before place k, and those from there on are left
+abbrev WonBy : ℕ → List Winner → List (List ℕ) → Type 0
+WonBy n ws ms = Won ms ws × (n ≡ length ms)
 
-abbrev WonBy : ℕ → Winners → List (List ℕ) → Type 0
-WonBy n w ms = Won ms w × (n ≡ length ms)
+abbrev pub Seen : List (List ℕ) → List (List ℕ) → ℕ → List Winner → Type 0
+Seen all left n ws = Gone all left (WonBy n ws)
 
-abbrev pub Seen : List ℕ → ℕ → ℕ → Winners → Type 0
-Seen t k n w = Gone t k (WonBy n w)
-
-none-won : (w : Winners) → w.ranks ≡ map (λ (k : ℕ). 0) slots → w.numbers ≡ map (λ (k : ℕ). 0) slots → Won [] w
+pub none-won : (ws : List Winner) → ws ≡ map (λ (k : ℕ). nobody) slots → Won [] ws
 unfolding origin_of
-none-won w er en = record {
+none-won ws e = record {
   strings = λ m h. absurd (Memᴰ.not-nil h);
-  ranked = ap length er;
-  numbered = ap length en;
-  rank = λ i l. ap (λ (x : List ℕ). get_or x i 0) er ∙ at_slots (λ (k : ℕ). 0) 0 i l;
-  number = λ i l. ap (λ (x : List ℕ). get_or x i 0) en ∙ at_slots (λ (k : ℕ). 0) 0 i l;
+  sized = ap length e;
+  each = λ i l. ap (λ (x : List Winner). get_or x i nobody) e ∙ at_slots (λ (k : ℕ). nobody) nobody i l;
 }
 
-pub seen_none : (t : List ℕ) (w : Winners) → w.ranks ≡ map (λ (k : ℕ). 0) slots → w.numbers ≡ map (λ (k : ℕ). 0) slots → Seen t 0 0 w
-seen_none t w er en = record { seen = []; holds = (none-won w er en, refl); rest = refl }
+module _ {all left : List (List ℕ)} {n : ℕ} {ws : List Winner} (S : Seen all left n ws) (m : List ℕ) (after : List (List ℕ)) (e : left ≡ m ∷ after) where
+  -- one more
+  pub seen_next : (vs : List Winner) → ((ms : List (List ℕ)) → n + 1 ≡ length ms + 1 → Won ms ws → Won (ms ++ (m ∷ [])) vs) → Seen all after (n + 1) vs
+  seen_next vs W = gone-next (WonBy (n + 1) vs) m after e S (W S.seen (ap (λ (x : ℕ). x + 1) S.holds.1) S.holds.0, omega (arith, S.holds.1, length-append S.seen (m ∷ [])))
 
--- what the winners of all messages promise
-origins-by : (t : List ℕ) (w : Winners) → Won (messages_of t) w → Origins t w.numbers
-origins-by t w W = record {
-  places =
-      ext_get_or 0 w.numbers (map (origin_of (messages_of t)) slots) W.numbered
-      (λ i l. let b : i < slot_count = omega (arith, W.numbered) in W.number i b ∙ sym (at_slots (origin_of (messages_of t)) 0 i b));
-  each = λ i l. rw (W.number i l) (origin-right i (messages_of t) W.strings l);
-}
+  -- there is one more at least
+  pub seen-room : n < length all
+  seen-room = omega (arith, S.holds.1, ap length e, length-append S.seen left, ap length S.rest)
 
-pub seen_done : (t : List ℕ) (k n : ℕ) (w : Winners) → Seen t k n w → length t ≤ k → Origins t w.numbers
-seen_done t k n w S h = origins-by t w (gone-done t k (WonBy n w) S h).0
-
--- a message has a byte at least
-pub seen-room : (t : List ℕ) (k : ℕ) → k < length t → (s m : List ℕ) → s ≡ between t k (length t) → m ≡ piece_of s → (n : ℕ) → n ≤ k → n + 1 ≤ k + length m
-seen-room t k h s m es em n l = omega (arith, stream-less t k h s m es em)
-
-module _ (t : List ℕ) (k : ℕ) (h : k < length t) (s m : List ℕ) (es : s ≡ between t k (length t)) (em : m ≡ piece_of s) (n : ℕ) (w v : Winners) (S : Seen t k n w)
-    (W : (ms : List (List ℕ)) → n + 1 ≡ length ms + 1 → Won ms w → Won (ms ++ (m ∷ [])) v) (b : Bool) (eb : b ≡ ends_stream m) where
-  more : WonBy (n + 1) v (S.seen ++ (m ∷ []))
-  more = (W S.seen (ap (λ (x : ℕ). x + 1) S.holds.1) S.holds.0, omega (arith, S.holds.1, length-append S.seen (m ∷ [])))
-
-  pub seen_last : b ≡ true → Origins t v.numbers
-  seen_last q = origins-by t v (gone-last t k h s m es em (WonBy n w) (WonBy (n + 1) v) S more b eb q).0
-
-  pub seen_next : b ≡ false → Seen t (k + length m) (n + 1) v
-  seen_next q = gone-next t k h s m es em (WonBy n w) (WonBy (n + 1) v) S more b eb q
-
-pub ruleset seeing = (rules, seen_done, seen-room, seen_last, seen_next, stream-within, stream-less)
+-- what the numbers of the winners of all messages promise
+pub origins-by : (t : List ℕ) (ws : List Winner) → Won (messages_of t) ws → (ns : List ℕ) → length ns ≡ slot_count → ((i : ℕ) → i < slot_count → get_or ns i 0 ≡ (get_or ws i nobody).number) → Origins t ns
+origins-by t ws W ns h e =
+    let at : (i : ℕ) → i < slot_count → get_or ns i 0 ≡ origin_of (messages_of t) i = λ i l. e i l ∙ ap (λ (w : Winner). w.number) (W.each i l) in
+    record {
+      places = ext_get_or 0 ns (map (origin_of (messages_of t)) slots) h (λ i l. let b : i < slot_count = omega arith in at i b ∙ sym (at_slots (origin_of (messages_of t)) 0 i b));
+      each = λ i l. rw (at i l) (origin-right i (messages_of t) W.strings l);
+    }

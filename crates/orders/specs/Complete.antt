@@ -1,7 +1,8 @@
 -- What completion answers, and what it leaves in the sheet buffer (document 01, "Completion", "Answers other than success").
-use Rattle.std.specs.Prelude.{Bool, true, false, not, ◌&&◌, List, [], ◌∷◌, ◌++◌, ℕ, eqb, length}
+use Rattle.std.specs.Prelude.{Bool, true, false, not, ◌&&◌, List, [], ◌∷◌, ◌++◌, ℕ, eqb, length, Result, Ok, Err}
 use Rattle.std.specs.Int.Count.{ones}
 use Rattle.texts.specs.Texts.{every}
+use Rattle.texts.specs.Refusals.{refusal_number}
 use Rattle.texts.specs.Answers.{Answer, success, refusal, Test, ◌refuses◌, ◌refuses◌with◌, answer_by, buffer_by}
 use Rattle.sheets.specs.Sheet.{sheet_size}
 use Rattle.sheets.specs.Dates.{dates_fit}
@@ -11,19 +12,20 @@ use Rattle.rules.specs.Verdicts.{broken_rule}
 use Rattle.drafts.specs.Draft.{draft_formed, draft_sheet}
 use Rattle.fillings.specs.Fillings.{Look, found, none}
 use Rattle.orders.specs.Fillings.{first_filling, set_of}
-use Rattle.orders.specs.declared.complete.Completed.{Completed}
-use Rattle.orders.specs.declared.complete.Completed.TheVariants.{Filled, Impossible, Broken, Refused}
+use Rattle.orders.specs.declared.complete.Filled.{Filled}
+use Rattle.orders.specs.declared.complete.Incomplete.{Incomplete}
+use Rattle.orders.specs.declared.complete.Incomplete.TheVariants.{Impossible, Broken, Refused}
 
 -- "With 1 to 3 kept, a sheet has a class"; "A budget payment is a sheet of class A or B"
 unfoldable pub budget_payment : Dates → List ℕ → Bool
 budget_payment D s = every (keeps D s) basic && budget s
 
 -- document 01's number and values for each case
-unfoldable pub complete_answer : Completed → Answer
-complete_answer (Filled n set k) = success (n ∷ set ∷ k ∷ [])
-complete_answer (Impossible n) = refusal 10 (n ∷ [])
-complete_answer (Broken f r) = refusal 8 (f.0 ∷ r.0 ∷ [])
-complete_answer (Refused n) = refusal n.0 []
+unfoldable pub complete_answer : Result Filled Incomplete → Answer
+complete_answer (Ok f) = success (f.count ∷ f.set ∷ f.ones ∷ [])
+complete_answer (Err (Impossible n)) = refusal 10 (n ∷ [])
+complete_answer (Err (Broken f r)) = refusal 8 (f.0 ∷ r.0 ∷ [])
+complete_answer (Err (Refused n)) = refusal (refusal_number n) []
 
 -- what looking through the fillings found: whether none keeps the rules, the count of those looked at, and the sheet found, or b where there is none
 abbrev pub nothing : Look (List ℕ) → Bool

@@ -1,5 +1,5 @@
 -- An entry of a field's list in completion, by its place (document 01, "Completion"; R-7).
-use Rattle.std.specs.Prelude.{◌≡◌, ◌↔◌, true, false, not, List, [], ◌∷◌, ℕ, ◌<◌, ◌≤◌, eqb, length, get_or, take}
+use Rattle.std.specs.Prelude.{◌≡◌, ◌↔◌, true, false, not, List, [], ◌∷◌, ℕ, ◌<◌, ◌≤◌, eqb, length, get_or, take, Option, Some, None, Result, Ok, Err}
 use Rattle.texts.specs.Quoted.{Text}
 use Rattle.texts.specs.Answers.{Answer, success, refusal, Test, ◌refuses◌, answer_by}
 use Rattle.sheets.specs.Sheet.{slot_count, slot_of}
@@ -7,8 +7,9 @@ use Rattle.sheets.specs.Dates.{dates_fit}
 use Rattle.sheets.specs.declared.dates.Dates.{Dates}
 use Rattle.orders.specs.Fillings.{list_of}
 use Rattle.orders.specs.declared.entry.Row.{Row}
-use Rattle.orders.specs.declared.entry.Listed.{Listed}
-use Rattle.orders.specs.declared.entry.Listed.TheVariants.{Entry, Nothing, Refused}
+use Rattle.texts.specs.Refusals.{refusal_number}
+use Rattle.texts.specs.declared.answers.Refusal.{Refusal}
+use Rattle.texts.specs.declared.answers.Refusal.TheVariants.{UnknownField, Undated}
 
 -- the list of field f at the dates D: no entry for a field that has no list, or is not listed
 abbrev pub list_for : Dates → ℕ → List Text
@@ -30,18 +31,18 @@ abbrev pub text_row : Text → Row
 text_row t = record { length = length t; first = get_or t 0 0; second = get_or t 1 0 }
 
 -- document 01's number and values for each case
-unfoldable pub entry_answer : Listed → Answer
-entry_answer (Entry r) = success (row_text r)
-entry_answer Nothing = success []
-entry_answer (Refused n) = refusal n.0 []
+unfoldable pub entry_answer : Result (Option Row) Refusal → Answer
+entry_answer (Ok (Some r)) = success (row_text r)
+entry_answer (Ok None) = success []
+entry_answer (Err n) = refusal (refusal_number n) []
 
 -- the promise of `entry`: of field f, place k and the dates D it answered x
-pub record Lists (D : Dates) (f k : ℕ) (x : Listed) : Type 0 where
+pub record Lists (D : Dates) (f k : ℕ) (x : Result (Option Row) Refusal) : Type 0 where
   pub answer : entry_answer x ≡ listing D f k
   -- an entry is the one at this place of the list
-  pub entry : (r : Row) → x ≡ Entry r → (k < length (list_for D f)) × (r ≡ text_row (get_or (list_for D f) k []))
+  pub entry : (r : Row) → x ≡ Ok (Some r) → (k < length (list_for D f)) × (r ≡ text_row (get_or (list_for D f) k []))
   -- there is none where the list has ended
-  pub nothing : x ≡ Nothing → length (list_for D f) ≤ k
+  pub nothing : x ≡ Ok None → length (list_for D f) ≤ k
   -- 12 exactly if the dates are not fit; 4 exactly if they are, and the field is not listed
-  pub undated : (x ≡ Refused (record { 0 = 12 })) ↔ (dates_fit D ≡ false)
-  pub unlisted : (x ≡ Refused (record { 0 = 4 })) ↔ ((dates_fit D ≡ true) × (slot_of f ≡ slot_count))
+  pub undated : (x ≡ Err Undated) ↔ (dates_fit D ≡ false)
+  pub unlisted : (x ≡ Err UnknownField) ↔ ((dates_fit D ≡ true) × (slot_of f ≡ slot_count))

@@ -1,6 +1,7 @@
 -- R-3: a test of the draft ahead of the search, said of its fillings, and what it promises.
-use Rattle.std.specs.Prelude.{◌≡◌, ◌↔◌, Bool, true, false, not, ◌&&◌, List, [], ◌∷◌, ◌++◌, ℕ, length, get_or}
+use Rattle.std.specs.Prelude.{◌≡◌, ◌↔◌, Bool, true, false, not, ◌&&◌, List, [], ◌∷◌, ◌++◌, ℕ, length, get_or, Option, Some, None, Result, Ok, Err}
 use Rattle.texts.specs.Texts.{every}
+use Rattle.texts.specs.Refusals.{refusal_number}
 use Rattle.texts.specs.declared.answers.Refusal.{Refusal}
 use Rattle.texts.specs.Answers.{Answer, success, refusal, number_of, Test, ◌refuses◌, answer_by}
 use Rattle.sheets.specs.Sheet.{Sheet, sheet_size}
@@ -12,8 +13,9 @@ use Rattle.rules.specs.declared.rules.RuleNumber.{RuleNumber}
 use Rattle.drafts.specs.Draft.{draft_formed, draft_sheet}
 use Rattle.orders.specs.Fillings.{Filling, fillings, All}
 use Rattle.orders.specs.Complete.{budget_payment, unpaid_tests, completing}
-use Rattle.orders.specs.declared.pretest.Pretested.{Pretested}
-use Rattle.orders.specs.declared.pretest.Pretested.TheVariants.{Named, Unnamed, Broken, Refused}
+use Rattle.orders.specs.declared.pretest.Named.{Named}
+use Rattle.rules.specs.declared.check.Rejection.{Rejection}
+use Rattle.rules.specs.declared.check.Rejection.TheVariants.{Broken, Refused}
 
 -- no sheet of a list keeps rule n
 unfoldable pub none_keeps : Dates → List Sheet → ℕ → Bool
@@ -29,11 +31,11 @@ unfoldable pub named_field : Dates → Sheet → ℕ
 named_field D s = field_of rules (broken_by_all D s) (get_or (fillings D s) 0 [])
 
 -- the paper's number and values for each case: the field and the rule, or 0 and 0
-unfoldable pub pretest_answer : Pretested → Answer
-pretest_answer (Named f r) = success (f.0 ∷ r.0 ∷ [])
-pretest_answer Unnamed = success (0 ∷ 0 ∷ [])
-pretest_answer (Broken f r) = refusal 8 (f.0 ∷ r.0 ∷ [])
-pretest_answer (Refused n) = refusal n.0 []
+unfoldable pub pretest_answer : Result (Option Named) Rejection → Answer
+pretest_answer (Ok (Some m)) = success (m.field.0 ∷ m.rule.0 ∷ [])
+pretest_answer (Ok None) = success (0 ∷ 0 ∷ [])
+pretest_answer (Err (Broken f r)) = refusal 8 (f.0 ∷ r.0 ∷ [])
+pretest_answer (Err (Refused n)) = refusal (refusal_number n) []
 
 -- "The test refuses with 1, 8 and 9 as completion does"
 unfoldable pub pretest_tests : Dates → List ℕ → List Test
@@ -55,7 +57,7 @@ pub record Names (D : Dates) (d s : List ℕ) (f n : ℕ) : Type 0 where
   pub hopeless : (b : List ℕ) → length b ≡ sheet_size → dates_fit D ≡ true → (c : ℕ) × (completing D d b ≡ refusal 10 (c ∷ [])) × All D s c
 
 -- the promise of `pretest`: it answered r of the draft d
-pub record Pretests (D : Dates) (d : List ℕ) (r : Pretested) : Type 0 where
+pub record Pretests (D : Dates) (d : List ℕ) (r : Result (Option Named) Rejection) : Type 0 where
   pub answer : pretest_answer r ≡ pretesting D d
   -- "The test refuses with 1, 8 and 9 as completion does", into a buffer of the right size
   pub refused : (b : List ℕ) → length b ≡ sheet_size → dates_fit D ≡ true → (n : ℕ) (vs : List ℕ) → pretest_answer r ≡ refusal n vs → completing D d b ≡ refusal n vs
@@ -70,10 +72,10 @@ pub record Pretests (D : Dates) (d : List ℕ) (r : Pretested) : Type 0 where
       → (pretest_answer r ≡ success (0 ∷ 0 ∷ [])) ↔ ((g : List ℕ) → Filling D (draft_sheet d) g → every (keeps D g) ahead ≡ true)
   -- "where it names one"
   pub named : (f n : ℕ) → (n ≡ 0 → ⊥) → pretest_answer r ≡ success (f ∷ n ∷ []) → Names D d (draft_sheet d) f n
-  -- a rule named is not 0: that there is none, it says with `Unnamed`
-  pub numbered : (f : Field) (n : RuleNumber) → r ≡ Named f n → n.0 ≡ 0 → ⊥
+  -- a rule named is not 0: that there is none, it says with `None`
+  pub numbered : (m : Named) → r ≡ Ok (Some m) → m.rule.0 ≡ 0 → ⊥
   -- each case by its constructor: a rule with its field, none, and what completion refuses with
-  pub holds : (f : Field) (n : RuleNumber) → r ≡ Named f n → Names D d (draft_sheet d) f.0 n.0
-  pub unnamed : r ≡ Unnamed → (g : List ℕ) → Filling D (draft_sheet d) g → every (keeps D g) ahead ≡ true
-  pub broken : (f : Field) (n : RuleNumber) → r ≡ Broken f n → (b : List ℕ) → length b ≡ sheet_size → dates_fit D ≡ true → completing D d b ≡ refusal 8 (f.0 ∷ n.0 ∷ [])
-  pub number : (n : Refusal) → r ≡ Refused n → (b : List ℕ) → length b ≡ sheet_size → dates_fit D ≡ true → completing D d b ≡ refusal n.0 []
+  pub holds : (m : Named) → r ≡ Ok (Some m) → Names D d (draft_sheet d) m.field.0 m.rule.0
+  pub unnamed : r ≡ Ok None → (g : List ℕ) → Filling D (draft_sheet d) g → every (keeps D g) ahead ≡ true
+  pub broken : (f : Field) (n : RuleNumber) → r ≡ Err (Broken f n) → (b : List ℕ) → length b ≡ sheet_size → dates_fit D ≡ true → completing D d b ≡ refusal 8 (f.0 ∷ n.0 ∷ [])
+  pub number : (n : Refusal) → r ≡ Err (Refused n) → (b : List ℕ) → length b ≡ sheet_size → dates_fit D ≡ true → completing D d b ≡ refusal (refusal_number n) []

@@ -1,5 +1,5 @@
 -- R-14: how many statuses the quick search passes over whole, said without a search; and the promise of that search.
-use Rattle.std.specs.Prelude.{◌≡◌, ◌↔◌, Bool, true, not, ◌&&◌, ℕ, suc, length, take}
+use Rattle.std.specs.Prelude.{◌≡◌, ◌↔◌, Bool, true, not, ◌&&◌, ℕ, suc, length, take, Ok, Err}
 use mathlib.Core.List.{List, [], ◌∷◌, ◌++◌, Memᴰ}
 use Rattle.texts.specs.Texts.{every, any, same}
 use Rattle.texts.specs.Answers.{Answer, success, refusal}
@@ -14,7 +14,8 @@ use Rattle.orders.specs.Fillings.{list_of, Filling, fillings, first_filling}
 use Rattle.orders.specs.Complete.{complete_answer, completing}
 use Rattle.orders.specs.Whole.{Completes}
 use Rattle.orders.specs.Pretest.{broken_by_all}
-use Rattle.orders.specs.declared.complete.Completed.TheVariants.{Filled, Impossible}
+use Rattle.orders.specs.declared.complete.Filled.{Filled}
+use Rattle.orders.specs.declared.complete.Incomplete.TheVariants.{Impossible}
 use Rattle.orders.specs.declared.quick.Quickened.{Quickened}
 
 -- "a rule that reads neither 106, 108 nor 109 (5, 7 to 14, 16, 19 to 24, 27, 28, 30)"
@@ -78,8 +79,8 @@ pub record Quickens (D : Dates) (d b : List ℕ) (r : Quickened) (t : List ℕ) 
   -- `completing` and `completed` among it
   pub completes : Completes D d b r.completed t
   -- "With a sheet or 10 it also returns how many statuses it skipped"
-  pub filled : (n set k : ℕ) → r.completed ≡ Filled n set k → r.skipped ≡ skipped_of D (draft_sheet d)
-  pub impossible : (n : ℕ) → r.completed ≡ Impossible n → r.skipped ≡ skipped_of D (draft_sheet d)
-  pub others : ((n set k : ℕ) → r.completed ≡ Filled n set k → ⊥) → ((n : ℕ) → r.completed ≡ Impossible n → ⊥) → r.skipped ≡ 0
+  pub filled : (f : Filled) → r.completed ≡ Ok f → r.skipped ≡ skipped_of D (draft_sheet d)
+  pub impossible : (n : ℕ) → r.completed ≡ Err (Impossible n) → r.skipped ≡ skipped_of D (draft_sheet d)
+  pub others : ((f : Filled) → r.completed ≡ Ok f → ⊥) → ((n : ℕ) → r.completed ≡ Err (Impossible n) → ⊥) → r.skipped ≡ 0
   -- "exactly those for which such a rule fails"
   pub exactly : AreSkipped D (draft_sheet d) (skipped_of D (draft_sheet d))

@@ -1,5 +1,5 @@
 -- The messages of an input (document 01, "Writer and program"), and demand 3 of posting them and completing.
-use Rattle.std.specs.Prelude.{◌≡◌, ◌↔◌, Bool, true, false, cond, List, [], ◌∷◌, ◌++◌, ℕ, zero, suc, ◌+◌, ◌<◌, eqb, length, take, drop}
+use Rattle.std.specs.Prelude.{◌≡◌, ◌↔◌, Bool, true, false, cond, List, [], ◌∷◌, ◌++◌, ℕ, zero, suc, ◌+◌, ◌<◌, eqb, length, take, drop, Result, Ok}
 use Rattle.texts.specs.Answers.{refusal, number_of}
 use Rattle.sheets.specs.Sheet.{sheet_size}
 use Rattle.sheets.specs.Dates.{dates_fit}
@@ -8,8 +8,8 @@ use Rattle.drafts.specs.Message.{length_of, reading_of}
 use Rattle.drafts.specs.History.{posted_all}
 use Rattle.orders.specs.Complete.{completing, completed, complete_answer}
 use Rattle.orders.specs.Whole.{Whole}
-use Rattle.orders.specs.declared.complete.Completed.{Completed}
-use Rattle.orders.specs.declared.complete.Completed.TheVariants.{Filled}
+use Rattle.orders.specs.declared.complete.Filled.{Filled}
+use Rattle.orders.specs.declared.complete.Incomplete.{Incomplete}
 
 -- the first message: "2 + L bytes or what is left if that is less"
 unfoldable pub piece_of : List ℕ → List ℕ
@@ -46,11 +46,11 @@ pub data Parted : List ℕ → List (List ℕ) → Type 0 where
 
 -- the promise of `complete_stream`: posting the messages of i to a fresh draft, and completing that into a buffer that held b,
 -- returned r and left t
-pub record Streams (D : Dates) (i b : List ℕ) (r : Completed) (t : List ℕ) : Type 0 where
+pub record Streams (D : Dates) (i b : List ℕ) (r : Result Filled Incomplete) (t : List ℕ) : Type 0 where
   pub answer : complete_answer r ≡ completing D (posted_all (messages_of i)) b
   pub sheet : t ≡ completed D (posted_all (messages_of i)) b
   -- "A refused call changes none of them"; "output: a sheet not of 390"
-  pub refused : ((n set k : ℕ) → r ≡ Filled n set k → ⊥) → t ≡ b
+  pub refused : ((f : Filled) → r ≡ Ok f → ⊥) → t ≡ b
   pub sized : (number_of (complete_answer r) ≡ 7) ↔ (length b ≡ sheet_size → ⊥)
   pub undated : length b ≡ sheet_size → (number_of (complete_answer r) ≡ 12) ↔ (dates_fit D ≡ false)
   -- what the messages are: the stream ends after a 2, and goes on after every other answer

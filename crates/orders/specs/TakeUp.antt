@@ -1,6 +1,7 @@
 -- R-9: taking up part of a proposal, by a draft, a proposed sheet and a set of slots.
-use Rattle.std.specs.Prelude.{◌≡◌, Bool, true, not, cond, ◌&&◌, ◌||◌, List, [], ◌∷◌, ◌++◌, ℕ, zero, suc, ◌+◌, ◌/◌, ◌%◌, ◌^◌, ◌<◌, eqb, ltb, length}
+use Rattle.std.specs.Prelude.{◌≡◌, Bool, true, not, cond, ◌&&◌, ◌||◌, List, [], ◌∷◌, ◌++◌, ℕ, zero, suc, ◌+◌, ◌/◌, ◌%◌, ◌^◌, ◌<◌, eqb, ltb, length, Result, Ok, Err}
 use Rattle.texts.specs.Texts.{every, blank}
+use Rattle.texts.specs.Refusals.{refusal_number}
 use Rattle.texts.specs.Answers.{Answer, success, refusal, Test, ◌refuses◌, ◌refuses◌with◌, answer_by, buffer_by}
 use Rattle.sheets.specs.Sheet.{slots, slot_count, sheet_size, field_in, text_of, given, well_formed}
 use Rattle.sheets.specs.declared.dates.Dates.{Dates}
@@ -12,8 +13,8 @@ use Rattle.drafts.specs.declared.revision.Revision.{Revision}
 use Rattle.orders.specs.Fillings.{list_of}
 use Rattle.orders.specs.Complete.{completing, completed}
 use Rattle.orders.specs.Again.{CompletesAgain}
-use Rattle.orders.specs.declared.take_up.TakenUp.{TakenUp}
-use Rattle.orders.specs.declared.take_up.TakenUp.TheVariants.{Made, Unfit, Refused}
+use Rattle.orders.specs.declared.take_up.Untaken.{Untaken}
+use Rattle.orders.specs.declared.take_up.Untaken.TheVariants.{Unfit, Refused}
 
 -- slot i is in a set: its bit i is 1
 abbrev pub in_set : ℕ → ℕ → Bool
@@ -69,29 +70,29 @@ taking D d t set = answer_by (take_tests D d t set) []
 unfoldable pub taken_into : Dates → List ℕ → List ℕ → ℕ → List ℕ
 taken_into D d t set = buffer_by (take_tests D d t set) (posted_from d (proposals d t set slot_count)) d
 
-unfoldable pub take_answer : TakenUp → Answer
-take_answer Made = success []
-take_answer (Unfit f) = refusal 20 (f.0 ∷ [])
-take_answer (Refused n) = refusal n.0 []
+unfoldable pub take_answer : Result Unit Untaken → Answer
+take_answer (Ok u) = success []
+take_answer (Err (Unfit f)) = refusal 20 (f.0 ∷ [])
+take_answer (Err (Refused n)) = refusal (refusal_number n) []
 
 -- the promise of `take_up`: of the draft d, the sheet t and the set it answered r and left e
-pub record TakesUp (D : Dates) (d t : List ℕ) (set : ℕ) (r : TakenUp) (e : List ℕ) : Type 0 where
+pub record TakesUp (D : Dates) (d t : List ℕ) (set : ℕ) (r : Result Unit Untaken) (e : List ℕ) : Type 0 where
   pub answer : take_answer r ≡ taking D d t set
   pub draft : e ≡ taken_into D d t set
   -- a refusal changes nothing, not even some of the slots
-  pub refused : (r ≡ Made → ⊥) → e ≡ d
+  pub refused : (r ≡ Ok tt → ⊥) → e ≡ d
   -- each slot of the set holds the sheet's text, with the revision after its own, as the adviser's; every other slot is as it was
-  pub slot : r ≡ Made → (i : ℕ) → i < slot_count → slot_in e i ≡ cond (in_set set i) (slot_bytes (next d i) (text_of t i)) (slot_in d i)
+  pub slot : r ≡ Ok tt → (i : ℕ) → i < slot_count → slot_in e i ≡ cond (in_set set i) (slot_bytes (next d i) (text_of t i)) (slot_in d i)
   -- every part of a proposal is taken up, where its "slots are below the greatest revision"
   pub made :
       (b : List ℕ) (n all k : ℕ)
       → completing D d b ≡ success (n ∷ all ∷ k ∷ [])
       → completed D d b ≡ t
       → ((i : ℕ) → i < slot_count + 1 → in_set set i ≡ true → (in_set all i ≡ true) × ((slot_revision (slot_in d i)).number < greatest))
-      → r ≡ Made
+      → r ≡ Ok tt
   -- "At the same date and record the draft must then complete to the very same sheet, and its count must be no larger than before"
   pub again :
-      r ≡ Made
+      r ≡ Ok tt
       → (b : List ℕ) (n all k : ℕ)
       → completing D d b ≡ success (n ∷ all ∷ k ∷ [])
       → completed D d b ≡ t

@@ -1,5 +1,5 @@
 -- Demand 3, entire: one claim about a list of messages, the draft that posting them leaves, and completing that draft.
-use Rattle.std.specs.Prelude.{◌≡◌, ◌↔◌, true, false, List, [], ◌∷◌, ◌++◌, ℕ, length, get_or}
+use Rattle.std.specs.Prelude.{◌≡◌, ◌↔◌, true, false, List, [], ◌∷◌, ◌++◌, ℕ, length, get_or, Result, Ok}
 use Rattle.texts.specs.Texts.{every}
 use Rattle.texts.specs.Numbers.{Bytes}
 use Rattle.texts.specs.Answers.{Answer, success, refusal, number_of}
@@ -14,8 +14,8 @@ use Rattle.drafts.specs.Promises.{Postings, Held}
 use Rattle.orders.specs.Fillings.{Filling, FirstFilling, All, FilledSet}
 use Rattle.orders.specs.Again.{Choice, chosen_by, CompletesAgain}
 use Rattle.orders.specs.Complete.{budget_payment, completing, completed, complete_answer}
-use Rattle.orders.specs.declared.complete.Completed.{Completed}
-use Rattle.orders.specs.declared.complete.Completed.TheVariants.{Filled}
+use Rattle.orders.specs.declared.complete.Filled.{Filled}
+use Rattle.orders.specs.declared.complete.Incomplete.{Incomplete}
 
 -- the first value of an answer, the count
 abbrev pub count_of : Answer → ℕ
@@ -60,11 +60,11 @@ pub record Whole (D : Dates) (ms : List (List ℕ)) (d b : List ℕ) (a : Answer
   pub unpaid : length b ≡ sheet_size → dates_fit D ≡ true → budget_payment D (draft_sheet d) ≡ false → Unpaid D (draft_sheet d) a
 
 -- the promise of `complete`: completing d into a buffer that held b returned r and left t
-pub record Completes (D : Dates) (d b : List ℕ) (r : Completed) (t : List ℕ) : Type 0 where
+pub record Completes (D : Dates) (d b : List ℕ) (r : Result Filled Incomplete) (t : List ℕ) : Type 0 where
   pub answer : complete_answer r ≡ completing D d b
   pub sheet : t ≡ completed D d b
   -- "A refused call changes none of them"
-  pub refused : ((n set k : ℕ) → r ≡ Filled n set k → ⊥) → t ≡ b
+  pub refused : ((f : Filled) → r ≡ Ok f → ⊥) → t ≡ b
   -- "draft or sheet malformed"; "output: a sheet not of 390"
   pub malformed : (number_of (complete_answer r) ≡ 1) ↔ (draft_formed d ≡ false)
   pub sized : draft_formed d ≡ true → (number_of (complete_answer r) ≡ 7) ↔ (length b ≡ sheet_size → ⊥)

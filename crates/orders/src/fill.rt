@@ -8,13 +8,13 @@ ghost use Rattle.drafts.specs.Working.Steps.{length_in};
 ghost use Rattle.sheets.specs.declared.dates.Dates.{Dates};
 ghost use Rattle.orders.specs.Fillings.{set_of};
 
+use crate::entry::list_in;
 use crate::search::Pick;
 use drafts::draft::length_in;
 use sheets::dates::Dates;
 use sheets::entries::{basis_row, status_row, zero_row};
-use sheets::sheet::{CELL_SIZE, SHEET_SIZE, text};
+use sheets::sheet::{CELL_SIZE, SHEET_SIZE, SLOT_COUNT, text};
 use texts::buffers::put;
-use texts::parts::wide;
 
 fn row_cell(row: [u8; 3]) -> [u8; CELL_SIZE]
     ensures { result ≡ row_cell row }
@@ -32,21 +32,20 @@ fn fill_slot(sheet: &mut [u8], slot: u8, row: [u8; 3])
 {
     if text(sheet, slot).len() == 0 {
         let cell = row_cell(row);
-        put(sheet, wide(slot) * CELL_SIZE, &cell);
+        put(sheet, usize::from(slot) * CELL_SIZE, &cell);
     }
 }
 
 // "0" into 22, 60, 102, 104, 105 and 107.
+const ZERO_SLOTS: [u8; 6] = [3, 4, 7, 9, 10, 12];
+
 pub(crate) fn fill_zeros(sheet: &mut [u8])
     ensures { sheet.new ≡ base_of sheet.old }
 {
     let row = zero_row(0);
-    fill_slot(sheet, 3, row);
-    fill_slot(sheet, 4, row);
-    fill_slot(sheet, 7, row);
-    fill_slot(sheet, 9, row);
-    fill_slot(sheet, 10, row);
-    fill_slot(sheet, 12, row);
+    for slot in ZERO_SLOTS {
+        fill_slot(sheet, slot, row);
+    }
 }
 
 // The picked entries into 101, 106, 108 and 109.
@@ -69,28 +68,15 @@ pub(crate) fn fill_found(sheet: &mut [u8; SHEET_SIZE], pick: Pick, dates: Dates,
     fill_picked(sheet, pick, dates);
 }
 
-// A slot's bit, if the length of its text is 0.
-fn bit_of(draft: &[u8], slot: u8, bit: u16) -> u16
-    ensures { (result ≡ cond (eqb (length_in draft.now slot) 0) bit 0) × (result ≤ bit) }
-{
-    if length_in(draft, slot) == 0 {
-        return bit;
-    }
-    0
-}
-
 // "A 16-bit set of the filled slots (bit i for slot i)": those that have a list and are blank, of a draft that is well formed.
 pub(crate) fn filled_set(draft: &[u8]) -> u16
     ensures { (D : Dates) → draft_formed draft.now ≡ true → result ≡ set_of D (draft_sheet draft.now) }
 {
-    bit_of(draft, 3, 8)
-        + bit_of(draft, 4, 16)
-        + bit_of(draft, 6, 64)
-        + bit_of(draft, 7, 128)
-        + bit_of(draft, 9, 512)
-        + bit_of(draft, 10, 1024)
-        + bit_of(draft, 11, 2048)
-        + bit_of(draft, 12, 4096)
-        + bit_of(draft, 13, 8192)
-        + bit_of(draft, 14, 16384)
+    let mut set = 0;
+    for slot in 0..SLOT_COUNT {
+        if list_in(slot).is_some() && length_in(draft, slot) == 0 {
+            set += 1 << slot;
+        }
+    }
+    set
 }

@@ -4,6 +4,7 @@ pub mod complete;
 pub mod entry;
 pub mod fill;
 pub mod origins;
+mod payment;
 pub mod pretest;
 pub mod quick;
 pub mod search;

@@ -3,38 +3,34 @@ ghost use Rattle.std.specs.Prelude.{◌≡◌, List, [], ◌∷◌, ◌++◌, �
 ghost use Rattle.orders.specs.Origins.{Origins};
 ghost use Rattle.orders.specs.Working.Winners.{Won};
 
-use crate::stream::{ends_stream, piece};
-use drafts::message::{Reading, read};
+use crate::stream::Messages;
+use drafts::message::read;
 use sheets::sheet::slot_of;
-use texts::parts::{part, wide};
 
 // "Fifteen fields, in slots 0 to 14".
 pub const PLACES: usize = 15;
 
-// For each slot the message that wins it: its revision and party as one number, and its number in the list; 0 and 0 where none names its field.
+// The message that wins a slot: its revision and party as one number, and its number in the list; 0 and 0 where none names its field.
 #[derive(Clone, Copy)]
-struct Winners {
-    ranks: [u64; PLACES],
-    numbers: [u64; PLACES],
+struct Winner {
+    rank: u64,
+    number: u64,
 }
 
-// The winners with one message more, which has a number. Only one that is above what its slot holds wins it: among equals the first stays.
-fn with_message(winners: Winners, message: &[u8], number: u64) -> Winners
-    ensures { (ms : List (List ℕ)) → number ≡ length ms + 1 → Won ms winners → Won (ms ++ (message.now ∷ [])) result }
+const NONE: Winner = Winner { rank: 0, number: 0 };
+
+// One message more, which has a number. Only one that is above what its slot holds wins it: among equals the first stays.
+fn note(winners: &mut [Winner; PLACES], message: &[u8], number: u64)
+    ensures { (ms : List (List ℕ)) → number ≡ length ms + 1 → Won ms winners.old → Won (ms ++ (message.now ∷ [])) winners.new }
 {
-    let reading = read(message);
-    let Reading::Message(_, field, revision) = reading else {
-        return winners;
+    let Ok(heading) = read(message) else {
+        return;
     };
-    let slot = wide(slot_of(field));
-    let rank = revision.rank();
-    if rank <= winners.ranks[slot] {
-        return winners;
+    let slot = usize::from(slot_of(heading.field));
+    let rank = heading.revision.rank();
+    if winners[slot].rank < rank {
+        winners[slot] = Winner { rank, number };
     }
-    let mut next = winners;
-    next.ranks[slot] = rank;
-    next.numbers[slot] = number;
-    next
 }
 
 // The number of the message, from 1, whose revision, party and text each slot holds after all of them were posted to a fresh draft; 0 where
@@ -42,20 +38,11 @@ fn with_message(winners: Winners, message: &[u8], number: u64) -> Winners
 pub fn origins(input: &[u8]) -> [u64; PLACES]
     ensures { Origins input.now result }
 {
-    let mut winners = Winners {
-        ranks: [0u64; PLACES],
-        numbers: [0u64; PLACES],
-    };
-    let mut number: u64 = 0;
-    let mut from = 0;
-    while from < input.len() {
-        let message = piece(part(input, from, input.len()));
+    let mut winners = [NONE; PLACES];
+    let mut number = 0;
+    for message in Messages::of(input) {
         number += 1;
-        winners = with_message(winners, message, number);
-        if ends_stream(message) {
-            return winners.numbers;
-        }
-        from += message.len();
+        note(&mut winners, message, number);
     }
-    winners.numbers
+    winners.map(|winner| winner.number)
 }

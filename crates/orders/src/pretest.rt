@@ -3,44 +3,36 @@ ghost use Rattle.sheets.specs.declared.dates.Dates.{Dates};
 ghost use Rattle.orders.specs.Pretest.{Pretests};
 
 use crate::fill::{fill_picked, fill_zeros};
+use crate::payment::facts_of_payment;
 use crate::search::Pick;
 use drafts::draft::{put_sheet, well_formed};
-use rules::check::{broken_ahead, broken_basic};
-use rules::class::is_budget;
+use rules::check::{Rejection, broken_ahead};
 use rules::rules::{RuleNumber, field_of};
 use sheets::dates::program_dates;
 use sheets::facts::facts_of;
 use sheets::sheet::{Field, SHEET_SIZE};
 use texts::answers::Refusal;
 
-// The first of its rules that all fillings break, with its field; none; 8; 1 or 9.
+// A rule that all fillings break, with its field.
 #[derive(Clone, Copy)]
-pub enum Pretested {
-    Named(Field, RuleNumber),
-    Unnamed,
-    Broken(Field, RuleNumber),
-    Refused(Refusal),
+pub struct Named {
+    pub field: Field,
+    pub rule: RuleNumber,
 }
 
-// A rule of the test has one verdict for all fillings, whatever the dates allow, so that the first filling at some dates is looked at.
-pub fn pretest(draft: &[u8]) -> Pretested
+// The first of its rules that all fillings break, or none; 8; 1 or 9. A rule of the test has one verdict for all fillings, whatever the dates
+// allow, so that the first filling at some dates is looked at.
+pub fn pretest(draft: &[u8]) -> Result<Option<Named>, Rejection>
     ensures { (D : Dates) → Pretests D draft.now result }
 {
     let mut work = [0u8; SHEET_SIZE];
     put_sheet(draft, &mut work);
     if !well_formed(draft) {
-        return Pretested::Refused(Refusal(1));
+        return Err(Rejection::Refused(Refusal::Malformed));
     }
     fill_zeros(&mut work);
     let dates = program_dates();
-    let f = facts_of(&work, dates);
-    let broken = broken_basic(f);
-    if broken.0 != 0 {
-        return Pretested::Broken(field_of(broken, &work), broken);
-    }
-    if !is_budget(f) {
-        return Pretested::Refused(Refusal(9));
-    }
+    facts_of_payment(&work, dates)?;
     let first = Pick {
         status: 0,
         basis: 0,
@@ -48,9 +40,11 @@ pub fn pretest(draft: &[u8]) -> Pretested
         day: 0,
     };
     fill_picked(&mut work, first, dates);
-    let named = broken_ahead(facts_of(&work, dates));
-    if named.0 == 0 {
-        return Pretested::Unnamed;
+    match broken_ahead(facts_of(&work, dates)) {
+        None => Ok(None),
+        Some(rule) => Ok(Some(Named {
+            field: field_of(rule, &work),
+            rule,
+        })),
     }
-    Pretested::Named(field_of(named, &work), named)
 }

@@ -1,15 +1,15 @@
 // Completion, with how many statuses the search passed over whole (R-14).
+ghost use Rattle.std.specs.Prelude.{◌≡◌, ℕ, List, length, Ok, Err};
 ghost use Rattle.orders.specs.Skipping.{Quickens};
+ghost use Rattle.orders.specs.Working.Paying.{Ready};
 
-use crate::complete::Completed;
+use crate::complete::{Filled, Incomplete};
 use crate::fill::{fill_found, fill_zeros, filled_set};
-use crate::search::{Found, search};
+use crate::payment::facts_of_payment;
+use crate::search::search;
 use drafts::draft::{put_sheet, well_formed};
-use rules::check::broken_basic;
-use rules::class::is_budget;
-use rules::rules::field_of;
 use sheets::dates::{Dates, are_fit};
-use sheets::facts::facts_of;
+use sheets::facts::Facts;
 use sheets::sheet::SHEET_SIZE;
 use texts::answers::Refusal;
 use texts::buffers::put;
@@ -17,67 +17,64 @@ use texts::buffers::put;
 // What `complete` returns; and, with a sheet or 10, how many statuses were skipped, else 0.
 #[derive(Clone, Copy)]
 pub struct Quickened {
-    pub completed: Completed,
+    pub completed: Result<Filled, Incomplete>,
     pub skipped: usize,
 }
 
-// "0" goes into the fields that take nothing else first, and leaves 14, 15 and 17, so that the facts are read once.
+// The facts of a draft that can be completed, into a buffer of a size; its sheet goes into the work. "0" goes into the fields that take
+// nothing else first, and leaves 14, 15 and 17, so that the facts are read once.
+fn ready(
+    draft: &[u8],
+    size: usize,
+    dates: Dates,
+    work: &mut [u8; SHEET_SIZE],
+) -> Result<Facts, Incomplete>
+    ensures { Ready dates draft.now size result work.new }
+{
+    put_sheet(draft, work);
+    if !well_formed(draft) {
+        return Err(Incomplete::Refused(Refusal::Malformed));
+    }
+    if size != SHEET_SIZE {
+        return Err(Incomplete::Refused(Refusal::WrongSize));
+    }
+    if !are_fit(dates) {
+        return Err(Incomplete::Refused(Refusal::Undated));
+    }
+    fill_zeros(work);
+    let facts = facts_of_payment(work, dates)?;
+    Ok(facts)
+}
+
 pub fn quick(draft: &[u8], sheet: &mut [u8], dates: Dates) -> Quickened
     ensures { Quickens dates draft.now sheet.old result sheet.new }
 {
     let mut work = [0u8; SHEET_SIZE];
-    put_sheet(draft, &mut work);
-    if !well_formed(draft) {
-        return Quickened {
-            completed: Completed::Refused(Refusal(1)),
-            skipped: 0,
-        };
-    }
-    if sheet.len() != SHEET_SIZE {
-        return Quickened {
-            completed: Completed::Refused(Refusal(7)),
-            skipped: 0,
-        };
-    }
-    if !are_fit(dates) {
-        return Quickened {
-            completed: Completed::Refused(Refusal(12)),
-            skipped: 0,
-        };
-    }
-    fill_zeros(&mut work);
-    let f = facts_of(&work, dates);
-    let broken = broken_basic(f);
-    if broken.0 != 0 {
-        return Quickened {
-            completed: Completed::Broken(field_of(broken, &work), broken),
-            skipped: 0,
-        };
-    }
-    if !is_budget(f) {
-        return Quickened {
-            completed: Completed::Refused(Refusal(9)),
-            skipped: 0,
-        };
-    }
-    match search(f) {
-        Found::Nothing(count, skipped) => Quickened {
-            completed: Completed::Impossible(count),
-            skipped: skipped,
-        },
-        Found::Place(count, pick, skipped) => {
-            let set = filled_set(draft);
-            let success = Completed::Filled {
-                count: count,
-                set: set,
-                ones: u16::count_ones(set),
+    let facts = match ready(draft, sheet.len(), dates, &mut work) {
+        Ok(facts) => facts,
+        Err(refused) => {
+            return Quickened {
+                completed: Err(refused),
+                skipped: 0,
             };
+        }
+    };
+    let found = search(facts);
+    let completed = match found.pick {
+        None => Err(Incomplete::Impossible(found.count)),
+        Some(pick) => {
+            let set = filled_set(draft);
             fill_found(&mut work, pick, dates, set);
             put(sheet, 0, &work);
-            Quickened {
-                completed: success,
-                skipped: skipped,
-            }
+            Ok(Filled {
+                count: found.count,
+                set,
+                ones: set.count_ones(),
+            })
         }
+    };
+    Quickened {
+        completed,
+        skipped: found.skipped,
     }
 }

@@ -34,12 +34,13 @@ pub struct Pick {
     pub day: usize,
 }
 
-// The count of fillings up to and including the first that keeps the rules, where its entries stand, and how many statuses up to its own
-// were skipped; or the count of all, and how many of all were skipped.
+// Where the entries of the first filling that keeps the rules stand, the count of fillings up to and including it, and how many statuses up
+// to its own were skipped; where none keeps them, the count of all, and how many of all were skipped.
 #[derive(Clone, Copy)]
-pub enum Found {
-    Place(usize, Pick, usize),
-    Nothing(usize, usize),
+pub struct Found {
+    pub pick: Option<Pick>,
+    pub count: usize,
+    pub skipped: usize,
 }
 
 // What a status comes to: how many entries of 106 are gone through, and how many fillings and statuses are passed over.
@@ -56,14 +57,14 @@ fn pace_of(kept: bool, bases: usize, fillings: usize) -> Pace
 {
     if kept {
         Pace {
-            bases: bases,
+            bases,
             fillings: 0,
             statuses: 0,
         }
     } else {
         Pace {
             bases: 0,
-            fillings: fillings,
+            fillings,
             statuses: 1,
         }
     }
@@ -94,53 +95,49 @@ fn walk_kept(f: Facts) -> Found
 {
     let mut count: usize = 0;
     let mut skipped: usize = 0;
-    let mut pick = Pick {
-        status: 0,
-        basis: 0,
-        document: 0,
-        day: 0,
-    };
-    let mut found = false;
     let n101 = statuses_of(f);
     let n106 = width_of(blank_basis(f), BASIS_COUNT);
     let n108 = width_of(blank_document(f), ZERO_COUNT);
     let n109 = width_of(blank_day(f), ZERO_COUNT);
     let each = fillings_of(f);
-    'statuses: for a in 0..n101 {
+    for a in 0..n101 {
         let f1 = fill_status(f, a);
         let kept1 = kept_status(f1);
         let pace = pace_of(kept1, n106, each);
         count += pace.fillings;
         skipped += pace.statuses;
-        let m106 = pace.bases;
-        'bases: for b in 0..m106 {
+        for b in 0..pace.bases {
             let f2 = fill_basis(f1, f, b);
             let kept2 = kept1 & kept_basis(f2);
-            'documents: for c in 0..n108 {
+            for c in 0..n108 {
                 let f3 = fill_document(f2, f, c);
                 let kept3 = kept2 & kept_document(f3);
-                'days: for d in 0..n109 {
+                for d in 0..n109 {
                     let f4 = fill_day(f3, f, d);
                     let kept4 = kept3 & kept_day(f4);
                     count += 1;
                     if kept4 {
-                        pick = Pick {
+                        let pick = Pick {
                             status: a,
                             basis: b,
                             document: c,
                             day: d,
                         };
-                        found = true;
-                        break 'statuses;
+                        return Found {
+                            pick: Some(pick),
+                            count,
+                            skipped,
+                        };
                     }
                 }
             }
         }
     }
-    if found {
-        return Found::Place(count, pick, skipped);
+    Found {
+        pick: None,
+        count,
+        skipped,
     }
-    Found::Nothing(count, skipped)
 }
 
 // Where a rule is broken that has one verdict for all fillings, as those of the test ahead have (R-3), no filling is looked at: every status is
@@ -150,7 +147,11 @@ pub(crate) fn search(f: Facts) -> Found
 {
     if !kept_fixed(f) {
         let statuses = statuses_of(f);
-        return Found::Nothing(statuses * fillings_of(f), statuses);
+        return Found {
+            pick: None,
+            count: statuses * fillings_of(f),
+            skipped: statuses,
+        };
     }
     walk_kept(f)
 }

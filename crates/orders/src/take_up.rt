@@ -9,24 +9,20 @@ ghost use Rattle.orders.specs.Fillings.{list_of};
 ghost use Rattle.orders.specs.TakeUp.{in_set, greatest, fit, next, proposals, TakesUp};
 ghost use Rattle.orders.specs.Working.Upto.{FirstUnfit, Postable};
 
+use crate::entry::list_in;
 use drafts::draft::{put_text, revision_in, text_in};
 use drafts::revision::{ADVISER, Party, Revision};
 use sheets::sheet::{Field, SHEET_SIZE, SLOT_COUNT, field_in, text};
 use texts::answers::Refusal;
-use texts::parts::{at, wide};
 
 const GREATEST: u32 = 4294967295;
 
 // The slots, and a place of the set that is no slot's.
 const PLACES: u8 = SLOT_COUNT + 1;
 
-// 1 for a slot whose field has a list.
-const LISTED: [u8; 15] = [0, 0, 0, 1, 1, 0, 1, 1, 0, 1, 1, 1, 1, 1, 1];
-
-// The values are posted; 20 with the field of a slot that can't take up its value; 1 or 7.
+// Why no value is posted: 20 with the field of a slot that can't take up its value; 1 or 7.
 #[derive(Clone, Copy)]
-pub enum TakenUp {
-    Made,
+pub enum Untaken {
     Unfit(Field),
     Refused(Refusal),
 }
@@ -41,7 +37,7 @@ fn is_in_set(set: u16, slot: u8) -> bool
 fn has_list(slot: u8) -> bool
     ensures { (D : Dates) → result ≡ ltb 0 (length (list_of D slot)) }
 {
-    at(&LISTED, wide(slot)) == 1
+    list_in(slot).is_some()
 }
 
 fn is_fit(draft: &[u8], sheet: &[u8], slot: u8) -> bool
@@ -51,18 +47,16 @@ fn is_fit(draft: &[u8], sheet: &[u8], slot: u8) -> bool
         & ((text(sheet, slot).len() != 0) & (revision_in(draft, slot).number < GREATEST))
 }
 
-// The first place of the set whose slot can't take up its value; one past the last where each can.
-fn first_unfit(draft: &[u8], sheet: &[u8], set: u16) -> u8
+// The first place of the set whose slot can't take up its value; none where each can.
+fn first_unfit(draft: &[u8], sheet: &[u8], set: u16) -> Option<u8>
     ensures { (D : Dates) → FirstUnfit D draft.now sheet.now set result }
 {
-    let mut slot: u8 = 0;
-    while slot < PLACES {
+    for slot in 0..PLACES {
         if is_in_set(set, slot) & !is_fit(draft, sheet, slot) {
-            return slot;
+            return Some(slot);
         }
-        slot += 1;
     }
-    PLACES
+    None
 }
 
 // Puts a slot's proposed text into it, as the adviser's, with the revision after the one that it has: that is what posting it comes to.
@@ -83,32 +77,31 @@ fn take_all(draft: &mut [u8], sheet: &[u8], set: u16)
     requires { Postable draft.old sheet.now set }
     ensures { draft.new ≡ posted_from draft.old (proposals draft.old sheet.now set slot_count) }
 {
-    let mut slot: u8 = 0;
-    while slot < SLOT_COUNT {
+    for slot in 0..SLOT_COUNT {
         if is_in_set(set, slot) {
             take(draft, sheet, slot);
         }
-        slot += 1;
     }
 }
 
-// All slots are tested before the first value is posted.
-pub fn take_up(draft: &mut [u8], sheet: &[u8], set: u16) -> TakenUp
+// The values are posted. All slots are tested before the first of them is.
+pub fn take_up(draft: &mut [u8], sheet: &[u8], set: u16) -> Result<(), Untaken>
     ensures { (D : Dates) → TakesUp D draft.old sheet.now set result draft.new }
 {
     if !drafts::draft::well_formed(draft) {
-        return TakenUp::Refused(Refusal(1));
+        return Err(Untaken::Refused(Refusal::Malformed));
     }
     if sheet.len() != SHEET_SIZE {
-        return TakenUp::Refused(Refusal(7));
+        return Err(Untaken::Refused(Refusal::WrongSize));
     }
     if !sheets::sheet::well_formed(sheet) {
-        return TakenUp::Refused(Refusal(1));
+        return Err(Untaken::Refused(Refusal::Malformed));
     }
-    let unfit = first_unfit(draft, sheet, set);
-    if unfit < PLACES {
-        return TakenUp::Unfit(field_in(unfit));
+    match first_unfit(draft, sheet, set) {
+        Some(slot) => Err(Untaken::Unfit(field_in(slot))),
+        None => {
+            take_all(draft, sheet, set);
+            Ok(())
+        }
     }
-    take_all(draft, sheet, set);
-    TakenUp::Made
 }

@@ -1,11 +1,11 @@
 pub mod Each
 pub mod Before
 pub mod Order
-pub mod Putting
 pub mod Paying
 pub mod Placing
 pub mod Differing
 pub mod InRange
-pub mod Queueing
+pub mod Sorting
+pub mod Gathering
 pub mod Refusing
 pub mod Leaving

@@ -1,2 +1,2 @@
 -- How the code works: a reader of the promises needs none of this.
-pub mod Keys
+pub mod Records

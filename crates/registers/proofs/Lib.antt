@@ -1,6 +1,4 @@
 pub mod Pooling
 pub mod Registers
-pub mod Finding
-pub mod Differences
 pub mod Outputs
 pub mod Promises

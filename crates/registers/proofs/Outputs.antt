@@ -7,10 +7,11 @@ use Prim.Native.Nat.{ℕ, zero, suc, ◌+◌, ◌*◌, ◌/◌, ◌^◌, ◌≤�
 use native.Mathlib.Numerals.{add-one}
 use native.Mathlib.Omega.{arith}
 use borrow.Author.Tests.{eq-eqb}
-use lib.ListN.{length, take, drop, get_or, set, replicate, length-append, length-set, length-map, get_or-map}
+use lib.ListN.{length, take, drop, get_or, set, length-append, length-set, length-map, get_or-map}
 use lib.Seq.{drop-cons, take_at, drop_at, set-get_or, set_split, get_or-take, take-suc-set, map-set_same}
+use Rattle.std.specs.Prelude.{Option, Some, None}
 use Rattle.texts.specs.Quoted.{Text}
-use Rattle.texts.specs.Texts.{same, between, digits, digits_not_00, number}
+use Rattle.texts.specs.Texts.{same, digits, digits_not_00, number}
 use Rattle.texts.specs.Numbers.{Bytes, bytes_of}
 use Rattle.texts.specs.Buffers.{put}
 use Rattle.texts.specs.Working.Writing.{put_at}
@@ -138,9 +139,9 @@ pub record SoFar (t o : List ℕ) (i count : ℕ) (numbers output : List ℕ) : 
   pub known : take count numbers ≡ map inn_number (first t i)
   pub bytes : output ≡ put o 0 (lines_bytes (first t i))
 
-pub none_yet : (t o : List ℕ) → (register_right t ≡ true) × (10000 ≤ length o) → SoFar t o 0 0 (replicate 500 0) o
+pub none_yet : (t o : List ℕ) (count : ℕ) (numbers : List ℕ) → (register_right t ≡ true) × (10000 ≤ length o) → count ≡ 0 → length numbers ≡ 500 → SoFar t o 0 count numbers o
 unfolding pooled appearing lines_bytes
-none_yet t o a = record { asked = a; within = omega arith; few = omega arith; many = refl; room = refl; known = refl; bytes = sym (put-none o) }
+none_yet t o count numbers a z l = record { asked = a; within = omega arith; few = omega arith; many = z; room = l; known = rw z refl; bytes = sym (put-none o) }
 
 module _ {t o : List ℕ} {i count : ℕ} {numbers output : List ℕ} (s : SoFar t o i count numbers output) where
   abbrev all_right : lines_right (lines_of t) ≡ true
@@ -166,13 +167,13 @@ module _ {t o : List ℕ} {i count : ℕ} {numbers output : List ℕ} (s : SoFar
       (cc s.many, cc s.bytes)
 
 -- a turn of the loop: line i has the INN whose number n was looked for and found at `place`, or not
-pub record Turn (t o : List ℕ) (i count : ℕ) (numbers output : List ℕ) (n place : ℕ) : Type 0 where
+pub record Turn (t o : List ℕ) (i count : ℕ) (numbers output : List ℕ) (n : ℕ) (place : Option ℕ) : Type 0 where
   pub before : SoFar t o i count numbers output
   pub more : i < length t / 20
   pub inn : n ≡ number 12 (line_at t i).0
   pub finds : Finds numbers count n place
 
-module _ {t o : List ℕ} {i count : ℕ} {numbers output : List ℕ} {n place : ℕ} (w : Turn t o i count numbers output n place) where
+module _ {t o : List ℕ} {i count : ℕ} {numbers output : List ℕ} {n : ℕ} {place : Option ℕ} (w : Turn t o i count numbers output n place) where
   abbrev line : Line
   line = line_at t i
 
@@ -184,14 +185,15 @@ module _ {t o : List ℕ} {i count : ℕ} {numbers output : List ℕ} {n place :
       let m : j < length (map inn_number lines) = omega (arith, length-map lines inn_number, w.before.many, k) in
       cc (get_or-take count numbers j 0 k, w.before.known, drop-cons (map inn_number lines) j 0 m, drop-cons (map inn_number lines) j (inn_number ([], 0)) m, get_or-map inn_number lines j ([], 0))
 
-  known_at : place < count → HasAt line lines place
-  known_at k =
+  known_at : (k : ℕ) → place ≡ Some k → HasAt line lines k
+  known_at k p =
       let u = line.0 in
-      let v = (get_or lines place ([], 0)).0 in
-      let e : number 12 u ≡ number 12 v = sym w.inn ∙ sym (w.finds.found k) ∙ number_at place k in
+      let v = (get_or lines k ([], 0)).0 in
+      let f = w.finds.found k p in
+      let e : number 12 u ≡ number 12 v = sym w.inn ∙ sym f.1 ∙ number_at k f.0 in
       same_true v u (is_number 12 v u (digits-coded 12 u (inn-digits w.before w.more)) ∙ eq-eqb (number 12 u) (number 12 v) e)
 
-  has-none : count ≤ place → (j : ℕ) → j < length lines → HasAt line lines j → ⊥
+  has-none : place ≡ None → (j : ℕ) → j < length lines → HasAt line lines j → ⊥
   has-none k j l e =
       let m : j < count = omega (arith, w.before.many, l) in
       w.finds.missing k j m (number_at j m ∙ ap (number 12) e ∙ sym w.inn)
@@ -200,38 +202,41 @@ module _ {t o : List ℕ} {i count : ℕ} {numbers output : List ℕ} {n place :
   table-room = omega (arith, w.before.few, w.more, most-lines w.before)
 
   -- the INN is known: its sum grows
-  module _ (k : place < count) where
-    below : place < length lines
-    below = omega (arith, w.before.many, k)
+  module _ (at : ℕ) (p : place ≡ Some at) where
+    known : at < count
+    known = (w.finds.found at p).0
 
-    sum-small : (get_or lines place ([], 0)).1 ≤ 500000000000000
-    sum-small = omega (arith, at_most lines place below, pooled-total (take i (lines_of t)), total-most t w.before.asked.0 i w.before.within)
+    below : at < length lines
+    below = omega (arith, w.before.many, known)
 
-    sum-read : big_at output (place * 20 + 12) ≡ (get_or lines place ([], 0)).1
-    sum-read = ap (λ (d : List ℕ). big_at d (place * 20 + 12)) w.before.bytes ∙ read-sum o lines (pooled-sized (lines_of t) i (all_right w.before)) place below (omega (arith, sum-small))
+    sum-small : (get_or lines at ([], 0)).1 ≤ 500000000000000
+    sum-small = omega (arith, at_most lines at below, pooled-total (take i (lines_of t)), total-most t w.before.asked.0 i w.before.within)
 
-    pub add-asked : (v : ℕ) → v ≡ line.1 → (place * 20 + 20 ≤ length output) × (big_at output (place * 20 + 12) + v < 2 ^ 64)
+    sum-read : big_at output (at * 20 + 12) ≡ (get_or lines at ([], 0)).1
+    sum-read = ap (λ (d : List ℕ). big_at d (at * 20 + 12)) w.before.bytes ∙ read-sum o lines (pooled-sized (lines_of t) i (all_right w.before)) at below (omega (arith, sum-small))
+
+    pub add-asked : (v : ℕ) → v ≡ line.1 → (at * 20 + 20 ≤ length output) × (big_at output (at * 20 + 12) + v < 2 ^ 64)
     add-asked v e = (
-      omega (arith, kept-long w.before, w.before.asked.1, w.before.few, w.before.within, most-lines w.before, k),
+      omega (arith, kept-long w.before, w.before.asked.1, w.before.few, w.before.within, most-lines w.before, known),
       omega (arith, sum-read, sum-small, e, total-next t i w.more, total-most t w.before.asked.0 (i + 1) (omega (arith, w.more))),
     )
 
-    pub sum-grown : (v : ℕ) (e : List ℕ) → v ≡ line.1 → e ≡ put output (place * 20 + 12) (bytes_of 8 (big_at output (place * 20 + 12) + v)) → SoFar t o (i + 1) count numbers e
+    pub sum-grown : (v : ℕ) (e : List ℕ) → v ≡ line.1 → e ≡ put output (at * 20 + 12) (bytes_of 8 (big_at output (at * 20 + 12) + v)) → SoFar t o (i + 1) count numbers e
     sum-grown v e ev ee =
-        let p = get_or lines place ([], 0) in
-        let q : first t (i + 1) ≡ set lines place (p.0, p.1 + line.1) = ap pooled (lines_next t i w.more) ∙ pooled-at line (take i (lines_of t)) place below (known_at k) in
+        let l = get_or lines at ([], 0) in
+        let q : first t (i + 1) ≡ set lines at (l.0, l.1 + line.1) = ap pooled (lines_next t i w.more) ∙ pooled-at line (take i (lines_of t)) at below (known_at at p) in
         record {
           asked = w.before.asked;
           within = omega (arith, w.more);
           few = omega (arith, w.before.few);
-          many = cc (w.before.many, q, length-set lines place (p.0, p.1 + line.1));
+          many = cc (w.before.many, q, length-set lines at (l.0, l.1 + line.1));
           room = w.before.room;
-          known = cc (w.before.known, q, map-set_same inn_number lines place (p.0, p.1 + line.1) ([], 0) refl);
-          bytes = cc (ee, w.before.bytes, sum-read, ev, put-sum o lines (pooled-sized (lines_of t) i (all_right w.before)) place below (p.1 + line.1), q);
+          known = cc (w.before.known, q, map-set_same inn_number lines at (l.0, l.1 + line.1) ([], 0) refl);
+          bytes = cc (ee, w.before.bytes, sum-read, ev, put-sum o lines (pooled-sized (lines_of t) i (all_right w.before)) at below (l.1 + line.1), q);
         }
 
   -- the INN is new: its line is copied
-  pub line-copied : count ≤ place → Bytes t → (e : List ℕ) → e ≡ put_at output (count * 20) (between t (i * 20) (i * 20 + 20)) → SoFar t o (i + 1) (count + 1) (set numbers count n) e
+  pub line-copied : place ≡ None → Bytes t → (e : List ℕ) → e ≡ put_at output (count * 20) (take 20 (drop (i * 20) t)) → SoFar t o (i + 1) (count + 1) (set numbers count n) e
   unfolding lines_bytes
   line-copied k f e ee =
       let q : first t (i + 1) ≡ lines ++ line ∷ [] = ap pooled (lines_next t i w.more) ∙ pooled-new line (take i (lines_of t)) (has-none k) in

@@ -16,14 +16,20 @@ use Rattle.texts.proofs.Puts.{mid-put, drop-put}
 use Rattle.texts.proofs.Refusals.{no-success, Way, way_out}
 use Rattle.registers.specs.Register.{Line, lines_bytes, lines_of, register_right, order_right, pooled, total_of}
 use Rattle.registers.specs.Pool.{output_size, more, less, pool_tests, pooling, pooled_to, pool_answer, HasLines, IsRegister, Pools}
-use Rattle.registers.specs.declared.pool.Pooled.{Pooled}
-use Rattle.registers.specs.declared.pool.Pooled.TheVariants.{Made, Differs, Refused}
+use Rattle.std.specs.Prelude.{Result, Ok, Err}
+use Rattle.texts.specs.Refusals.{refusal_number}
+use Rattle.texts.specs.declared.answers.Refusal.{Refusal}
+use Rattle.texts.specs.declared.answers.Refusal.TheVariants.{WrongSize, BadRegister}
+use Rattle.registers.specs.declared.pool.Unpooled.{Unpooled}
+use Rattle.registers.specs.declared.pool.Unpooled.TheVariants.{Differs, Refused}
 use Rattle.registers.proofs.Pooling.{pooled-total, is-pool}
 use Rattle.registers.proofs.Registers.{whole_of, lines-all, total-most, is-register, register-is}
-use Rattle.registers.proofs.Differences.{Difference}
 use Rattle.registers.proofs.Outputs.{lines_long, pooled-sized, at_most, read-inn, read-sum}
 
--- the difference as an integer
+-- the signed difference of two amounts
+abbrev Difference : ℕ → ℕ → ℤ → Type 0
+Difference t a r = (more r ≡ t - a) × (less r ≡ a - t)
+
 signed-sum : (s a : ℕ) (d : ℤ) → Difference s a d → pos s ≡ pos a +ℤ d
 signed-sum s a (pos m) (y, z) = let q : s ≡ a + m = omega arith in ap pos q
 signed-sum s a (negsuc m) (y, z) =
@@ -46,46 +52,46 @@ module _ (t : List ℕ) (a : ℕ) (o : List ℕ) where
   bytes = lines_bytes lines
 
   -- the answer and the output, by the way out
-  pool-out : (k : ℕ) (x : Pooled) (e : List ℕ) → Way (length lines ∷ []) (put o 0 bytes) o (pool_answer x) e ((pool_answer x ≡ pooling t a o) × (e ≡ pooled_to t a o)) k (pool_tests t a o)
+  pool-out : (k : ℕ) (x : Result ℕ Unpooled) (e : List ℕ) → Way (length lines ∷ []) (put o 0 bytes) o (pool_answer x) e ((pool_answer x ≡ pooling t a o) × (e ≡ pooled_to t a o)) k (pool_tests t a o)
   unfolding pooling pooled_to
   pool-out k x e = way_out _ _ _ _ e _ k (pool_tests t a o) (λ p q. (p, q))
 
   -- one of 7 and 16
-  refuses : (k : ℕ) → (1 ≤ k) × (k ≤ 16) → (refusal k [] ≡ pooling t a o) × (o ≡ pooled_to t a o)
-      → (length o < output_size → k ≡ 7) × (output_size ≤ length o → (k ≡ 16) × (IsRegister t a → ⊥)) → Pools t a o (Refused (record { 0 = k })) o
+  refuses : (j : Refusal) (k : ℕ) → refusal_number j ≡ k → (1 ≤ k) × (k ≤ 16) → (refusal k [] ≡ pooling t a o) × (o ≡ pooled_to t a o)
+      → (length o < output_size → k ≡ 7) × (output_size ≤ length o → (k ≡ 16) × (IsRegister t a → ⊥)) → Pools t a o (Err (Refused j)) o
   unfolding pool_answer
-  refuses k (low, high) p w = record {
-    answer = p.0;
+  refuses j k ej (low, high) p w = record {
+    answer = ap (λ (m : ℕ). refusal m []) ej ∙ p.0;
     output = p.1;
-    exactly = (λ z. absurd (omega arith), λ g. absurd ((w.1 g.0).1 g.1));
+    exactly = (λ z. absurd (omega (arith, z, ej)), λ g. absurd ((w.1 g.0).1 g.1));
     refused = λ n vs h. refl;
     others = λ n vs h. let q : n ≡ k = cc in rw q (w.0, λ l f. (w.1 l).0, λ l g. absurd ((w.1 l).1 g));
     differs = λ m l h. let q : k ≡ 17 = cc in absurd (omega arith);
-    made = λ n h. absurd (no-success k [] (n ∷ []) h);
-    holds = λ n h. absurd (no-success k [] (n ∷ []) (ap pool_answer h));
+    made = λ n h. absurd (no-success (refusal_number j) [] (n ∷ []) h);
+    holds = λ n h. absurd (no-success (refusal_number j) [] (n ∷ []) (ap pool_answer h));
     signed = λ d h. let f = ap pool_answer h in let q : k ≡ 17 = cc in absurd (omega arith);
-    number = λ n h. let q : n.0 ≡ k = cc in (λ l. q ∙ w.0 l, λ l. (q ∙ (w.1 l).0, (w.1 l).1), refl);
+    number = λ n h. let q : refusal_number n ≡ k = cc in (λ l. q ∙ w.0 l, λ l. (q ∙ (w.1 l).0, (w.1 l).1), refl);
   }
 
-  pub refused-7 : length o < output_size → Pools t a o (Refused (record { 0 = 7 })) o
+  pub refused-7 : length o < output_size → Pools t a o (Err (Refused WrongSize)) o
   unfolding pool_tests pool_answer
-  refused-7 l = refuses 7 (omega arith, omega arith) (pool-out 0 (Refused (record { 0 = 7 })) o (lt-ltb _ _ l) refl refl) (λ m. refl, λ m. absurd (omega arith))
+  refused-7 l = refuses WrongSize 7 refl (omega arith, omega arith) (pool-out 0 (Err (Refused WrongSize)) o (lt-ltb _ _ l) refl refl) (λ m. refl, λ m. absurd (omega arith))
 
-  pub refused-16 : output_size ≤ length o → (p q : Bool) → p ≡ register_right t → q ≡ order_right a → (p && q) ≡ false → Pools t a o (Refused (record { 0 = 16 })) o
+  pub refused-16 : output_size ≤ length o → (p q : Bool) → p ≡ register_right t → q ≡ order_right a → (p && q) ≡ false → Pools t a o (Err (Refused BadRegister)) o
   unfolding pool_tests pool_answer
   refused-16 l p q ep eq h =
       let s : (register_right t && order_right a) ≡ false = rw (← ep, ← eq) h in
-      refuses 16 (omega arith, omega arith) (pool-out 1 (Refused (record { 0 = 16 })) o (le-ltb _ _ l) (rw s) refl refl)
+      refuses BadRegister 16 refl (omega arith, omega arith) (pool-out 1 (Err (Refused BadRegister)) o (le-ltb _ _ l) (rw s) refl refl)
       (λ m. absurd (omega arith), λ m. (refl, λ g. true≢false (sym (register-is t a g) ∙ s)))
 
   module _ (w : Passed t a o) (s : ℕ) (es : s ≡ total) where
     right : IsRegister t a
     right = is-register t a w.right
 
-    pub differs-17 : (s ≡ a → ⊥) → (d : ℤ) → Difference s a d → Pools t a o (Differs d) o
+    pub differs-17 : (s ≡ a → ⊥) → (d : ℤ) → Difference s a d → Pools t a o (Err (Differs d)) o
     unfolding pool_tests pool_answer
     differs-17 n d f =
-        let p = pool-out 2 (Differs d) o (le-ltb _ _ w.room) (rw w.right) (rw (← es, ne_eqb s a n)) (rw (f.0, f.1, es)) refl in
+        let p = pool-out 2 (Err (Differs d)) o (le-ltb _ _ w.room) (rw w.right) (rw (← es, ne_eqb s a n)) (rw (f.0, f.1, es)) refl in
         record {
           answer = p.0;
           output = p.1;
@@ -99,10 +105,10 @@ module _ (t : List ℕ) (a : ℕ) (o : List ℕ) where
           number = λ k h. let g = ap pool_answer h in let z : ◌≡◌ {A = ℕ} 2 0 = cc in absurd (omega arith);
         }
 
-    pub made-0 : s ≡ a → (n : ℕ) (e : List ℕ) → (n ≡ length lines) × (e ≡ put o 0 bytes) → Pools t a o (Made n) e
+    pub made-0 : s ≡ a → (n : ℕ) (e : List ℕ) → (n ≡ length lines) × (e ≡ put o 0 bytes) → Pools t a o (Ok n) e
     unfolding pool_tests pool_answer
     made-0 q n e (en, ee) =
-        let p = pool-out 3 (Made n) e (le-ltb _ _ w.room) (rw w.right) (rw (← es, eq-eqb s a q)) (rw en) ee in
+        let p = pool-out 3 (Ok n) e (le-ltb _ _ w.room) (rw w.right) (rw (← es, eq-eqb s a q)) (rw en) ee in
         let no : (k : ℕ) (vs : List ℕ) → success (n ∷ []) ≡ refusal k vs → ⊥ = λ k vs h. no-success k vs (n ∷ []) (sym h) in
         let agree : total ≡ a = sym es ∙ q in
         let u = (both (register_right t) (order_right a) w.right).0 in
@@ -126,5 +132,5 @@ module _ (t : List ℕ) (a : ℕ) (o : List ℕ) where
           made = λ k h. let y : k ≡ n = cc in rw y (lines, sym en, ap (take (20 * n)) ee ∙ mid-put o 0 bytes (20 * n) b (omega arith), rest, pool, pooled-total (lines_of t) ∙ agree);
           holds = λ k h. let y : k ≡ n = cc in rw y (w.room, right, (lines_of t, lines, omega (arith, right.whole), right.lines, sym en, has, rw c at rest, pool, agree));
           signed = λ d h. absurd (no 17 (more d ∷ less d ∷ []) (ap pool_answer h));
-          number = λ k h. absurd (no k.0 [] (ap pool_answer h));
+          number = λ k h. absurd (no (refusal_number k) [] (ap pool_answer h));
         }

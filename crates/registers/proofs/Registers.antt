@@ -1,22 +1,23 @@
 -- A register's bytes as lines: where each stands, what the loops over them keep, and a right register taken apart.
 use mathlib.Core.Path.{◌≡◌, refl, ap, sym, ◌∙◌}
-use mathlib.Core.Bool.{true, ◌&&◌, and-true, and_assoc}
-use mathlib.Core.List.{List, [], ◌∷◌, ◌++◌}
-use Prim.Native.Nat.{ℕ, zero, suc, ◌+◌, ◌-◌, ◌*◌, ◌/◌, ◌%◌, ◌≤◌, ◌<◌}
-use native.Mathlib.Numerals.{add-one, towards_suc}
+use mathlib.Core.Bool.{Bool, true, ◌&&◌}
+use mathlib.Core.List.{List, [], ◌∷◌, ◌++◌, map}
+use Prim.Native.Nat.{ℕ, zero, suc, ◌+◌, ◌*◌, ◌/◌, ◌%◌, ◌≤◌, ◌<◌}
+use native.Mathlib.Numerals.{add-one}
 use native.Mathlib.Omega.{arith}
 use borrow.Author.Tests.{leb-true, le-leb, eqb-true, eq-eqb}
 use lib.Dec.{leb, eqb}
 use lib.ListN.{length, take, drop, get_or, take-append-drop, length-drop}
 use lib.Seq.{length-take-le, take_all, take-suc, take-add, drop_at, drop-cons, drop-drop, take-take}
-use Rattle.texts.specs.Texts.{between}
+use Rattle.std.specs.List.{list_all}
+use Rattle.std.specs.Simd.{first_chunks}
 use Rattle.texts.specs.Numbers.{Bytes, big, bytes_at}
 use Rattle.texts.proofs.Big.{each_at, bytes-big}
 use Rattle.texts.proofs.Bools.{both, and2}
 use Rattle.sheets.specs.Forms.{inn12}
 use Rattle.amounts.specs.Amount.{is_amount}
 use Rattle.amounts.proofs.Ranges.{amount-is, is-amount}
-use Rattle.registers.specs.Register.{Line, line_bytes, lines_in, lines_of, line_right, lines_right, register_right, order_right, most_order, total_of}
+use Rattle.registers.specs.Register.{Line, line_of, line_bytes, lines_in, lines_of, line_right, lines_right, register_right, order_right, most_order, total_of}
 use Rattle.registers.specs.Pool.{HasLines, IsRegister}
 use Rattle.registers.specs.Working.Parts.{line_at, big_at}
 
@@ -27,12 +28,6 @@ take-bytes t at zero h = refl
 take-bytes t at (suc k) h = cc (drop-cons t at 0 (omega arith), take-bytes t (suc at) k (omega arith))
 
 module _ (t : List ℕ) (i : ℕ) (h : i * 20 + 20 ≤ length t) where
-  pub inn-part : between t (i * 20) (i * 20 + 12) ≡ (line_at t i).0
-  unfolding between
-  inn-part =
-      let e : i * 20 + 12 - i * 20 ≡ 12 = omega arith in
-      rw e (sym (take-take 12 20 (drop (i * 20) t) (omega arith)))
-
   -- the bytes of the kopecks
   last-eight : drop 12 (take 20 (drop (i * 20) t)) ≡ bytes_at t (i * 20 + 12) 8
   last-eight =
@@ -44,16 +39,9 @@ module _ (t : List ℕ) (i : ℕ) (h : i * 20 + 20 ≤ length t) where
   kopecks-part = ap big (take-bytes t (i * 20 + 12) 8 (omega arith) ∙ sym last-eight)
 
   -- a line's bytes are those of its INN and its kopecks
-  pub line-whole : Bytes t → between t (i * 20) (i * 20 + 20) ≡ line_bytes (line_at t i)
-  unfolding between
+  pub line-whole : Bytes t → take 20 (drop (i * 20) t) ≡ line_bytes (line_at t i)
   line-whole f =
-      let e : i * 20 + 20 - i * 20 ≡ 20 = omega arith in
-      cc (e, last-eight, bytes-big (bytes_at t (i * 20 + 12) 8) (each_at t (i * 20 + 12) 8 f), take-append-drop 12 (take 20 (drop (i * 20) t)))
-
--- the number of the eight bytes from place at on
-pub eight-at : (t : List ℕ) (at : ℕ) → at + 8 ≤ length t
-    → big (get_or t at 0 ∷ get_or t (at + 1) 0 ∷ get_or t (at + 2) 0 ∷ get_or t (at + 3) 0 ∷ get_or t (at + 4) 0 ∷ get_or t (at + 5) 0 ∷ get_or t (at + 6) 0 ∷ get_or t (at + 7) 0 ∷ []) ≡ big_at t at
-eight-at t at h = simp towards_suc (sym (ap big (take-bytes t at 8 h)))
+      cc (last-eight, bytes-big (bytes_at t (i * 20 + 12) 8) (each_at t (i * 20 + 12) 8 f), take-append-drop 12 (take 20 (drop (i * 20) t)))
 
 -- ---- the lines
 
@@ -70,15 +58,36 @@ line-at (suc n) t (suc i) h =
     let e : 20 + i * 20 ≡ suc i * 20 = omega arith in
     cc (line-at n (drop 20 t) i (omega arith), drop-drop (i * 20) 20 t)
 
-right-more : (ls : List Line) (l : Line) → lines_right (ls ++ l ∷ []) ≡ (lines_right ls && line_right l)
+-- the lines of the arrays into which the bytes are cut
+lines-chunks : (n : ℕ) (t : List ℕ) → map line_of (first_chunks 20 n t) ≡ lines_in n t
+unfolding lines_in
+lines-chunks zero t = refl
+lines-chunks (suc n) t = ap (λ (ls : List Line). line_of (take 20 t) ∷ ls) (lines-chunks n (drop 20 t))
+
+chunk-at : (n : ℕ) (t : List ℕ) (i : ℕ) → i < n → (d : List ℕ) → get_or (first_chunks 20 n t) i d ≡ take 20 (drop (i * 20) t)
+chunk-at zero t i h d = absurd (omega arith)
+chunk-at (suc n) t zero h d = refl
+chunk-at (suc n) t (suc i) h d =
+    let e : 20 + i * 20 ≡ suc i * 20 = omega arith in
+    chunk-at n (drop 20 t) i (omega arith) d ∙ ap (take 20) (drop-drop (i * 20) 20 t ∙ ap (λ (k : ℕ). drop k t) e)
+
+right-chunks : (cs : List (List ℕ)) → list_all (λ (b : List ℕ). line_right (line_of b)) cs ≡ lines_right (map line_of cs)
 unfolding lines_right
-right-more [] l = and-true (line_right l)
-right-more (k ∷ ks) l = cc (right-more ks l, and_assoc (line_right k) (lines_right ks) (line_right l))
+right-chunks [] = refl
+right-chunks (b ∷ cs) = ap (λ (r : Bool). line_right (line_of b) && r) (right-chunks cs)
 
 total-more : (ls : List Line) (l : Line) → total_of (ls ++ l ∷ []) ≡ total_of ls + l.1
 unfolding total_of
 total-more [] l = omega arith
 total-more (k ∷ ks) l = omega (arith, total-more ks l)
+
+-- cs are the arrays of t
+module _ (t : List ℕ) (cs : List (List ℕ)) (e : cs ≡ first_chunks 20 (length t / 20) t) where
+  pub right-lines : list_all (λ (b : List ℕ). line_right (line_of b)) cs ≡ lines_right (lines_of t)
+  right-lines = right-chunks cs ∙ ap lines_right (ap (map line_of) e ∙ lines-chunks (length t / 20) t)
+
+  pub chunk_at : (i : ℕ) → i < length t / 20 → (d : List ℕ) → get_or cs i d ≡ take 20 (drop (i * 20) t)
+  chunk_at i h d = ap (λ (l : List (List ℕ)). get_or l i d) e ∙ chunk-at (length t / 20) t i h d
 
 -- what the loops keep is said of the lines before i: one line more, and all
 module _ (t : List ℕ) where
@@ -95,9 +104,6 @@ module _ (t : List ℕ) where
 
       pub lines_next : take (i + 1) (lines_of t) ≡ take i (lines_of t) ++ line_at t i ∷ []
       lines_next = rw (add-one i, ← lines_at) (take-suc (lines_of t) i ([], 0) (omega (arith, lines-length)))
-
-      pub right-next : lines_right (take (i + 1) (lines_of t)) ≡ (lines_right (take i (lines_of t)) && line_right (line_at t i))
-      right-next = ap lines_right lines_next ∙ right-more (take i (lines_of t)) (line_at t i)
 
       pub total-next : total_of (take (i + 1) (lines_of t)) ≡ total_of (take i (lines_of t)) + (line_at t i).1
       total-next = ap total_of lines_next ∙ total-more (take i (lines_of t)) (line_at t i)

@@ -1,17 +1,18 @@
 -- R-12: what pooling a register answers, what it leaves in the output, and what it promises.
-use Rattle.std.specs.Prelude.{◌≡◌, ◌↔◌, Bool, true, not, cond, ◌&&◌, ℕ, suc, ◌+◌, ◌-◌, ◌*◌, ◌/◌, ◌%◌, ◌≤◌, ◌<◌, leb, ltb, eqb, ℤ, pos, negsuc, ◌+ℤ◌, length, take, drop, get_or}
-use mathlib.Core.List.{List, [], ◌∷◌, ◌++◌, map, Memᴰ}
+use Rattle.std.specs.Prelude.{◌≡◌, ◌↔◌, true, not, cond, ◌&&◌, ℕ, suc, ◌+◌, ◌-◌, ◌*◌, ◌≤◌, ◌<◌, ltb, eqb, ℤ, pos, negsuc, ◌+ℤ◌, length, take, drop, get_or, Result, Ok, Err}
+use mathlib.Core.List.{List, [], ◌∷◌, Memᴰ}
 use Rattle.texts.specs.Quoted.{Text}
 use Rattle.texts.specs.Texts.{same}
 use Rattle.texts.specs.Numbers.{big}
 use Rattle.texts.specs.Answers.{Answer, success, refusal, number_of, Test, ◌refuses◌, ◌refuses◌with◌, answer_by, buffer_by}
 use Rattle.texts.specs.Buffers.{put}
+use Rattle.texts.specs.Refusals.{refusal_number}
 use Rattle.texts.specs.declared.answers.Refusal.{Refusal}
 use Rattle.sheets.specs.Forms.{inn12}
 use Rattle.amounts.specs.Amount.{most_kopecks}
 use Rattle.registers.specs.Register.{line_size, most_lines, Line, lines_bytes, lines_of, register_right, most_order, order_right, inns_of, sum_of, pooled, total_of}
-use Rattle.registers.specs.declared.pool.Pooled.{Pooled}
-use Rattle.registers.specs.declared.pool.Pooled.TheVariants.{Made, Differs, Refused}
+use Rattle.registers.specs.declared.pool.Unpooled.{Unpooled}
+use Rattle.registers.specs.declared.pool.Unpooled.TheVariants.{Differs, Refused}
 
 -- "an output of fewer than 500 places"
 abbrev pub output_size : ℕ
@@ -43,10 +44,10 @@ less (pos n) = 0
 less (negsuc n) = suc n
 
 -- the paper's number and values for each case
-unfoldable pub pool_answer : Pooled → Answer
-pool_answer (Made n) = success (n ∷ [])
-pool_answer (Differs d) = refusal 17 (more d ∷ less d ∷ [])
-pool_answer (Refused n) = refusal n.0 []
+unfoldable pub pool_answer : Result ℕ Unpooled → Answer
+pool_answer (Ok n) = success (n ∷ [])
+pool_answer (Err (Differs d)) = refusal 17 (more d ∷ less d ∷ [])
+pool_answer (Err (Refused n)) = refusal (refusal_number n) []
 
 -- the bytes t begin with the lines ls: "12 bytes, then eight, big-endian"
 pub record HasLines (t : List ℕ) (ls : List Line) : Type 0 where
@@ -79,7 +80,7 @@ pub record IsPool (ls ps : List Line) : Type 0 where
   pub total : total_of ps ≡ total_of ls
 
 -- the promise of `pool`: it answered x and left e in the output that held o
-pub record Pools (register : List ℕ) (amount : ℕ) (o : List ℕ) (x : Pooled) (e : List ℕ) : Type 0 where
+pub record Pools (register : List ℕ) (amount : ℕ) (o : List ℕ) (x : Result ℕ Unpooled) (e : List ℕ) : Type 0 where
   pub answer : pool_answer x ≡ pooling register amount o
   pub output : e ≡ pooled_to register amount o
   -- there are pooled lines exactly where the output has the places, register and order are as said, and their totals agree
@@ -99,12 +100,12 @@ pub record Pools (register : List ℕ) (amount : ℕ) (o : List ℕ) (x : Pooled
       × IsPool (lines_of register) ps × (total_of ps ≡ amount)
   -- the same of each case itself, whatever numbers stand for it: ls are the register's lines, ps the n lines of the output
   pub holds :
-      (n : ℕ) → x ≡ Made n
+      (n : ℕ) → x ≡ Ok n
       → (10000 ≤ length o) × IsRegister register amount
       × ((ls ps : List Line) × (length register ≡ length ls * 20) × HasLines register ls × (length ps ≡ n) × HasLines e ps × (drop (n * 20) e ≡ drop (n * 20) o) × IsPool ls ps × (total_of ls ≡ amount))
   -- "the signed difference register minus order", as integers
   pub signed :
-      (d : ℤ) → x ≡ Differs d
+      (d : ℤ) → x ≡ Err (Differs d)
       → (10000 ≤ length o) × IsRegister register amount × (pos (total_of (lines_of register)) ≡ pos amount +ℤ d) × (d ≡ pos 0 → ⊥) × (e ≡ o)
   -- 7 where the output has too few places, else 16, and then register or order are not as said
-  pub number : (n : Refusal) → x ≡ Refused n → (length o < 10000 → n.0 ≡ 7) × (10000 ≤ length o → (n.0 ≡ 16) × (IsRegister register amount → ⊥)) × (e ≡ o)
+  pub number : (n : Refusal) → x ≡ Err (Refused n) → (length o < 10000 → refusal_number n ≡ 7) × (10000 ≤ length o → (refusal_number n ≡ 16) × (IsRegister register amount → ⊥)) × (e ≡ o)

@@ -1,18 +1,19 @@
 -- The set of all broken rules: its bits, and the ways through the functions that make it.
 use mathlib.Core.Path.{◌≡◌, refl, ap, sym, ◌∙◌, fun_ext}
 use mathlib.Core.Logic.{◌↔◌}
-use mathlib.Core.Bool.{Bool, true, false, not, cond, ◌&&◌, false≢true}
-use mathlib.Core.List.{List, [], ◌∷◌, ◌++◌, map}
-use Prim.Native.Nat.{ℕ, zero, suc, ◌+◌, ◌-◌, ◌*◌, ◌/◌, ◌%◌, ◌^◌, ◌≤◌, ◌<◌}
+use mathlib.Core.Bool.{Bool, true, false, not, cond}
+use mathlib.Core.List.{List, [], ◌∷◌, ◌++◌, map, reverse}
+use Prim.Native.Nat.{ℕ, zero, suc, ◌+◌, ◌*◌, ◌/◌, ◌%◌, ◌^◌, ◌≤◌, ◌<◌}
 use native.Mathlib.Nat.{mul_comm, mul_assoc, mul_right_comm, add-mul, zero-mul, one-mul, zero-div, div-one, div-div-eq-div-mul, pow-suc}
-use native.Mathlib.Numerals.{add-one}
 use native.Mathlib.Omega.{arith}
 use borrow.Author.Tests.{eqb-true}
-use borrow.Author.Rules.{rules as goal_rules}
 use lib.Dec.{eqb}
-use lib.ListN.{length, get_or, drop, length-drop, drop_of_length-le}
+use lib.ListN.{length, get_or}
 use lib.Pow.{pow_mono}
-use lib.Seq.{drop-cons}
+use Rattle.std.specs.Prelude.{fold, bit_or}
+use Rattle.std.proofs.lemmas.List.{reverse-append}
+use Rattle.std.proofs.lemmas.List.Sums.{fold-append}
+use Rattle.std.proofs.lemmas.Grind.{or_after_shift}
 use Rattle.texts.specs.Texts.{every, any, are, among}
 use Rattle.texts.specs.Answers.{Answer, success, refusal, number_of, ◌refuses◌}
 use Rattle.texts.proofs.Bools.{both, cases}
@@ -25,13 +26,14 @@ use Rattle.sheets.specs.declared.dates.Dates.{Dates}
 use Rattle.sheets.specs.declared.facts.Facts.{Facts}
 use Rattle.sheets.specs.Working.Facts.{facts_of, Read}
 use Rattle.rules.specs.Requests.R5.{up_to20, from23}
-use Rattle.rules.specs.Rules.{Rule, rules, order, keeps, keeps_all, first_not, first_broken}
+use Rattle.rules.specs.Rules.{Rule, rules, order, keeps, keeps_all, first_not}
 use Rattle.rules.specs.AllBroken.{bits_of, broken_set, bit_of, BrokenSet, broken_answer, break_tests, breaking, BreaksRules}
 use Rattle.rules.specs.Working.Tests.{ordinary, general_on, special_on, outcomes_on, judged_on, all_true}
 use Rattle.rules.specs.Working.Bits.{failed_bit, failed_bits}
-use Rattle.rules.specs.declared.all_broken.BrokenRules.{BrokenRules}
-use Rattle.rules.specs.declared.all_broken.BrokenRules.TheVariants.{Set, Refused}
-use Rattle.rules.proofs.First.{all_held}
+use Rattle.texts.specs.declared.answers.Refusal.{Refusal}
+use Rattle.texts.specs.declared.answers.Refusal.TheVariants.{Malformed, Undated}
+use Rattle.rules.proofs.Numbers.{refusal_of, refusal-back}
+use Rattle.std.specs.Prelude.{Result, Ok, Err}
 use Rattle.rules.proofs.On.{tests_of, counted, rules-counted, none-at, verdicts_on, tests-on, keeps_on}
 
 -- ---- the bits of outcomes
@@ -65,34 +67,21 @@ unfolding failed_bits all_true
 bits_none [] e = refl
 bits_none (b ∷ bs) e = let q = both b (all_true bs) e in rw (q.0, bits_none bs q.1)
 
--- ---- failed_bits: what is made of those from i on
+-- ---- failed_bits: the last is put in first
 
-module _ (os : List Bool) (i : ℕ) where
-  pub bits-start : 0 ≡ failed_bits (drop (length os) os)
-  unfolding failed_bits
-  bits-start = let h : length os ≤ length os = omega arith in rw drop_of_length-le
+abbrev pub bit_in : ℕ → Bool → ℕ
+bit_in n b = bit_or (n * 2 % 2 ^ 64) (cond (not b) 1 0)
 
-  bits-step : i < length os → failed_bits (drop i os) ≡ failed_bits (drop (i + 1) os) * 2 + failed_bit (get_or os i false)
-  unfolding failed_bits
-  bits-step h = rw (add-one, drop-cons os i false)
+bit-in : (n : ℕ) (b : Bool) → n < 2 ^ 63 → bit_in n b ≡ n * 2 + failed_bit b
+bit-in n true h = or_after_shift n 2 (2 ^ 64) 0 refl (omega arith) (omega arith)
+bit-in n false h = or_after_shift n 2 (2 ^ 64) 1 refl (omega arith) (omega arith)
 
-  pub bits-all : (n : ℕ) → n ≡ failed_bits (drop i os) → i ≤ 0 → n ≡ failed_bits os
-  bits-all n e h = let z : i ≡ 0 = omega arith in e ∙ rw z
-
--- one more, in front of those from i on
-module _ (os : List Bool) (i n : ℕ) (p : 0 < i) (l : i ≤ length os) (e : n ≡ failed_bits (drop i os)) where
-  pub bits-room : length os ≤ 64 → n < 2 ^ 63
-  bits-room f =
-      let k : length (drop i os) ≤ 63 = omega (arith, length-drop i os) in
-      omega (arith, bits_below (drop i os), pow_mono k)
-
-  pub bits-more : (m : ℕ) → m ≡ failed_bit (get_or os (i - 1) false) → n * 2 + m ≡ failed_bits (drop (i - 1) os)
-  bits-more m q =
-      let h : i - 1 < length os = omega arith in
-      let j : i ≡ i - 1 + 1 = omega arith in
-      (λ t. e t * 2 + q t) ∙ ap (λ (k : ℕ). failed_bits (drop k os) * 2 + failed_bit (get_or os (i - 1) false)) j ∙ sym (bits-step os (i - 1) h)
-
-pub ruleset bitting = (goal_rules, bits-start, bits-all)
+pub bits-folded : (os : List Bool) → length os ≤ 64 → fold bit_in 0 (reverse os) ≡ failed_bits os
+unfolding failed_bits
+bits-folded [] l = refl
+bits-folded (b ∷ bs) l =
+    let h : failed_bits bs < 2 ^ 63 = let k : length bs ≤ 63 = omega arith in omega (arith, bits_below bs, pow_mono k) in
+    ap (fold bit_in 0) (reverse-append (b ∷ []) bs) ∙ fold-append bit_in 0 (reverse bs) (b ∷ []) ∙ ap (λ (n : ℕ). bit_in n b) (bits-folded bs (omega arith)) ∙ bit-in (failed_bits bs) b h
 
 -- ---- the set
 
@@ -182,20 +171,20 @@ all-judged f o b os r e t h i D s x =
 
 -- ---- broken_rules
 
-broken_of : Answer → BrokenRules
-broken_of (success vs) = Set (get_or vs 0 0)
-broken_of (refusal n vs) = Refused (record { 0 = n })
+broken_of : Answer → Result ℕ Refusal
+broken_of (success vs) = Ok (get_or vs 0 0)
+broken_of (refusal n vs) = Err (refusal_of n)
 
-broken-of : (r : BrokenRules) (a : Answer) → broken_answer r ≡ a → r ≡ broken_of a
+broken-of : (r : Result ℕ Refusal) (a : Answer) → broken_answer r ≡ a → r ≡ broken_of a
 unfolding broken_answer broken_of
-broken-of (Set n) a p = ap broken_of p
-broken-of (Refused n) a p = ap broken_of p
+broken-of (Ok n) a p = ap broken_of p
+broken-of (Err n) a p = ap Err (sym (refusal-back n)) ∙ ap broken_of p
 
-module _ (D : Dates) (s : Sheet) (r : BrokenRules) (e : broken_answer r ≡ breaking D s) where
+module _ (D : Dates) (s : Sheet) (r : Result ℕ Refusal) (e : broken_answer r ≡ breaking D s) where
   found : (a : Answer) → breaking D s ≡ a → r ≡ broken_of a
   found a q = broken-of r a (e ∙ q)
 
-  malforms : (r ≡ Refused (record { 0 = 1 })) ↔ (well_formed s ≡ false)
+  malforms : (r ≡ Err Malformed) ↔ (well_formed s ≡ false)
   unfolding breaking break_tests broken_answer broken_of
   malforms = (
     λ h.
@@ -205,7 +194,7 @@ module _ (D : Dates) (s : Sheet) (r : BrokenRules) (e : broken_answer r ≡ brea
     λ w. found (refusal 1 []) (rw w),
   )
 
-  undates : well_formed s ≡ true → (r ≡ Refused (record { 0 = 12 })) ↔ (dates_fit D ≡ false)
+  undates : well_formed s ≡ true → (r ≡ Err Undated) ↔ (dates_fit D ≡ false)
   unfolding breaking break_tests broken_answer broken_of
   undates w = (
     λ h.
@@ -215,7 +204,7 @@ module _ (D : Dates) (s : Sheet) (r : BrokenRules) (e : broken_answer r ≡ brea
     λ d. found (refusal 12 []) (rw (w, d)),
   )
 
-  sets : well_formed s ≡ true → dates_fit D ≡ true → (n : ℕ) × (r ≡ Set n) × BrokenSet D s n
+  sets : well_formed s ≡ true → dates_fit D ≡ true → (n : ℕ) × (r ≡ Ok n) × BrokenSet D s n
   unfolding breaking break_tests broken_of
   sets w d = (broken_set D s, found (success (broken_set D s ∷ [])) (rw (w, d)), broken-set D s)
 
@@ -223,7 +212,7 @@ module _ (D : Dates) (s : Sheet) (r : BrokenRules) (e : broken_answer r ≡ brea
   breaks-by = record { answer = e; set = sets; malformed = malforms; undated = undates }
 
 -- its ways out
-pub breaks-out : (k : ℕ) (D : Dates) (s : Sheet) (r : BrokenRules) → Way (broken_set D s ∷ []) [] [] (broken_answer r) [] (BreaksRules D s r) k (break_tests D s)
+pub breaks-out : (k : ℕ) (D : Dates) (s : Sheet) (r : Result ℕ Refusal) → Way (broken_set D s ∷ []) [] [] (broken_answer r) [] (BreaksRules D s r) k (break_tests D s)
 unfolding breaking
 breaks-out k D s r = way_out _ [] [] _ [] _ k (break_tests D s) (λ p q. breaks-by D s r p)
 

@@ -1,18 +1,19 @@
 -- The first of some numbers that fails a test.
 use mathlib.Core.Path.{◌≡◌, refl, ap, sym, ◌∙◌}
-use mathlib.Core.Bool.{Bool, true, false, not, cond, ◌&&◌, and_assoc, and-true}
+use mathlib.Core.Bool.{Bool, true, false, not, cond, ◌&&◌}
 use mathlib.Core.List.{List, [], ◌∷◌, ◌++◌, map}
-use Prim.Native.Nat.{ℕ, zero, suc, ◌+◌, ◌≤◌, ◌<◌}
-use native.Mathlib.Numerals.{add-one}
-use native.Mathlib.Omega.{arith}
-use borrow.Author.Tests.{eqb-false, not-true, not-false}
+use Prim.Native.Nat.{ℕ}
+use borrow.Author.Tests.{eqb-true, eqb-false, not-true}
 use lib.Dec.{eqb}
-use lib.ListN.{length, get_or, drop, drop_of_length-le, get_or-eq_default}
-use lib.Seq.{drop-cons}
+use Rattle.std.specs.Prelude.{Option, None, Some}
+use Rattle.std.specs.List.{list_all}
+use Rattle.std.specs.Option.{option_map, MatchOption, IsSomeAnd}
+use Rattle.std.proofs.lemmas.Option.{none-some, same_Some}
 use Rattle.texts.specs.Texts.{every}
 use Rattle.texts.proofs.Bools.{both}
-use Rattle.rules.specs.Rules.{first_not}
-use Rattle.rules.specs.Working.Tests.{kept, all_true}
+use Rattle.rules.specs.declared.rules.RuleNumber.{RuleNumber}
+use Rattle.rules.specs.Rules.{first_not, rule_named}
+use Rattle.rules.specs.Working.Tests.{kept, first_of, all_true}
 
 -- a number that names a rule
 abbrev pub numbered : ℕ → Bool
@@ -65,46 +66,48 @@ module _ (p : ℕ → Bool) where
   all_held [] = refl
   all_held (k ∷ ks) = ap (λ (b : Bool). p k && b) (all_held ks)
 
--- ---- first_broken: the answer for the whole is the answer for what is left from i
+-- ---- first_broken
 
-module _ (p : ℕ → Bool) (ks : List ℕ) (i : ℕ) where
-  not_step : i < length ks → first_not p (drop i ks) ≡ cond (p (get_or ks i 0)) (first_not p (drop (i + 1) ks)) (get_or ks i 0)
-  unfolding first_not
-  not_step h = rw (add-one, drop-cons ks i 0)
+-- what is found, as a rule
+pub mapped : (P : ℕ → RuleNumber → Type 0) → ((x : ℕ) (y : RuleNumber) → P x y → y ≡ record { 0 = x }) → (o q : Option ℕ) (r : Option RuleNumber) → option_map (λ (x : ℕ). x) o ≡ q
+    → MatchOption o (r ≡ None) (λ x. IsSomeAnd r (P x)) → r ≡ option_map (λ (n : ℕ). record { 0 = n }) q
+mapped P f None q r e m = m ∙ ap (option_map (λ (n : ℕ). record { 0 = n })) e
+mapped P f (Some x) q None e m = absurd m
+mapped P f (Some x) q (Some y) e m = ap Some (f x y m) ∙ ap (option_map (λ (n : ℕ). record { 0 = n })) e
 
-  pub not_found : (b : Bool) → first_not p ks ≡ first_not p (drop i ks) → i < length ks → b ≡ p (get_or ks i 0) → not b ≡ true → get_or ks i 0 ≡ first_not p ks
-  not_found b e h q n = cc (not_step h, not-true b n)
+module _ (os : List Bool) where
+  named-step : (k m : ℕ) (h : Bool) (o : Option ℕ) → numbered k ≡ true → option_map (λ (n : ℕ). record { 0 = n }) o ≡ rule_named m → option_map (λ (n : ℕ). record { 0 = n }) (cond (not h) (Some k) o) ≡ rule_named (cond h m k)
+  unfolding rule_named
+  named-step k m true o z e = e
+  named-step k m false o z e = rw (not-true (eqb k 0) z)
 
-  pub not_more : (b : Bool) → first_not p ks ≡ first_not p (drop i ks) → i < length ks → b ≡ p (get_or ks i 0) → not b ≡ false → first_not p ks ≡ first_not p (drop (i + 1) ks)
-  not_more b e h q n = cc (not_step h, not-false b n)
+  -- the first broken one of rules that have numbers
+  pub first-of-is : (ks : List ℕ) → every numbered ks ≡ true → first_of os ks ≡ rule_named (first_not (kept os) ks)
+  unfolding every first_not rule_named
+  first-of-is [] z = refl
+  first-of-is (k ∷ ks) z =
+      let q = both (numbered k) (every numbered ks) z in
+      named-step k (first_not (kept os) ks) (kept os k) _ q.0 (first-of-is ks q.1)
 
-  pub not_none : first_not p ks ≡ first_not p (drop i ks) → length ks ≤ i → 0 ≡ first_not p ks
-  unfolding first_not
-  not_none e h = rw e (rw drop_of_length-le)
+pub named-some : (n : ℕ) (g : RuleNumber) → Some g ≡ rule_named n → (n ≡ g.0) × (not (eqb n 0) ≡ true)
+unfolding rule_named
+named-some n g e = go (eqb n 0) refl e
+  where
+    go : (b : Bool) → eqb n 0 ≡ b → Some g ≡ cond b None (Some (record { 0 = n })) → (n ≡ g.0) × (not (eqb n 0) ≡ true)
+    go true h z = absurd (none-some g (sym z))
+    go false h z = let i : g ≡ record { 0 = n } = same_Some _ _ z in (ap (λ (r : RuleNumber). r.0) (sym i), rw h)
 
--- ---- all_true: those up to i, and what is left from i
+pub named-none : (n : ℕ) → None ≡ rule_named n → n ≡ 0
+unfolding rule_named
+named-none n e = go (eqb n 0) refl e
+  where
+    go : (b : Bool) → eqb n 0 ≡ b → ◌≡◌ {A = Option RuleNumber} None (cond b None (Some (record { 0 = n }))) → n ≡ 0
+    go true h z = eqb-true n 0 h
+    go false h z = let r : RuleNumber = record { 0 = n } in absurd (none-some r z)
 
-module _ (os : List Bool) (i : ℕ) (a : Bool) (e : all_true os ≡ (a && all_true (drop i os))) where
-  pub true-more : i < length os → all_true os ≡ ((a && get_or os i false) && all_true (drop (i + 1) os))
-  unfolding all_true
-  true-more h = e ∙ rw (add-one, drop-cons os i false) (sym (and_assoc a (get_or os i false) (all_true (drop (suc i) os))))
+-- ---- all_true
 
-  pub true-all : length os ≤ i → a ≡ all_true os
-  unfolding all_true
-  true-all h = sym (e ∙ rw drop_of_length-le (and-true a))
-
--- ---- is_kept
-
-in_list : (os : List Bool) (n : ℕ) → n < length os → get_or os n false ≡ get_or os n true
-in_list [] n h = absurd (omega arith)
-in_list (o ∷ os) zero h = refl
-in_list (o ∷ os) (suc n) h = in_list os n (omega arith)
-
-module _ (os : List Bool) (n k : ℕ) (e : k ≡ n) where
-  pub kept_at : k < length os → get_or os k false ≡ kept os n
-  unfolding kept
-  kept_at h = in_list os k h ∙ ap (λ (j : ℕ). get_or os j true) e
-
-  pub kept-past : length os ≤ k → true ≡ kept os n
-  unfolding kept
-  kept-past h = sym (ap (λ (j : ℕ). get_or os j true) (sym e) ∙ get_or-eq_default os true h)
+pub all_listed : (os : List Bool) → list_all (λ o. o) os ≡ all_true os
+unfolding all_true
+all_listed [] = refl
+all_listed (o ∷ os) = ap (λ (b : Bool). o && b) (all_listed os)

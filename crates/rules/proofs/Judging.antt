@@ -2,25 +2,25 @@
 use mathlib.Core.Path.{◌≡◌, refl, ap, sym, ◌∙◌, fun_ext}
 use mathlib.Core.Bool.{Bool, true, false, not, cond, ◌&&◌, ◌||◌, false≢true}
 use mathlib.Core.List.{List, [], ◌∷◌, ◌++◌, map}
-use Prim.Native.Nat.{ℕ, zero, suc, ◌+◌, ◌≤◌, ◌<◌}
-use native.Mathlib.Numerals.{add-one}
+use Prim.Native.Nat.{ℕ, zero, suc}
 use native.Mathlib.Omega.{arith}
-use borrow.Author.Tests.{eqb-true, not-true, not-false}
+use borrow.Author.Tests.{eqb-true, not-false}
 use lib.Dec.{eqb}
-use lib.ListN.{length, get_or, set, drop, drop_of_length-le}
-use lib.Seq.{drop-cons, get_or-set_other}
+use lib.ListN.{length, get_or, set}
+use lib.Seq.{get_or-set_other}
+use Rattle.std.specs.Prelude.{Option, None, Some, Result, find}
+use Rattle.std.specs.Option.{option_map, MatchOption}
 use Rattle.texts.specs.Texts.{every, any, are, among, blank}
 use Rattle.texts.specs.Answers.{success, refusal}
 use Rattle.texts.proofs.Bools.{both}
 use Rattle.texts.proofs.Refusals.{Way, way_out, tested}
 use Rattle.texts.proofs.Every.{every_append, every-same}
 use Rattle.sheets.specs.Sheet.{slots, sheet_size, slot_ok, well_formed, field_in, slot_of, Sheet, given, ◌⟨◌⟩}
-use Rattle.sheets.specs.Dates.{dates_fit}
 use Rattle.sheets.specs.declared.dates.Dates.{Dates}
 use Rattle.sheets.proofs.InForce.{dated, in-force}
-use Rattle.rules.specs.Rules.{Rule, class_a, class_b, budget, test_of, keeps_all, first_blank, rules, order, basic, ahead, field_of, keeps, first_not, first_broken, class_of}
-use Rattle.sheets.specs.Working.Facts.{account_of, facts_by, facts_of, general_of, standing_of, Read}
-use Rattle.rules.specs.Working.Tests.{ordinary, class_on, kept, holds, all_true, general_on, outcomes_on, judged_on}
+use Rattle.rules.specs.Rules.{Rule, class_a, class_b, budget, test_of, keeps_all, first_blank, rules, order, basic, ahead, field_of, keeps, first_not, first_broken, rule_named, class_of}
+use Rattle.sheets.specs.Working.Facts.{account_of, facts_by, general_of, standing_of, Read}
+use Rattle.rules.specs.Working.Tests.{ordinary, class_on, kept, holds, first_of, all_true, general_on, outcomes_on, judged_on}
 use Rattle.rules.specs.Working.Groups.{fixed_rules, status_rules, basis_rules, document_rules, day_rules, grouped}
 use Rattle.rules.specs.Verdicts.{class_name, verdict_answer, check_tests, checked}
 use Rattle.rules.specs.Checked.{Checked}
@@ -28,31 +28,35 @@ use Rattle.rules.specs.declared.class.Class.{Class}
 use Rattle.rules.specs.declared.class.Class.TheVariants.{A, B, O}
 use Rattle.rules.specs.declared.rules.RuleNumber.{RuleNumber}
 use Rattle.sheets.specs.declared.sheet.Field.{Field}
-use Rattle.rules.specs.declared.check.Verdict.{Verdict}
+use Rattle.rules.specs.declared.check.Rejection.{Rejection}
 use Rattle.sheets.specs.declared.facts.Facts.{Facts}
 use Rattle.rules.proofs.On.{rules-counted, counted-at, budget-keeps, judged-keeps, class-on}
-use Rattle.rules.proofs.First.{all_held}
-use Rattle.rules.proofs.Means.{accepts, names, malforms, undates}
+use Rattle.rules.proofs.First.{all_held, first-of-is, named-some, named-none}
+use Rattle.rules.proofs.Means.{order-numbered, accepts, names, malforms, undates}
 use Rattle.rules.proofs.Requests.{still-accepted, accepted-before}
 use Rattle.rules.proofs.MovedOnly.{moved-only}
 use Rattle.rules.proofs.Dated.{as_before}
 
--- ---- first_blank: the answer for the whole is the answer for what is left from i
+-- ---- first_blank
 
-module _ (s : Sheet) (ks : List ℕ) (i : ℕ) where
-  blank_step : i < length ks → first_blank s (drop i ks) ≡ cond (given s (get_or ks i 0)) (first_blank s (drop (i + 1) ks)) (field_in (get_or ks i 0))
-  unfolding first_blank
-  blank_step h = rw (add-one, drop-cons ks i 0)
+blank_is : Sheet → Option ℕ → ℕ
+blank_is s None = 0
+blank_is s (Some k) = field_in k
 
-  pub blank-found : (b : Bool) (r : Field) → first_blank s ks ≡ first_blank s (drop i ks) → i < length ks → b ≡ given s (get_or ks i 0) → not b ≡ true → r.0 ≡ field_in (get_or ks i 0) → r.0 ≡ first_blank s ks
-  blank-found b r e h q n p = cc (blank_step h, not-true b n)
+blank-found : (s : Sheet) (ks : List ℕ) → blank_is s (find (λ (k : ℕ). not (given s k)) ks) ≡ first_blank s ks
+unfolding blank_is first_blank
+blank-found s [] = refl
+blank-found s (k ∷ ks) = blank-step (given s k) _ (first_blank s ks) (blank-found s ks)
+  where
+    blank-step : (b : Bool) (o : Option ℕ) (m : ℕ) → blank_is s o ≡ m → blank_is s (cond (not b) (Some k) o) ≡ cond b m (field_in k)
+    blank-step true o m e = e
+    blank-step false o m e = refl
 
-  pub blank-more : (b : Bool) → first_blank s ks ≡ first_blank s (drop i ks) → i < length ks → b ≡ given s (get_or ks i 0) → not b ≡ false → first_blank s ks ≡ first_blank s (drop (i + 1) ks)
-  blank-more b e h q n = cc (blank_step h, not-false b n)
-
-  pub blank_none : first_blank s ks ≡ first_blank s (drop i ks) → length ks ≤ i → 0 ≡ first_blank s ks
-  unfolding first_blank
-  blank_none e h = rw e (rw drop_of_length-le)
+pub blank-named : (s : Sheet) (ks : List ℕ) (o : Option ℕ) (r : Field) (P : ℕ → Type 0)
+    → option_map (λ (k : ℕ). k) o ≡ find (λ (k : ℕ). not (given s k)) ks → MatchOption o (r ≡ record { 0 = 0 }) P → ((k : ℕ) → P k → r.0 ≡ field_in k) → r.0 ≡ first_blank s ks
+unfolding blank_is
+blank-named s ks None r P e m f = ap (λ (g : Field). g.0) m ∙ ap (blank_is s) e ∙ blank-found s ks
+blank-named s ks (Some k) r P e m f = f k m ∙ ap (blank_is s) e ∙ blank-found s ks
 
 -- ---- the groups of rules
 
@@ -85,24 +89,24 @@ all-grouped D u b h =
 
 -- ---- broken_basic, is_budget
 
-pub basic-first : (f : Facts) (os : List Bool) (r : RuleNumber) → os ≡ general_on f → r.0 ≡ first_not (kept os) basic
-    → ((D : Dates) (s : Sheet) → Read D f s → r.0 ≡ first_broken D s basic) × (r.0 ≡ first_not (kept (general_on f)) basic)
-unfolding kept keeps first_not test_of rules facts_by general_of account_of standing_of slot_of ◌⟨◌⟩
+pub basic-first : (f : Facts) (os : List Bool) (r : Option RuleNumber) → os ≡ general_on f → r ≡ first_of os basic
+    → ((D : Dates) (s : Sheet) → Read D f s → r ≡ rule_named (first_broken D s basic)) × (r ≡ rule_named (first_not (kept (general_on f)) basic))
+unfolding every kept keeps first_not test_of rules facts_by general_of account_of standing_of slot_of ◌⟨◌⟩
 basic-first f os r e h =
-    let a : r.0 ≡ first_not (kept (general_on f)) basic = h ∙ ap (λ (bs : List Bool). first_not (kept bs) basic) e in
-    (λ D s o. a ∙ ap (λ (g : Facts). first_not (kept (general_on g)) basic) o.facts, a)
+    let a : r ≡ rule_named (first_not (kept (general_on f)) basic) = h ∙ first-of-is os basic refl ∙ ap (λ (bs : List Bool). rule_named (first_not (kept bs) basic)) e in
+    (λ D s o. a ∙ ap (λ (g : Facts). rule_named (first_not (kept (general_on g)) basic)) o.facts, a)
 
 -- the outcomes of the test ahead, at their numbers
 abbrev pub place_ahead : List Bool → List Bool → List Bool
 place_ahead x y =
     true ∷ true ∷ true ∷ true ∷ true ∷ get_or x 0 false ∷ get_or y 0 false ∷ get_or x 1 false ∷ get_or x 2 false ∷ get_or x 3 false ∷ true ∷ get_or x 4 false ∷ get_or x 5 false ∷ get_or x 6 false ∷ get_or x 7 false ∷ true ∷ get_or x 8 false ∷ true ∷ true ∷ true ∷ true ∷ true ∷ get_or x 9 false ∷ true ∷ true ∷ true ∷ true ∷ true ∷ get_or x 10 false ∷ []
 
-pub ahead-first : (f : Facts) (x y os : List Bool) (r : RuleNumber) → x ≡ map (holds f) fixed_rules → y ≡ map (holds f) day_rules → os ≡ place_ahead x y → r.0 ≡ first_not (kept os) ahead
-    → ((D : Dates) (s : Sheet) → Read D f s → budget s ≡ true → r.0 ≡ first_broken D s ahead) × (r.0 ≡ first_not (holds f) ahead)
-unfolding kept first_not
+pub ahead-first : (f : Facts) (x y os : List Bool) (r : Option RuleNumber) → x ≡ map (holds f) fixed_rules → y ≡ map (holds f) day_rules → os ≡ place_ahead x y → r ≡ first_of os ahead
+    → ((D : Dates) (s : Sheet) → Read D f s → budget s ≡ true → r ≡ rule_named (first_broken D s ahead)) × (r ≡ rule_named (first_not (holds f) ahead))
+unfolding every kept first_not
 ahead-first f x y os r ex ey eo h =
-    let a : r.0 ≡ first_not (holds f) ahead = h ∙ ap (λ (l : List Bool). first_not (kept l) ahead) (eo ∙ (λ i. place_ahead (ex i) (ey i))) in
-    (λ D s o b. a ∙ ap (λ (g : Facts). first_not (holds g) ahead) o.facts ∙ ap (λ (p : ℕ → Bool). first_not p ahead) (fun_ext (λ n. sym (budget-keeps D s n b))), a)
+    let a : r ≡ rule_named (first_not (holds f) ahead) = h ∙ first-of-is os ahead refl ∙ ap (λ (l : List Bool). rule_named (first_not (kept l) ahead)) (eo ∙ (λ i. place_ahead (ex i) (ey i))) in
+    (λ D s o b. a ∙ ap (λ (g : Facts). rule_named (first_not (holds g) ahead)) o.facts ∙ ap (λ (p : ℕ → Bool). rule_named (first_not p ahead)) (fun_ext (λ n. sym (budget-keeps D s n b))), a)
 
 pub class-a-is : (D : Dates) (f : Facts) (s : Sheet) → Read D f s → f.banking.account.a ≡ class_a s
 unfolding facts_by account_of slot_of ◌⟨◌⟩
@@ -131,11 +135,12 @@ placed f g x t b d y eg ex et eb ed ey = λ i. place (eg i) (ex i) (et i) (eb i)
 
 -- ---- broken
 
-pub broken-judged : (f : Facts) (o b : Bool) (os : List Bool) (r : RuleNumber) → o ≡ ordinary f → o ≡ b → os ≡ cond b (general_on f) (outcomes_on f) → r.0 ≡ first_not (kept os) order
-    → ((D : Dates) (s : Sheet) → Read D f s → r.0 ≡ first_broken D s order) × (r.0 ≡ first_not (kept (judged_on f)) order)
+pub broken-judged : (f : Facts) (o b : Bool) (os : List Bool) (r : Option RuleNumber) → o ≡ ordinary f → o ≡ b → os ≡ cond b (general_on f) (outcomes_on f) → r ≡ first_of os order
+    → ((D : Dates) (s : Sheet) → Read D f s → r ≡ rule_named (first_broken D s order)) × (r ≡ rule_named (first_not (kept (judged_on f)) order))
 broken-judged f o b os r e t h i =
-    let j : r.0 ≡ first_not (kept (judged_on f)) order = cc in
-    (λ D s x. j ∙ ap (λ (g : Facts). first_not (kept (judged_on g)) order) x.facts ∙ sym (ap (λ (p : ℕ → Bool). first_not p order) (fun_ext (judged-keeps D s))), j)
+    let q : r ≡ rule_named (first_not (kept os) order) = i ∙ first-of-is os order order-numbered in
+    let j : r ≡ rule_named (first_not (kept (judged_on f)) order) = cc in
+    (λ D s x. j ∙ ap (λ (g : Facts). rule_named (first_not (kept (judged_on g)) order)) x.facts ∙ sym (ap (λ (p : ℕ → Bool). rule_named (first_not p order)) (fun_ext (judged-keeps D s))), j)
 
 -- ---- field_of: the table has the fields of the rules by their numbers, which go up by one
 
@@ -180,7 +185,7 @@ module _ (s : Sheet) where
       go false false e = refl
 
 -- the promise from its first clause
-checked-by : (D : Dates) (s : Sheet) (v : Verdict) → verdict_answer v ≡ checked D s → Checked D s v
+checked-by : (D : Dates) (s : Sheet) (v : Result Class Rejection) → verdict_answer v ≡ checked D s → Checked D s v
 checked-by D s v e =
     record {
       answer = e;
@@ -197,7 +202,7 @@ checked-by D s v e =
     }
 
 -- its ways out
-pub check-out : (k : ℕ) (D : Dates) (s : Sheet) (v : Verdict) → Way (class_name (class_of s)) [] [] (verdict_answer v) [] (Checked D s v) k (check_tests D s)
+pub check-out : (k : ℕ) (D : Dates) (s : Sheet) (v : Result Class Rejection) → Way (class_name (class_of s)) [] [] (verdict_answer v) [] (Checked D s v) k (check_tests D s)
 unfolding checked
 check-out k D s v = way_out _ [] [] _ [] _ k (check_tests D s) (λ p q. checked-by D s v p)
 
@@ -210,13 +215,19 @@ module _ (D : Dates) (s : Sheet) (w : Bool) (x : Facts) (e : w ≡ well_formed s
   pub facts-read : Read D x s
   facts-read = j (formed-size s w e n)
 
-  pub first-is : (g : RuleNumber) → ((D : Dates) (s : Sheet) → Read D x s → g.0 ≡ first_broken D s order) → first_broken D s order ≡ g.0
-  first-is g i = sym (i D s facts-read)
+  pub first-is : (r : Option RuleNumber) → ((D : Dates) (s : Sheet) → Read D x s → r ≡ rule_named (first_broken D s order)) → r ≡ rule_named (first_broken D s order)
+  first-is r i = i D s facts-read
 
 -- the last test and what is answered, by what the code has for them
-module _ (D : Dates) (s : Sheet) (g : RuleNumber) (e : first_broken D s order ≡ g.0) where
-  pub first-as : (z : Bool) → not (eqb g.0 0) ≡ z → not (eqb (first_broken D s order) 0) ≡ z
-  first-as z k = rw e k
+pub none-as : (D : Dates) (s : Sheet) → None ≡ rule_named (first_broken D s order) → not (eqb (first_broken D s order) 0) ≡ false
+none-as D s e = rw (named-none _ e)
+
+module _ (D : Dates) (s : Sheet) (g : RuleNumber) (n : Some g ≡ rule_named (first_broken D s order)) where
+  e : first_broken D s order ≡ g.0
+  e = (named-some _ g n).0
+
+  pub first-as : not (eqb (first_broken D s order) 0) ≡ true
+  first-as = (named-some _ g n).1
 
   pub beside-as : (f : Field) → f.0 ≡ field_of rules g.0 s → refusal 8 (f.0 ∷ g.0 ∷ []) ≡ refusal 8 (field_of rules (first_broken D s order) s ∷ first_broken D s order ∷ [])
   beside-as f k = rw (e, k)
@@ -224,4 +235,4 @@ module _ (D : Dates) (s : Sheet) (g : RuleNumber) (e : first_broken D s order �
 pub class-as : (D : Dates) (s : Sheet) (x : Facts) (k : Class) → Read D x s → k ≡ class_on x → success (class_name k) ≡ success (class_name (class_of s))
 class-as D s x k o q = rw (q ∙ ap class_on o.facts ∙ class-on D s)
 
-pub ruleset checks = (tested, first-as, beside-as, class-as)
+pub ruleset checks = (tested, none-as, first-as, beside-as, class-as)

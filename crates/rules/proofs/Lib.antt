@@ -1,5 +1,6 @@
 pub mod On
 pub mod First
+pub mod Numbers
 pub mod Means
 pub mod Judging
 pub mod AllBroken

@@ -1,12 +1,13 @@
 -- All rules that a sheet breaks, as a set of 64 bits, and what asking for them promises.
-use Rattle.std.specs.Prelude.{◌≡◌, ◌↔◌, Bool, true, false, not, cond, List, [], ◌∷◌, ℕ, ◌+◌, ◌/◌, ◌%◌, ◌^◌, ◌<◌, eqb}
+use Rattle.std.specs.Prelude.{◌≡◌, ◌↔◌, true, false, not, cond, List, [], ◌∷◌, ℕ, ◌+◌, ◌/◌, ◌%◌, ◌^◌, ◌<◌, eqb, Result, Ok, Err}
+use Rattle.texts.specs.Refusals.{refusal_number}
 use Rattle.texts.specs.Answers.{Answer, success, refusal, Test, ◌refuses◌, answer_by}
 use Rattle.sheets.specs.Sheet.{well_formed, Sheet}
 use Rattle.sheets.specs.Dates.{dates_fit}
 use Rattle.sheets.specs.declared.dates.Dates.{Dates}
 use Rattle.rules.specs.Rules.{Rule, rules, order, keeps, keeps_all, first_not, first_broken}
-use Rattle.rules.specs.declared.all_broken.BrokenRules.{BrokenRules}
-use Rattle.rules.specs.declared.all_broken.BrokenRules.TheVariants.{Set, Refused}
+use Rattle.texts.specs.declared.answers.Refusal.{Refusal}
+use Rattle.texts.specs.declared.answers.Refusal.TheVariants.{Malformed, Undated}
 
 -- bit n for rule n: the sum of 2 ^ n over those of some rules that the sheet s breaks at the dates D
 unfoldable pub bits_of : Dates → Sheet → List Rule → ℕ
@@ -32,9 +33,9 @@ pub record BrokenSet (D : Dates) (s : Sheet) (set : ℕ) : Type 0 where
   pub first : first_not (λ (n : ℕ). eqb (bit_of set n) 0) order ≡ first_broken D s order
 
 -- the paper's number and values for each case: the set; "draft or sheet malformed"; a date
-unfoldable pub broken_answer : BrokenRules → Answer
-broken_answer (Set n) = success (n ∷ [])
-broken_answer (Refused n) = refusal n.0 []
+unfoldable pub broken_answer : Result ℕ Refusal → Answer
+broken_answer (Ok n) = success (n ∷ [])
+broken_answer (Err n) = refusal (refusal_number n) []
 
 -- as a check refuses: 1, then 12
 unfoldable pub break_tests : Dates → Sheet → List Test
@@ -44,8 +45,8 @@ unfoldable pub breaking : Dates → Sheet → Answer
 breaking D s = answer_by (break_tests D s) (broken_set D s ∷ [])
 
 -- the promise of `broken_rules`
-pub record BreaksRules (D : Dates) (s : Sheet) (r : BrokenRules) : Type 0 where
+pub record BreaksRules (D : Dates) (s : Sheet) (r : Result ℕ Refusal) : Type 0 where
   pub answer : broken_answer r ≡ breaking D s
-  pub set : well_formed s ≡ true → dates_fit D ≡ true → (n : ℕ) × (r ≡ Set n) × BrokenSet D s n
-  pub malformed : (r ≡ Refused (record { 0 = 1 })) ↔ (well_formed s ≡ false)
-  pub undated : well_formed s ≡ true → (r ≡ Refused (record { 0 = 12 })) ↔ (dates_fit D ≡ false)
+  pub set : well_formed s ≡ true → dates_fit D ≡ true → (n : ℕ) × (r ≡ Ok n) × BrokenSet D s n
+  pub malformed : (r ≡ Err Malformed) ↔ (well_formed s ≡ false)
+  pub undated : well_formed s ≡ true → (r ≡ Err Undated) ↔ (dates_fit D ≡ false)

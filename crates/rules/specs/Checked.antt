@@ -1,6 +1,7 @@
 -- The promise of `check`, and what it means, with what each request keeps or moves.
-use Rattle.std.specs.Prelude.{true, false, ◌≡◌, ◌↔◌, List, ◌∷◌, ◌++◌, ℕ}
+use Rattle.std.specs.Prelude.{true, false, ◌≡◌, ◌↔◌, List, ◌∷◌, ◌++◌, ℕ, Result, Ok, Err}
 use Rattle.texts.specs.Texts.{every}
+use Rattle.texts.specs.declared.answers.Refusal.TheVariants.{Malformed, Undated}
 use Rattle.sheets.specs.Sheet.{well_formed, Sheet}
 use Rattle.sheets.specs.Dates.{dates_fit, Dated, InForce, program_dates}
 use Rattle.sheets.specs.declared.dates.Dates.{Dates}
@@ -10,13 +11,14 @@ use Rattle.rules.specs.Requests.R2.{StillAccepted}
 use Rattle.rules.specs.Requests.R4.{AcceptedBefore}
 use Rattle.rules.specs.Requests.R5.{MovedOnly}
 use Rattle.rules.specs.Requests.R7.{AsBefore}
-use Rattle.rules.specs.declared.check.Verdict.{Verdict}
-use Rattle.rules.specs.declared.check.Verdict.TheVariants.{Malformed, Undated, Broken, Accepted}
+use Rattle.rules.specs.declared.class.Class.{Class}
+use Rattle.rules.specs.declared.check.Rejection.{Rejection}
+use Rattle.rules.specs.declared.check.Rejection.TheVariants.{Broken, Refused}
 
-pub record Checked (D : Dates) (s : Sheet) (v : Verdict) : Type 0 where
+pub record Checked (D : Dates) (s : Sheet) (v : Result Class Rejection) : Type 0 where
   pub answer : verdict_answer v ≡ checked D s
   -- "A well-formed sheet is accepted exactly when it keeps the rules": at all dates that 12 does not refuse
-  pub accepted : well_formed s ≡ true → dates_fit D ≡ true → (v ≡ Accepted (class_of s)) ↔ (keeps_all D s ≡ true)
+  pub accepted : well_formed s ≡ true → dates_fit D ≡ true → (v ≡ Ok (class_of s)) ↔ (keeps_all D s ≡ true)
   -- "else the answer is the first broken rule and its field": it is broken, and those before it in the order are kept
   pub named :
       well_formed s ≡ true
@@ -26,11 +28,11 @@ pub record Checked (D : Dates) (s : Sheet) (v : Verdict) : Type 0 where
       × (order ≡ before ++ (n ∷ after))
       × (every (keeps D s) before ≡ true)
       × (keeps D s n ≡ false)
-      × (v ≡ Broken (record { 0 = field_of rules n s }) (record { 0 = n }))
+      × (v ≡ Err (Broken (record { 0 = field_of rules n s }) (record { 0 = n })))
   -- "Malformed"
-  pub malformed : (v ≡ Malformed) ↔ (well_formed s ≡ false)
+  pub malformed : (v ≡ Err (Refused Malformed)) ↔ (well_formed s ≡ false)
   -- "the rest answer 12", and what the rest is
-  pub undated : well_formed s ≡ true → (v ≡ Undated) ↔ (dates_fit D ≡ false)
+  pub undated : well_formed s ≡ true → (v ≡ Err (Refused Undated)) ↔ (dates_fit D ≡ false)
   pub dated : (dates_fit D ≡ true) ↔ Dated D
   -- what rule 10's list is
   pub in_force : InForce D

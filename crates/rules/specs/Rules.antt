@@ -1,5 +1,5 @@
 -- Classes and rules 1 to 35 (document 01, "Rules"; rule 35 is R-1), judged knowing sheets only.
-use Rattle.std.specs.Prelude.{Bool, true, not, cond, ◌&&◌, ◌||◌, List, [], ◌∷◌, ◌++◌, map, ℕ, eqb}
+use Rattle.std.specs.Prelude.{Bool, true, not, cond, ◌&&◌, ◌||◌, List, [], ◌∷◌, ◌++◌, map, ℕ, eqb, Option, None, Some}
 use Prim.Native.String.{String}
 use Rattle.texts.specs.Texts.{every, blank, ◌is◌, ◌is_one_of◌, ◌begins◌}
 use Rattle.sheets.specs.Sheet.{Sheet, field_in, slot_of, given, ◌⟨◌⟩}
@@ -9,6 +9,7 @@ use Rattle.sheets.specs.declared.dates.Dates.{Dates}
 use Rattle.sheets.specs.Lists.{account03100, account03212, customs_group, treasury_group, courts_group, personal_group, want_inn, want_ten, want_twelve, want_zero}
 use Rattle.rules.specs.declared.class.Class.{Class}
 use Rattle.rules.specs.declared.class.Class.TheVariants.{A, B, O}
+use Rattle.rules.specs.declared.rules.RuleNumber.{RuleNumber}
 
 -- ---- for every sheet
 
@@ -295,3 +296,7 @@ first_not p (n ∷ ns) = cond (p n) (first_not p ns) n
 -- the first broken one of some rules
 abbrev pub first_broken : Dates → Sheet → List ℕ → ℕ
 first_broken D s ns = first_not (keeps D s) ns
+
+-- the rule with a number; 0 is none
+unfoldable pub rule_named : ℕ → Option RuleNumber
+rule_named n = cond (eqb n 0) None (Some (record { 0 = n }))

@@ -3,8 +3,9 @@ ghost use Rattle.std.specs.Prelude.{◌≡◌, true, [], ◌∷◌};
 ghost use Rattle.sheets.specs.Sheet.{Sheet};
 ghost use Rattle.sheets.specs.Working.Facts.{Read};
 ghost use Rattle.sheets.specs.declared.dates.Dates.{Dates};
-ghost use Rattle.rules.specs.Rules.{budget, order, basic, ahead, first_not, first_broken};
-ghost use Rattle.rules.specs.Working.Tests.{kept, holds, general_on, outcomes_on, judged_on};
+ghost use Rattle.rules.specs.Rules.{budget, order, basic, ahead, first_not, first_broken, rule_named};
+ghost use Rattle.rules.specs.Working.Tests.{kept, holds, general_on, outcomes_on, judged_on, first_of};
+ghost use Rattle.rules.specs.declared.check.Rejection.TheVariants.{Refused};
 ghost use Rattle.rules.specs.Checked.{Checked};
 
 use crate::class::{Class, class_of, is_ordinary};
@@ -16,15 +17,21 @@ use crate::rules::{RuleNumber, field_of};
 use sheets::dates::{Dates, are_fit};
 use sheets::facts::{Facts, facts_of};
 use sheets::sheet::{Field, well_formed};
-use texts::parts::wide;
+use texts::answers::Refusal;
 
-// What checking a sheet answers: 1, 12, 8 with field and rule, or acceptance with the class.
+// Why a sheet is not accepted: its first broken rule, with the field that this names, which is refusal 8; or another refusal.
 #[derive(Clone, Copy)]
-pub enum Verdict {
-    Malformed,
-    Undated,
+pub enum Rejection {
     Broken(Field, RuleNumber),
-    Accepted(Class),
+    Refused(Refusal),
+}
+
+impl From<Refusal> for Rejection {
+    ghost from_gives = { λ refusal rejection. rejection ≡ Refused refusal };
+
+    fn from(refusal: Refusal) -> Rejection {
+        Rejection::Refused(refusal)
+    }
 }
 
 // "Tested in number order", but "22 is tested ahead of 21" (R-5).
@@ -40,42 +47,35 @@ const BASIC: [u8; 3] = [1, 2, 3];
 const AHEAD: [u8; 12] = [5, 6, 7, 8, 9, 11, 12, 13, 14, 16, 22, 28];
 
 // Whether a rule is kept, by the outcomes of rules at their numbers; one past the end is.
+#[tactic(auto, using(std::proofs::lemmas::Option::gets), unfolding(crate::specs::Working::Tests::kept))]
 fn is_kept(outcomes: &[bool], n: u8) -> bool
     ensures { result ≡ kept outcomes.now n }
 {
-    let k = wide(n);
-    if k < outcomes.len() {
-        outcomes[k]
-    } else {
-        true
-    }
+    outcomes.get(usize::from(n)).copied().unwrap_or(true)
 }
 
-// The first broken one of some rules, 0 where none is broken.
-fn first_broken(outcomes: &[bool], order: &[u8]) -> RuleNumber
-    ensures { result.0 ≡ first_not (kept outcomes.now) order.now }
+// The first broken one of some rules.
+fn first_broken(outcomes: &[bool], order: &[u8]) -> Option<RuleNumber>
+    ensures { result ≡ first_of outcomes.now order.now }
 {
-    let mut i = 0;
-    while i < order.len() {
-        let n = order[i];
-        if !is_kept(outcomes, n) {
-            return RuleNumber(n);
-        }
-        i += 1;
-    }
-    RuleNumber(0)
+    order
+        .iter()
+        .copied()
+        .find(|n| !is_kept(outcomes, *n))
+        .map(RuleNumber)
 }
 
 // What completion asks of a sheet's facts, in words of the sheet: the first broken one of rules 1 to 3. Here and below the answer is said of
 // all facts, too, whether or not they were read of a sheet.
-pub fn broken_basic(f: Facts) -> RuleNumber
-    ensures { ((D : Dates) (s : Sheet) → Read D f s → result.0 ≡ first_broken D s basic) × (result.0 ≡ first_not (kept (general_on f)) basic) }
+pub fn broken_basic(f: Facts) -> Option<RuleNumber>
+    ensures { ((D : Dates) (s : Sheet) → Read D f s → result ≡ rule_named (first_broken D s basic)) × (result ≡ rule_named (first_not (kept (general_on f)) basic)) }
 {
     first_broken(&general_outcomes(f), &BASIC)
 }
 
-// The outcomes of all rules, at their numbers.
-fn outcomes(f: Facts) -> [bool; 36]
+// The outcomes of all rules, at their numbers. Both callers have it compiled in: with a call in its place a check takes longer.
+#[inline(always)]
+pub(crate) fn outcomes(f: Facts) -> [bool; 36]
     ensures { result ≡ outcomes_on f }
 {
     let general = general_outcomes(f);
@@ -126,8 +126,8 @@ fn outcomes(f: Facts) -> [bool; 36]
 
 // What a test ahead of completion asks of a budget payment's facts, in words of the sheet: the first broken one of its rules. It makes no
 // other outcome.
-pub fn broken_ahead(f: Facts) -> RuleNumber
-    ensures { ((D : Dates) (s : Sheet) → Read D f s → budget s ≡ true → result.0 ≡ first_broken D s ahead) × (result.0 ≡ first_not (holds f) ahead) }
+pub fn broken_ahead(f: Facts) -> Option<RuleNumber>
+    ensures { ((D : Dates) (s : Sheet) → Read D f s → budget s ≡ true → result ≡ rule_named (first_broken D s ahead)) × (result ≡ rule_named (first_not (holds f) ahead)) }
 {
     let always = fixed_outcomes(f);
     let given = day_outcomes(f);
@@ -139,9 +139,9 @@ pub fn broken_ahead(f: Facts) -> RuleNumber
     first_broken(&kept, &AHEAD)
 }
 
-// What check and a writer of MT103 lines ask of a sheet's facts, in words of the sheet: the first broken rule.
-pub fn broken(f: Facts) -> RuleNumber
-    ensures { ((D : Dates) (s : Sheet) → Read D f s → result.0 ≡ first_broken D s order) × (result.0 ≡ first_not (kept (judged_on f)) order) }
+// What check asks of a sheet's facts, in words of the sheet: the first broken rule.
+pub fn broken(f: Facts) -> Option<RuleNumber>
+    ensures { ((D : Dates) (s : Sheet) → Read D f s → result ≡ rule_named (first_broken D s order)) × (result ≡ rule_named (first_not (kept (judged_on f)) order)) }
 {
     if is_ordinary(f) {
         return first_broken(&general_outcomes(f), &ORDER);
@@ -150,19 +150,19 @@ pub fn broken(f: Facts) -> RuleNumber
 }
 
 // "A well-formed sheet is accepted exactly when it keeps the rules; else the answer is the first broken rule and its field."
-pub fn check(sheet: &[u8], dates: Dates) -> Verdict
+#[inline(always)]
+pub fn check(sheet: &[u8], dates: Dates) -> Result<Class, Rejection>
     ensures { Checked dates sheet.now result }
 {
     if !well_formed(sheet) {
-        return Verdict::Malformed;
+        return Err(Rejection::Refused(Refusal::Malformed));
     }
     if !are_fit(dates) {
-        return Verdict::Undated;
+        return Err(Rejection::Refused(Refusal::Undated));
     }
     let f = facts_of(sheet, dates);
-    let b = broken(f);
-    if b.0 != 0 {
-        return Verdict::Broken(field_of(b, sheet), b);
+    match broken(f) {
+        Some(rule) => Err(Rejection::Broken(field_of(rule, sheet), rule)),
+        None => Ok(class_of(f)),
     }
-    Verdict::Accepted(class_of(f))
 }

@@ -1,4 +1,6 @@
 // The rules in groups: each by the last of 101, 106, 108, 109 that it reads, or that it reads none of them.
+#![tactic(auto, unfolding(crate::specs::Working::Tests::holds))]
+
 ghost use Rattle.std.specs.Prelude.{◌≡◌, true, map};
 ghost use Rattle.texts.specs.Texts.{every};
 ghost use Rattle.sheets.specs.Sheet.{Sheet};
@@ -14,13 +16,7 @@ use sheets::facts::Facts;
 fn all_true(outcomes: &[bool]) -> bool
     ensures { result ≡ all_true outcomes.now }
 {
-    let mut all = true;
-    let mut i = 0;
-    while i < outcomes.len() {
-        all = all & outcomes[i];
-        i += 1;
-    }
-    all
+    outcomes.iter().all(|kept| *kept)
 }
 
 // The outcomes of the rules for every sheet, at their numbers.

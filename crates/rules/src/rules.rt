@@ -8,10 +8,10 @@ use crate::class::is_ordinary;
 use sheets::facts::{Facts, Payer, is_given};
 use sheets::forms::Wanted;
 use sheets::sheet::{Field, field_in};
-use texts::parts::{at, wide};
+use texts::parts::at;
 
 // The number of a rule.
-#[derive(Clone, Copy)]
+#[derive(Clone, Copy, Debug, PartialEq, Eq)]
 pub struct RuleNumber(pub u8);
 
 // "The field in brackets", by the rule's number; rule 6 names the first blank one.
@@ -22,6 +22,7 @@ const RULE_FIELDS: [u8; 36] = [
 
 const NEEDED: [u8; 12] = [3, 4, 5, 6, 7, 8, 9, 10, 11, 12, 13, 14];
 
+#[tactic(auto, unfolding(crate::specs::Working::Tests::suits))]
 fn is_suited(w: Wanted, p: Payer) -> bool
     ensures { result ≡ suits w p }
 {
@@ -257,15 +258,11 @@ pub(crate) fn keeps35(f: Facts) -> bool
 fn first_blank(sheet: &[u8], slots: &[u8]) -> Field
     ensures { result.0 ≡ first_blank sheet.now slots.now }
 {
-    let mut i = 0;
-    while i < slots.len() {
-        let k = slots[i];
-        if !is_given(sheet, k) {
-            return field_in(k);
-        }
-        i += 1;
-    }
-    Field(0)
+    slots
+        .iter()
+        .copied()
+        .find(|k| !is_given(sheet, *k))
+        .map_or(Field(0), field_in)
 }
 
 // The field that a rule names.
@@ -276,5 +273,5 @@ pub fn field_of(rule: RuleNumber, sheet: &[u8]) -> Field
     if n == 6 {
         return first_blank(sheet, &NEEDED);
     }
-    Field(at(&RULE_FIELDS, wide(n)))
+    Field(at(&RULE_FIELDS, usize::from(n)))
 }

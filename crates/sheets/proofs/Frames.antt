@@ -7,7 +7,7 @@ use Prim.Native.Nat.{ℕ, zero, suc, ◌+◌, ◌-◌, ◌*◌, ◌<◌, ◌≤�
 use native.Mathlib.Decide.{ℕ_discrete, dec_lt}
 use native.Mathlib.Omega.{arith}
 use borrow.Author.Tests.{eq-eqb, ne_eqb, leb-true}
-use lib.Dec.{eqb, leb}
+use lib.Dec.{eqb}
 use lib.ListN.{length, get_or, take, drop, replicate, length-append, length-take, length-drop, length-replicate}
 use lib.Seq.{take_at}
 use Rattle.texts.specs.Quoted.{Text}
@@ -75,6 +75,14 @@ cell-part s j = let e : j * cell_size + cell_size - j * cell_size ≡ cell_size 
 either : (P : List ℕ → Type 0) (b : Bool) {l m : List ℕ} → P l → P m → P (cond b l m)
 either P true p q = p
 either P false p q = q
+
+-- what a filling chooses by whether a field is blank
+module _ {X : Type 0} {z : X} (b : Bool) (x y : X) where
+  pub blank-so : b ≡ true → z ≡ x → z ≡ cond b x y
+  blank-so e h = h ∙ ap (λ (c : Bool). cond c x y) (sym e)
+
+  pub given-so : b ≡ false → z ≡ y → z ≡ cond b x y
+  given-so e h = h ∙ ap (λ (c : Bool). cond c x y) (sym e)
 
 chosen : {X : Type 0} (h : List ℕ → X) (b : Bool) (t u : List ℕ) → cond b (h t) (h u) ≡ h (cond b t u)
 chosen h true t u = refl

@@ -10,13 +10,14 @@ use Rattle.texts.proofs.Codes.{same_true}
 use lib.Dec.{leb, ltb, eqb}
 use lib.ListN.{length, get_or, get_or-append, get_or-eq_default}
 use lib.Seq.{get_or-append-add}
+use Rattle.std.specs.Int.{from_bool}
 use Rattle.texts.specs.Quoted.{Text, words}
-use Rattle.texts.specs.Texts.{every, any, are, among, same, between, value_of, value, number, ◌is_one_of◌}
+use Rattle.texts.specs.Texts.{every, any, same, between, value_of, value, number, ◌is_one_of◌}
 use Rattle.sheets.specs.Forms.{person, document, pension, date}
 use Rattle.sheets.specs.Lists.{statuses, letter_pairs, basis_texts, zero_texts}
 use Rattle.sheets.specs.Working.Entries.{basis_count, zero_count, row_of, place_in, count_in, status_at}
 use Rattle.sheets.specs.Working.Facts.{numbers_of, standing_by, standing_of, basis_of, document_of, day_of, facts_by, Read}
-use Rattle.sheets.specs.Dates.{listed, force_of, texts_in, status_texts, status_count}
+use Rattle.sheets.specs.Dates.{force_of, texts_in, status_texts, status_count}
 use Rattle.sheets.specs.Sheet.{Sheet}
 use Rattle.sheets.specs.declared.dates.Dates.{Dates}
 use Rattle.sheets.specs.declared.facts.Facts.{Facts}
@@ -25,7 +26,7 @@ use Rattle.sheets.specs.declared.facts.Basis.{Basis}
 use Rattle.sheets.specs.declared.facts.Document.{Document}
 use Rattle.sheets.specs.declared.facts.Day.{Day}
 use Rattle.sheets.specs.declared.dates.Force.{Force}
-use Rattle.sheets.proofs.InForce.{by-force, listed-entry, each_place, every_in, entry_in, count-is, count-bounds, places-in}
+use Rattle.sheets.proofs.InForce.{listed-entry, each_place, every_in, entry_in, one-if, count-is, count-bounds, places-in}
 use Rattle.sheets.proofs.Ways.{standing-is}
 
 -- what a table of values holds at a place within it, and a list of texts past its end
@@ -34,19 +35,19 @@ in_list g d [] k h = absurd (omega arith)
 in_list g d (t ∷ ts) zero h = refl
 in_list g d (t ∷ ts) (suc k) h = in_list g d ts k (omega arith)
 
+-- and the same at any place, where past the end stands what is made of the blank
+pub mapped : {A : Type 0} (g : Text → A) (ts : List Text) (k : ℕ) → get_or (map g ts) k (g []) ≡ g (get_or ts k [])
+mapped g [] k = refl
+mapped g (t ∷ ts) zero = refl
+mapped g (t ∷ ts) (suc k) = mapped g ts k
+
 past-list : (ts : List Text) (k : ℕ) → length ts ≤ k → [] ≡ get_or ts k []
 past-list ts k h = sym (get_or-eq_default ts [] h)
 
 -- ---- the facts of an entry: of 101 by its number, of the others by their place
 
--- the blank is none of them
-nothing-listed : (F : Force) → false ≡ listed [] (texts_in F)
-unfolding texts_in every any same
-nothing-listed F = sym (not-true (listed [] (texts_in F)) (by-force (λ (l : List Text). not (listed [] l)) F refl))
-
-pub status-past : (F : Force) (k n : ℕ) (r : Standing) → n ≡ count_in F → n ≤ k → r ≡ standing_by 100 true false → r ≡ standing_of F (get_or (texts_in F) k [])
-unfolding every number value value_of
-status-past F k n r c h e = standing-is F [] 100 false r refl (nothing-listed F) e ∙ ap (standing_of F) (past-list (texts_in F) k (omega (arith, count-is F)))
+pub status-past : (F : Force) (k n : ℕ) (r : Standing) → n ≡ count_in F → n ≤ k → r ≡ standing_of F [] → r ≡ standing_of F (get_or (texts_in F) k [])
+status-past F k n r c h e = e ∙ ap (standing_of F) (past-list (texts_in F) k (omega (arith, count-is F)))
 
 pub status-entry : (F : Force) (k n m : ℕ) (r : Standing) → n ≡ count_in F → k < n → m ≡ number 2 (get_or (texts_in F) k []) → r ≡ standing_by m false true → r ≡ standing_of F (get_or (texts_in F) k [])
 unfolding every
@@ -68,10 +69,10 @@ placed g of ts e k h = sym (at_place g (g 0) ts k h) ∙ ap (λ (l : List _). ge
 pub number_in : (F : Force) (k : ℕ) → k < count_in F → get_or (numbers_of 2 statuses) (place_in F k) 0 ≡ number 2 (get_or (texts_in F) k [])
 number_in F k h = placed _ (number 2) (texts_in F) (places-in F) k (omega (arith, count-is F))
 
-pub number-made : (F : Force) (k x y r : ℕ) → k < count_in F → x ≡ cond (leb 1 k && not F.s02) 1 0 → y ≡ cond (leb 21 (k + x) && not F.s32) 1 0
+pub number-made : (F : Force) (k x y r : ℕ) → k < count_in F → x ≡ from_bool (leb 1 k && not F.s02) → y ≡ from_bool (leb 21 (k + x) && not F.s32)
     → r ≡ get_or (numbers_of 2 statuses) (k + x + y) 0 → r ≡ number 2 (get_or (texts_in F) k [])
 unfolding place_in
-number-made F k x y r h ex ey er = er ∙ cc (number_in F k h)
+number-made F k x y r h ex ey er = er ∙ cc (number_in F k h, one-if (leb 1 k && not F.s02), one-if (leb 21 (k + x) && not F.s32))
 
 -- status_at
 pub status-at-blank : (f : Facts) (k : ℕ) (r : Standing) → f.status.blank ≡ true → r ≡ standing_of f.force (get_or (texts_in f.force) k []) → r ≡ status_at f k

@@ -1,6 +1,6 @@
 -- Sets of numbers below 64 as bits: that a bit is set exactly if the number is one of a list is one computation.
 use mathlib.Core.Path.{◌≡◌, refl, ap, sym, ◌∙◌}
-use mathlib.Core.Bool.{Bool, true, false, ◌&&◌, ◌||◌, or-false}
+use mathlib.Core.Bool.{Bool, true, false, ◌||◌, or-false}
 use mathlib.Core.List.{List, [], ◌∷◌, map}
 use Prim.Native.Nat.{ℕ, zero, suc, ◌+◌, ◌-◌, ◌/◌, ◌%◌, ◌^◌, ◌≤◌, ◌<◌}
 use native.Mathlib.Decide.{dec_lt, ℕ_discrete}
@@ -12,7 +12,6 @@ use Rattle.texts.specs.Texts.{every, any, are, among, value_of, value, number}
 use Rattle.texts.proofs.Bools.{both}
 use Rattle.sheets.specs.Lists.{accounts_a, statuses, customs_group, treasury_group, courts_group, personal_group}
 use Rattle.sheets.specs.Working.Facts.{numbers_of, in_set, groups_by}
-use Rattle.sheets.specs.declared.facts.Groups.{Groups}
 
 -- n numbers from i on
 abbrev up_from : ℕ → ℕ → List ℕ
@@ -96,22 +95,18 @@ lead_low n h = sym (leads n ∙ ap (λ (b : Bool). eqb 3100 n || b) (below 3212 
 lead-from : (n : ℕ) → 3212 ≤ n → among n (numbers_of 5 accounts_a) ≡ among (n - 3212) beyond
 lead-from n h = leads n ∙ rw (ne_eqb 3100 n (λ z. omega arith)) (rest_of 3212 beyond n h)
 
-pub lead_high : (n : ℕ) → 3212 ≤ n → 3276 ≤ n → false ≡ among n (numbers_of 5 accounts_a)
-unfolding every
-lead_high n h g = sym (lead-from n h ∙ past 64 beyond (n - 3212) refl (omega arith))
-
 pub lead-in : (n : ℕ) (r : Bool) → 3212 ≤ n → r ≡ in_set 1154048509399274501 (n - 3212) → r ≡ among n (numbers_of 5 accounts_a)
 unfolding every any are among
 lead-in n r h e = e ∙ in-set 1154048509399274501 beyond refl refl (n - 3212) ∙ sym (lead-from n h)
 
 -- groups_of
-pub groups-made : (n : ℕ) (a b c d x y z : Bool) → a ≡ in_set 5637341376 n → b ≡ in_set 5637349590 n → c ≡ in_set 10737418240 n → d ≡ in_set 18350088 n
-    → x ≡ among n (numbers_of 2 "01") → y ≡ among n (numbers_of 2 "13") → z ≡ among n (numbers_of 2 "31")
-    → record { customs = a; treasury = b; courts = c; personal = d; is01 = x; is13 = y; is31 = z } ≡ groups_by n
-unfolding groups_by
-groups-made n a b c d x y z ea eb ec ed ex ey ez =
+pub groups-made : (n : ℕ) (a b c d : Bool) → a ≡ in_set 5637341376 n → b ≡ in_set 5637349590 n → c ≡ in_set 10737418240 n → d ≡ in_set 18350088 n
+    → record { customs = a; treasury = b; courts = c; personal = d; is01 = eqb 1 n; is13 = eqb 13 n; is31 = eqb 31 n } ≡ groups_by n
+unfolding groups_by among any are every number value value_of
+groups-made n a b c d ea eb ec ed =
     let fa : a ≡ among n (numbers_of 2 customs_group) = ea ∙ customs-set n in
     let fb : b ≡ among n (numbers_of 2 treasury_group) = eb ∙ treasury-set n in
     let fc : c ≡ among n (numbers_of 2 courts_group) = ec ∙ courts-set n in
     let fd : d ≡ among n (numbers_of 2 personal_group) = ed ∙ personal-set n in
-    λ i. record { customs = fa i; treasury = fb i; courts = fc i; personal = fd i; is01 = ex i; is13 = ey i; is31 = ez i }
+    let one = λ (k : ℕ). sym (or-false (eqb k n)) in
+    λ i. record { customs = fa i; treasury = fb i; courts = fc i; personal = fd i; is01 = one 1 i; is13 = one 13 i; is31 = one 31 i }

@@ -1,21 +1,21 @@
 -- What the ways through the functions come to: facts of plain values, of which `search` finds the premises.
 use mathlib.Core.Path.{◌≡◌, refl, ap, sym, ◌∙◌}
-use mathlib.Core.Bool.{Bool, true, false, not, cond, ◌&&◌, ◌||◌, and_comm, and-true, and-false}
+use mathlib.Core.Bool.{Bool, true, false, not, cond, ◌&&◌, ◌||◌, and_comm, and_assoc, and-true}
 use mathlib.Core.List.{List, [], ◌∷◌}
 use mathlib.Core.Logic.{inl, inr}
-use Prim.Native.Nat.{ℕ, ◌-◌, ◌/◌, ◌%◌, ◌≤◌, ◌<◌}
+use Prim.Native.Nat.{ℕ, ◌/◌, ◌%◌, ◌≤◌, ◌<◌}
 use native.Mathlib.Decide.{ℕ_discrete, dec_lt}
 use native.Mathlib.Omega.{arith}
 use borrow.Author.Tests.{eqb-true, eq-eqb, ne_eqb, lt-ltb, le-ltb, le-leb, lt-leb, not-true, not-false}
 use lib.Dec.{eqb, leb, ltb}
 use lib.ListN.{length, get_or, replicate}
 use Rattle.texts.specs.Quoted.{Text}
-use Rattle.texts.specs.Texts.{every, any, are, among, between, same, starts_with, digits, value_of, value, number, weighted, ◌is◌, ◌is_one_of◌, ◌begins◌}
+use Rattle.texts.specs.Texts.{every, any, are, among, between, same, starts_with, digits, value_of, value, number, weighted, ◌is_one_of◌, ◌begins◌}
 use Rattle.texts.proofs.Bools.{both}
 use Rattle.texts.proofs.Codes.{same_true, is-one-of}
 use Rattle.texts.proofs.Arms.{AnyOf, arm, outside}
 use Rattle.sheets.specs.Sheet.{sheet_size, text_of}
-use Rattle.sheets.specs.Forms.{weights10, check_digit, inn10, digits10, digit_or_capital, kpp, person, document, snils_bound, snils_check, snils, pension, leap, month_days, gregorian, date}
+use Rattle.sheets.specs.Forms.{weights10, check_digit, inn10, digits10, digit_or_capital, kpp, person, snils_bound, snils_check, snils, pension, leap, month_days, gregorian, date}
 use Rattle.sheets.specs.Lists.{customs_group, treasury_group, courts_group, personal_group, banks_b, person_types, zero_texts}
 use Rattle.sheets.specs.Working.Facts.{numbers_of, is_b, in_set, allowed_by, groups_by, groups_of, standing_by, standing_of, wanted_by, basis_of, document_of, day_of, facts_by, facts_of, facts_in, Read}
 use Rattle.sheets.specs.declared.forms.Wanted.TheVariants.{Any, Ten}
@@ -44,13 +44,9 @@ pub check-digit-is : (ws t u : List ℕ) (b v k s : ℕ) → u ≡ between ws 0 
 unfolding check_digit
 check-digit-is ws t u b v k s eu eb ev ek es = cc
 
--- is_inn10, is_inn12
-module _ (a b : Bool) (e : b ≡ a) where
-  pub inn-other : (c : Bool) → not b ≡ true → false ≡ (a && c)
-  inn-other c h = cc (not-true b h)
-
-  pub inn-these : (c d : Bool) → not b ≡ false → d ≡ c → d ≡ (a && c)
-  inn-these c d h f = cc (not-false b h)
+-- is_inn10, is_inn12: where the digits are right
+pub inn-told : (a b c d : Bool) → b ≡ a → b ≡ true → d ≡ c → d ≡ (a && c)
+inn-told a b c d e h f = rw (sym e ∙ h) f
 
 -- snils_check
 pub two_digits : (s : ℕ) → s % 101 % 100 ≡ cond (eqb (s % 101) 100) 0 (s % 101)
@@ -74,19 +70,23 @@ module _ (t : Text) (b : Bool) (e : b ≡ digits 11 t) where
   snils-these u v n m k c h eu en ev em ek ec = cc (not-false b h, not-above snils_bound n)
 
 -- is_person
-pub person-short : (t : Text) → length t < 4 → false ≡ person t
-unfolding person
-person-short t h = sym (rw (lt-leb 4 (length t) h) (and-false (between t 0 2 is_one_of person_types && between t 2 3 is ";")))
+person-by : (t : Text) → ((leb 4 (length t) && same (between t 2 3) (59 ∷ [])) && among (number 2 (between t 0 2)) (numbers_of 2 person_types)) ≡ person t
+unfolding person every number value value_of
+person-by t =
+    let types = between t 0 2 is_one_of person_types in
+    cc (
+      is-one-of 2 (between t 0 2) person_types refl,
+      and_comm (leb 4 (length t) && same (between t 2 3) (59 ∷ [])) types,
+      and_comm (leb 4 (length t)) (same (between t 2 3) (59 ∷ [])),
+      and_assoc types (same (between t 2 3) (59 ∷ [])) (leb 4 (length t)),
+    )
 
 module _ (t u : Text) (b : Bool) (eu : u ≡ between t 2 3) (e : b ≡ same u (59 ∷ [])) where
-  pub person-other : not b ≡ true → false ≡ person t
-  unfolding person
-  person-other h = cc (not-true b h, and-false (between t 0 2 is_one_of person_types))
+  pub person-other : (leb 4 (length t) && b) ≡ false → (leb 4 (length t) && b) ≡ person t
+  person-other h = cc (h, person-by t)
 
-  pub person-these : (v : Text) (n : ℕ) (r : Bool) → not b ≡ false → 4 ≤ length t → v ≡ between t 0 2 → n ≡ number 2 v → r ≡ among n (numbers_of 2 person_types) → r ≡ person t
-  unfolding person every number value value_of
-  person-these v n r h l ev en er =
-      cc (not-false b h, le-leb 4 (length t) l, and-true (between t 0 2 is_one_of person_types), is-one-of 2 (between t 0 2) person_types refl)
+  pub person-these : (v : Text) (n : ℕ) (r : Bool) → (leb 4 (length t) && b) ≡ true → v ≡ between t 0 2 → n ≡ number 2 v → r ≡ among n (numbers_of 2 person_types) → r ≡ person t
+  person-these v n r h ev en er = cc (h, person-by t)
 
 -- is_pension
 module _ (t : Text) (b : Bool) (e : b ≡ starts_with t (49 ∷ 52 ∷ 59 ∷ [])) where

@@ -28,9 +28,9 @@ pub struct Force {
 fn is_day_number(date: Date) -> bool
     ensures { result ≡ day_number date.0 }
 {
-    let n = date.0;
+    let n = date.0 as usize;
     let month = n / 100;
-    is_gregorian((n % 100) as u8, (month % 100) as u8, (month / 100) as usize)
+    is_gregorian(n % 100, month % 100, month / 100)
 }
 
 // What error 12 does not refuse. Most have the record that R-7 gives, whose entries are told by comparing.

@@ -6,10 +6,10 @@ ghost use Rattle.sheets.specs.Working.Facts.{standing_of, basis_of, document_of,
 ghost use Rattle.sheets.specs.Lists.{basis_texts, zero_texts};
 ghost use Rattle.sheets.specs.Dates.{texts_in, status_texts, status_count};
 ghost use Rattle.sheets.specs.declared.dates.Dates.{Dates};
-ghost use Rattle.sheets.specs.Working.Entries.{row_of, filled_at, count_in, status_at, basis_at, document_at, day_at, with_status, with_basis, with_document, with_day};
+ghost use Rattle.sheets.specs.Working.Entries.{row_of, filled_at, count_in, with_status, with_basis, with_document, with_day, TellsBlank, FillsSlot};
 
 use crate::dates::{Dates, Force, force_of};
-use crate::facts::{Basis, Day, Document, Facts, STATUSES, Standing, standing_by};
+use crate::facts::{Basis, Day, Document, Facts, STATUSES, Standing, standing_by, standing_of};
 use crate::forms::{LETTER_PAIR_COUNT, LETTER_PAIRS, Status};
 use texts::parts::at;
 
@@ -20,17 +20,11 @@ const ZEROS: [[u8; 3]; ZERO_COUNT] = [[1, 48, 0], [2, 48, 48]];
 
 pub const BASIS_COUNT: usize = ZERO_COUNT + LETTER_PAIR_COUNT;
 
-fn one_if(b: bool) -> usize
-    ensures { (result ≡ cond b 1 0) × (result ≤ 1) }
-{
-    if b { 1 } else { 0 }
-}
-
 // How many statuses are in force.
 fn count_in(force: Force) -> usize
     ensures { result ≡ count_in force }
 {
-    20 + one_if(force.s02) + one_if(force.s32) + one_if(force.s33)
+    20 + usize::from(force.s02) + usize::from(force.s32) + usize::from(force.s33)
 }
 
 // The number of status k of those in force: it stands past 02 and 32 where these are not.
@@ -38,8 +32,8 @@ fn number_in(force: Force, k: usize) -> u8
     requires { k < count_in force }
     ensures { result ≡ number 2 (get_or (texts_in force) k []) }
 {
-    let a = k + one_if((1 <= k) & !force.s02);
-    let b = a + one_if((21 <= a) & !force.s32);
+    let a = k + usize::from((1 <= k) & !force.s02);
+    let b = a + usize::from((21 <= a) & !force.s32);
     at(&STATUSES, b)
 }
 
@@ -58,10 +52,7 @@ pub fn status_row(dates: Dates, k: usize) -> [u8; 3]
 pub fn zero_row(k: usize) -> [u8; 3]
     ensures { result ≡ row_of (get_or zero_texts k []) }
 {
-    if ZERO_COUNT <= k {
-        return [0, 0, 0];
-    }
-    ZEROS[k]
+    ZEROS.get(k).copied().unwrap_or([0, 0, 0])
 }
 
 pub fn basis_row(k: usize) -> [u8; 3]
@@ -70,11 +61,10 @@ pub fn basis_row(k: usize) -> [u8; 3]
     if k < ZERO_COUNT {
         return zero_row(k);
     }
-    if BASIS_COUNT <= k {
-        return [0, 0, 0];
+    match LETTER_PAIRS.get(k - ZERO_COUNT) {
+        Some(pair) => [2, pair[0], pair[1]],
+        None => [0, 0, 0],
     }
-    let pair = LETTER_PAIRS[k - ZERO_COUNT];
-    [2, pair[0], pair[1]]
 }
 
 // The facts of an entry, which the search asks for again and again: by the status's number; "0", "00" and, for 106, the letter pairs by
@@ -83,9 +73,9 @@ fn status_entry(force: Force, k: usize) -> Standing
     ensures { result ≡ standing_of force (get_or (texts_in force) k []) }
 {
     if count_in(force) <= k {
-        return standing_by(Status(100), true, false);
+        return standing_of(&[], force);
     }
-    standing_by(Status(number_in(force, k)), false, true)
+    standing_by(Status(usize::from(number_in(force, k))), false, true)
 }
 
 fn basis_entry(k: usize) -> Basis
@@ -123,42 +113,6 @@ fn day_entry(k: usize) -> Day
     }
 }
 
-fn status_at(f: Facts, k: usize) -> Standing
-    ensures { result ≡ status_at f k }
-{
-    if f.status.blank {
-        return status_entry(f.force, k);
-    }
-    f.status
-}
-
-fn basis_at(f: Facts, k: usize) -> Basis
-    ensures { result ≡ basis_at f k }
-{
-    if f.basis.blank {
-        return basis_entry(k);
-    }
-    f.basis
-}
-
-fn document_at(f: Facts, k: usize) -> Document
-    ensures { result ≡ document_at f k }
-{
-    if f.document.blank {
-        return document_entry(k);
-    }
-    f.document
-}
-
-fn day_at(f: Facts, k: usize) -> Day
-    ensures { result ≡ day_at f k }
-{
-    if f.day.blank {
-        return day_entry(k);
-    }
-    f.day
-}
-
 // What a crate above needs of facts, in words of sheets: how many statuses there are, whether a field that can vary is blank, and the facts of
 // a sheet with entry k of that field's list put in. fill_basis, fill_document and fill_day take two facts: f, read of the sheet s as it was
 // given, and g, read of a sheet t that may have another entry in the fields before, and in this field the text of s; they give those of t with
@@ -170,25 +124,25 @@ pub fn status_count(f: Facts) -> usize
 }
 
 pub fn blank_status(f: Facts) -> bool
-    ensures { ((D : Dates) (s : Sheet) → Read D f s → result ≡ blank (text_of s 6)) × (result ≡ f.status.blank) }
+    ensures { TellsBlank f 6 result × (result ≡ f.status.blank) }
 {
     f.status.blank
 }
 
 pub fn blank_basis(f: Facts) -> bool
-    ensures { ((D : Dates) (s : Sheet) → Read D f s → result ≡ blank (text_of s 11)) × (result ≡ f.basis.blank) }
+    ensures { TellsBlank f 11 result × (result ≡ f.basis.blank) }
 {
     f.basis.blank
 }
 
 pub fn blank_document(f: Facts) -> bool
-    ensures { ((D : Dates) (s : Sheet) → Read D f s → result ≡ blank (text_of s 13)) × (result ≡ f.document.blank) }
+    ensures { TellsBlank f 13 result × (result ≡ f.document.blank) }
 {
     f.document.blank
 }
 
 pub fn blank_day(f: Facts) -> bool
-    ensures { ((D : Dates) (s : Sheet) → Read D f s → result ≡ blank (text_of s 14)) × (result ≡ f.day.blank) }
+    ensures { TellsBlank f 14 result × (result ≡ f.day.blank) }
 {
     f.day.blank
 }
@@ -196,35 +150,39 @@ pub fn blank_day(f: Facts) -> bool
 pub fn fill_status(f: Facts, k: usize) -> Facts
     ensures { ((D : Dates) (s : Sheet) → Read D f s → Read D result (filled_at s 6 (cell (get_or (status_texts D) k [])))) × (result ≡ with_status f f k) }
 {
-    let x = status_at(f, k);
-    let mut h = f;
-    h.status = x;
-    h
+    let status = if f.status.blank {
+        status_entry(f.force, k)
+    } else {
+        f.status
+    };
+    Facts { status, ..f }
 }
 
 pub fn fill_basis(g: Facts, f: Facts, k: usize) -> Facts
-    ensures { ((D : Dates) (s t : Sheet) → Read D f s → Read D g t → text_of t 11 ≡ text_of s 11 → Read D result (filled_at t 11 (cell (get_or basis_texts k [])))) × (result ≡ with_basis g f k) }
+    ensures { FillsSlot g f 11 basis_texts k result × (result ≡ with_basis g f k) }
 {
-    let x = basis_at(f, k);
-    let mut h = g;
-    h.basis = x;
-    h
+    let basis = if f.basis.blank {
+        basis_entry(k)
+    } else {
+        f.basis
+    };
+    Facts { basis, ..g }
 }
 
 pub fn fill_document(g: Facts, f: Facts, k: usize) -> Facts
-    ensures { ((D : Dates) (s t : Sheet) → Read D f s → Read D g t → text_of t 13 ≡ text_of s 13 → Read D result (filled_at t 13 (cell (get_or zero_texts k [])))) × (result ≡ with_document g f k) }
+    ensures { FillsSlot g f 13 zero_texts k result × (result ≡ with_document g f k) }
 {
-    let x = document_at(f, k);
-    let mut h = g;
-    h.document = x;
-    h
+    let document = if f.document.blank {
+        document_entry(k)
+    } else {
+        f.document
+    };
+    Facts { document, ..g }
 }
 
 pub fn fill_day(g: Facts, f: Facts, k: usize) -> Facts
-    ensures { ((D : Dates) (s t : Sheet) → Read D f s → Read D g t → text_of t 14 ≡ text_of s 14 → Read D result (filled_at t 14 (cell (get_or zero_texts k [])))) × (result ≡ with_day g f k) }
+    ensures { FillsSlot g f 14 zero_texts k result × (result ≡ with_day g f k) }
 {
-    let x = day_at(f, k);
-    let mut h = g;
-    h.day = x;
-    h
+    let day = if f.day.blank { day_entry(k) } else { f.day };
+    Facts { day, ..g }
 }

@@ -10,13 +10,12 @@ ghost use Rattle.sheets.specs.declared.dates.Dates.{Dates};
 use crate::dates::{Dates, Force, force_of};
 use crate::entries::document_entry;
 use crate::forms::{
-    Status, Wanted, is_account, is_bik, is_code4, is_date, is_digits5, is_digits10, is_digits12,
-    is_document, is_foreign_code, is_inn10, is_inn12, is_kbk, is_kpp, is_letter_pair, is_office,
-    is_oktmo, is_pension, is_person, is_uin, wanted_by,
+    Status, Wanted, is_date, is_digits, is_digits_not_zero, is_document, is_inn10, is_inn12,
+    is_kpp, is_letter_pair, is_pension, is_person, is_uin, wanted_by,
 };
 use crate::sheet::{SHEET_SIZE, text};
-use texts::comparisons::{begins_with, equals, is_among, is_listed};
-use texts::digits::{number_2, number_3, number_5};
+use texts::comparisons::{begins_with, equals, is_among};
+use texts::digits::number;
 use texts::parts::part;
 
 // 14, 15 and 17 have their forms (rules 1 to 3).
@@ -154,11 +153,21 @@ pub struct Facts {
 }
 
 // What 17 begins with in class A is 03100, or one of the 64 numbers from 03212 on that are in this set, bit n for 03212 + n.
-const ACCOUNTS_A: u64 = 1154048509399274501;
+const ACCOUNTS_A: u64 = 1 << 0
+    | 1 << 2
+    | 1 << 10
+    | 1 << 12
+    | 1 << 20
+    | 1 << 22
+    | 1 << 30
+    | 1 << 32
+    | 1 << 40
+    | 1 << 50
+    | 1 << 60;
 
-const ACCOUNTS_B: [u32; 3] = [40503, 40603, 40703];
+const ACCOUNTS_B: [usize; 3] = [40503, 40603, 40703];
 
-const BANKS_B: [u32; 6] = [000, 001, 002, 003, 004, 005];
+const BANKS_B: [usize; 6] = [000, 001, 002, 003, 004, 005];
 
 // All statuses; rule 10's list, which completion goes through as well, is those of them that the date allows.
 pub(crate) const STATUSES: [u8; 23] = [
@@ -166,62 +175,91 @@ pub(crate) const STATUSES: [u8; 23] = [
 ];
 
 // Sets of statuses, bit n for status n: all, and the groups that rules name.
-const ALL_SET: u64 = 17072628222;
+const ALL_SET: u64 = 1 << 1
+    | 1 << 2
+    | 1 << 3
+    | 1 << 4
+    | 1 << 5
+    | 1 << 6
+    | 1 << 7
+    | 1 << 8
+    | 1 << 13
+    | 1 << 15
+    | 1 << 16
+    | 1 << 17
+    | 1 << 19
+    | 1 << 20
+    | 1 << 23
+    | 1 << 24
+    | 1 << 27
+    | 1 << 28
+    | 1 << 29
+    | 1 << 30
+    | 1 << 31
+    | 1 << 32
+    | 1 << 33;
 
-const CUSTOMS: u64 = 5637341376;
+const CUSTOMS: u64 = 1 << 6 | 1 << 7 | 1 << 16 | 1 << 17 | 1 << 28 | 1 << 30 | 1 << 32;
 
-const TREASURY: u64 = 5637349590;
+const TREASURY: u64 = 1 << 1
+    | 1 << 2
+    | 1 << 4
+    | 1 << 6
+    | 1 << 7
+    | 1 << 13
+    | 1 << 16
+    | 1 << 17
+    | 1 << 28
+    | 1 << 30
+    | 1 << 32;
 
-const COURTS: u64 = 10737418240;
+const COURTS: u64 = 1 << 31 | 1 << 33;
 
-const PERSONAL: u64 = 18350088;
+const PERSONAL: u64 = 1 << 3 | 1 << 19 | 1 << 20 | 1 << 24;
 
 fn general_of<'a>(bik: &'a [u8], bank: &'a [u8], account: &'a [u8]) -> General
     ensures { result ≡ general_of bik.now bank.now account.now }
 {
     General {
-        bik: is_bik(bik),
-        bank: (bank.len() == 0) | is_account(bank),
-        account: is_account(account),
+        bik: is_digits::<9>(bik),
+        bank: (bank.len() == 0) | is_digits::<20>(bank),
+        account: is_digits::<20>(account),
     }
 }
 
 // What 17 begins with in class A.
-fn is_lead_a(lead: u32) -> bool
+fn is_lead_a(lead: usize) -> bool
     ensures { result ≡ among lead (numbers_of 5 accounts_a) }
 {
     if lead < 03212 {
         return 03100 == lead;
     }
-    if 03276 <= lead {
-        return false;
-    }
-    is_in((lead - 03212) as u8, ACCOUNTS_A)
+    is_in(lead - 03212, ACCOUNTS_A)
 }
 
 // Class A by whether 15 is such an account, and the number that 17 begins with.
-fn is_a(bank: bool, account: u32) -> bool
+fn is_a(bank: bool, account: usize) -> bool
     ensures { result ≡ is_a bank account }
 {
     bank & is_lead_a(account)
 }
 
 // Class B by digits 7 to 9 of 14, the number that 17 begins with, and its 14th digit. Most accounts begin with a lower number.
-fn is_b<'a>(bik: &'a [u8], account: &'a [u8], lead: u32) -> bool
+fn is_b<'a>(bik: &'a [u8], account: &'a [u8], lead: usize) -> bool
     ensures { result ≡ is_b (number 3 (between bik.now 6 9)) lead (between account.now 13 14 is "4") }
 {
     if lead < 40204 {
         return false;
     }
-    let bank = is_listed(number_3(part(bik, 6, 9)), &BANKS_B);
+    let bank = is_among(number::<3>(part(bik, 6, 9)), &BANKS_B);
     let four = equals(part(account, 13, 14), b"4");
-    bank & ((40204 == lead) | (is_listed(lead, &ACCOUNTS_B) & four))
+    bank & ((40204 == lead) | (is_among(lead, &ACCOUNTS_B) & four))
 }
 
 fn account_of<'a>(bik: &'a [u8], bank: &'a [u8], account: &'a [u8]) -> Account
     ensures { result ≡ account_of bik.now bank.now account.now }
 {
-    let lead = number_5(part(account, 0, 5));
+    let lead = number::<5>(part(account, 0, 5));
     Account {
         a: is_a(begins_with(bank, b"40102"), lead),
         b: is_b(bik, account, lead),
@@ -237,7 +275,7 @@ fn code_of(t: &[u8]) -> Code
     Code {
         zero: equals(t, b"0"),
         uin: is_uin(t),
-        four: is_code4(t),
+        four: is_digits_not_zero::<4>(t),
     }
 }
 
@@ -246,10 +284,7 @@ fn has_ten(t: &[u8], inn: bool) -> bool
     requires { inn ≡ inn10 t.now }
     ensures { result ≡ digits10 t.now }
 {
-    if inn {
-        return true;
-    }
-    is_digits10(t)
+    inn || is_digits::<10>(t)
 }
 
 fn payer_of(t: &[u8]) -> Payer
@@ -258,12 +293,12 @@ fn payer_of(t: &[u8]) -> Payer
     let inn10 = is_inn10(t);
     Payer {
         zero: equals(t, b"0"),
-        foreign: is_foreign_code(t),
-        inn10: inn10,
+        foreign: is_digits_not_zero::<5>(t),
+        inn10,
         inn12: is_inn12(t),
-        five: is_digits5(t),
+        five: is_digits::<5>(t),
         ten: has_ten(t, inn10),
-        twelve: is_digits12(t),
+        twelve: is_digits::<12>(t),
     }
 }
 
@@ -272,15 +307,15 @@ fn form_of(t: &[u8], full: bool) -> Form
 {
     Form {
         zero: equals(t, b"0"),
-        full: full,
+        full,
     }
 }
 
 // A number below 64 is in a set of such numbers.
-fn is_in(n: u8, set: u64) -> bool
+fn is_in(n: usize, set: u64) -> bool
     ensures { result ≡ in_set set n }
 {
-    if n < 64 { (set >> n) % 2 == 1 } else { false }
+    n < 64 && (set >> n) % 2 == 1
 }
 
 fn groups_of(status: Status) -> Groups
@@ -292,9 +327,9 @@ fn groups_of(status: Status) -> Groups
         treasury: is_in(n, TREASURY),
         courts: is_in(n, COURTS),
         personal: is_in(n, PERSONAL),
-        is01: is_among(n, &[01]),
-        is13: is_among(n, &[13]),
-        is31: is_among(n, &[31]),
+        is01: 01 == n,
+        is13: 13 == n,
+        is31: 31 == n,
     }
 }
 
@@ -310,21 +345,18 @@ fn is_allowed(status: Status, force: Force) -> bool
 pub(crate) fn standing_by(status: Status, blank: bool, listed: bool) -> Standing
     ensures { result ≡ standing_by status.0 blank listed }
 {
-    let n = status.0;
-    let groups = groups_of(Status(n));
-    let wanted = wanted_by(Status(n));
     Standing {
-        blank: blank,
-        listed: listed,
-        groups: groups,
-        wanted: wanted,
+        blank,
+        listed,
+        groups: groups_of(status),
+        wanted: wanted_by(status),
     }
 }
 
-fn standing_of(t: &[u8], force: Force) -> Standing
+pub(crate) fn standing_of(t: &[u8], force: Force) -> Standing
     ensures { result ≡ standing_of force t.now }
 {
-    let n = number_2(t);
+    let n = number::<2>(t);
     let listed = is_in(n, ALL_SET) & is_allowed(Status(n), force);
     standing_by(Status(n), t.len() == 0, listed)
 }
@@ -377,16 +409,13 @@ pub fn is_given(sheet: &[u8], slot: u8) -> bool
     !(text(sheet, slot).len() == 0)
 }
 
+// The slots of 22, 60, 61, 102 to 105 and 107.
+const FIXED: [u8; 8] = [3, 4, 5, 7, 8, 9, 10, 12];
+
 fn all_given(sheet: &[u8]) -> bool
     ensures { result ≡ every (λ (k : ℕ). not (blank (text_of sheet.now k))) fixed }
 {
-    is_given(sheet, 3)
-        & (is_given(sheet, 4)
-            & (is_given(sheet, 5)
-                & (is_given(sheet, 7)
-                    & (is_given(sheet, 8)
-                        & (is_given(sheet, 9)
-                            & (is_given(sheet, 10) & (is_given(sheet, 12) & true)))))))
+    FIXED.iter().all(|slot| is_given(sheet, *slot))
 }
 
 fn banking_of(sheet: &[u8]) -> Banking
@@ -395,13 +424,10 @@ fn banking_of(sheet: &[u8]) -> Banking
     let bik = text(sheet, 0);
     let bank = text(sheet, 1);
     let account = text(sheet, 2);
-    let general = general_of(bik, bank, account);
-    let accounts = account_of(bik, bank, account);
-    let given = all_given(sheet);
     Banking {
-        general: general,
-        account: accounts,
-        given: given,
+        general: general_of(bik, bank, account),
+        account: account_of(bik, bank, account),
+        given: all_given(sheet),
     }
 }
 
@@ -415,11 +441,11 @@ fn parties_of(sheet: &[u8]) -> Parties
     let kpp = form_of(t, is_kpp(t));
     let payeekpp = is_kpp(text(sheet, 8));
     Parties {
-        code: code,
-        payer: payer,
-        payee: payee,
-        kpp: kpp,
-        payeekpp: payeekpp,
+        code,
+        payer,
+        payee,
+        kpp,
+        payeekpp,
     }
 }
 
@@ -430,9 +456,9 @@ fn classifiers_of(sheet: &[u8]) -> Classifiers
     let oktmo = text(sheet, 10);
     let office = text(sheet, 12);
     Classifiers {
-        kbk: form_of(kbk, is_kbk(kbk)),
-        oktmo: form_of(oktmo, is_oktmo(oktmo)),
-        office: form_of(office, is_office(office)),
+        kbk: form_of(kbk, is_digits_not_zero::<20>(kbk)),
+        oktmo: form_of(oktmo, is_digits_not_zero::<8>(oktmo)),
+        office: form_of(office, is_digits::<8>(office)),
     }
 }
 
@@ -461,13 +487,13 @@ pub fn facts_of(sheet: &[u8], dates: Dates) -> Facts
     let day = day_of(text(sheet, 14));
     let banking = banking_of(sheet);
     Facts {
-        banking: banking,
-        parties: parties,
-        classifiers: classifiers,
-        force: force,
-        status: status,
-        basis: basis,
-        document: document,
-        day: day,
+        banking,
+        parties,
+        classifiers,
+        force,
+        status,
+        basis,
+        document,
+        day,
     }
 }

@@ -1,19 +1,18 @@
 // The forms of texts that several rules ask for.
 ghost use Rattle.std.specs.Prelude.{◌≡◌};
-ghost use Rattle.texts.specs.Texts.{every, same, between};
-ghost use Rattle.sheets.specs.Forms.{bik, account, uin, code4, foreign_code, check_digit, inn10, inn12, digits5, digits10, digits12, digit_or_capital, kpp, kbk, oktmo, office, letter_pair, person, allowed, document, snils_check, snils, pension, leap, month_days, gregorian, date};
+ghost use Rattle.texts.specs.Texts.{every, between, digits, digits_not_zero};
+ghost use Rattle.sheets.specs.Forms.{uin, check_digit, inn10, inn12, digit_or_capital, kpp, letter_pair, person, allowed, document, snils_check, snils, pension, leap, month_days, gregorian, date};
 ghost use Rattle.sheets.specs.Working.Facts.{wanted_by};
 
 use texts::comparisons::{begins_with, equals, is_among};
 use texts::digits::{
-    digit_value, has_digits, has_digits_not_00, has_digits_not_zero, number_2, number_4, number_9,
-    weighted_sum,
+    digit_value, has_digits, has_digits_not_00, has_digits_not_zero, number, weighted_sum,
 };
-use texts::parts::{at, part, wide};
+use texts::parts::{at, part};
 
 // The number of a status.
 #[derive(Clone, Copy)]
-pub struct Status(pub u8);
+pub struct Status(pub usize);
 
 // The form of 60 that a status wants (rule 23).
 #[derive(Clone, Copy)]
@@ -41,38 +40,28 @@ pub(crate) const LETTER_PAIRS: [[u8; 2]; LETTER_PAIR_COUNT] = [
     [0xCA, 0xDD],
 ];
 
-const PERSON_TYPES: [u8; 21] = [
+const PERSON_TYPES: [usize; 21] = [
     1, 2, 3, 4, 5, 6, 7, 8, 9, 10, 11, 12, 13, 14, 22, 24, 25, 26, 28, 29, 30,
 ];
 
-pub(crate) fn is_bik(t: &[u8]) -> bool
-    ensures { result ≡ bik t.now }
+// So many digits, as a BIK, an account or an office has: each number gets code of its own, made for it.
+pub(crate) fn is_digits<const N: usize>(t: &[u8]) -> bool
+    ensures { result ≡ digits N t.now }
 {
-    has_digits(t, 9)
+    has_digits(t, N)
 }
 
-pub(crate) fn is_account(t: &[u8]) -> bool
-    ensures { result ≡ account t.now }
+// The same not all zero, as a KBK or an OKTMO code has.
+pub(crate) fn is_digits_not_zero<const N: usize>(t: &[u8]) -> bool
+    ensures { result ≡ digits_not_zero N t.now }
 {
-    has_digits(t, 20)
+    has_digits_not_zero(t, N)
 }
 
 pub(crate) fn is_uin(t: &[u8]) -> bool
     ensures { result ≡ uin t.now }
 {
-    has_digits_not_zero(t, 20) | has_digits_not_zero(t, 25)
-}
-
-pub(crate) fn is_code4(t: &[u8]) -> bool
-    ensures { result ≡ code4 t.now }
-{
-    has_digits_not_zero(t, 4)
-}
-
-pub(crate) fn is_foreign_code(t: &[u8]) -> bool
-    ensures { result ≡ foreign_code t.now }
-{
-    has_digits_not_zero(t, 5)
+    is_digits_not_zero::<20>(t) | is_digits_not_zero::<25>(t)
 }
 
 const WEIGHTS_10: [u8; 9] = [2, 4, 10, 3, 5, 9, 4, 6, 8];
@@ -86,49 +75,25 @@ fn has_check_digit(t: &[u8], weights: &[u8]) -> bool
     ensures { result ≡ check_digit (between weights.now 0 25) t.now }
 {
     let place = part(weights, 0, 25).len();
-    wide(digit_value(at(t, place))) == weighted_sum(weights, t) % 11 % 10
+    usize::from(digit_value(at(t, place))) == weighted_sum(weights, t) % 11 % 10
 }
 
 pub fn is_inn10(t: &[u8]) -> bool
     ensures { result ≡ inn10 t.now }
 {
-    if !has_digits_not_00(t, 10) {
-        return false;
-    }
-    has_check_digit(t, &WEIGHTS_10)
+    has_digits_not_00(t, 10) && has_check_digit(t, &WEIGHTS_10)
 }
 
 pub fn is_inn12(t: &[u8]) -> bool
     ensures { result ≡ inn12 t.now }
 {
-    if !has_digits_not_00(t, 12) {
-        return false;
-    }
-    has_check_digit(t, &WEIGHTS_11) & has_check_digit(t, &WEIGHTS_12)
-}
-
-pub(crate) fn is_digits5(t: &[u8]) -> bool
-    ensures { result ≡ digits5 t.now }
-{
-    has_digits(t, 5)
-}
-
-pub(crate) fn is_digits10(t: &[u8]) -> bool
-    ensures { result ≡ digits10 t.now }
-{
-    has_digits(t, 10)
-}
-
-pub(crate) fn is_digits12(t: &[u8]) -> bool
-    ensures { result ≡ digits12 t.now }
-{
-    has_digits(t, 12)
+    has_digits_not_00(t, 12) && (has_check_digit(t, &WEIGHTS_11) & has_check_digit(t, &WEIGHTS_12))
 }
 
 fn is_digit_or_capital(b: u8) -> bool
     ensures { result ≡ digit_or_capital b }
 {
-    ((48 <= b) & (b <= 57)) | ((65 <= b) & (b <= 90))
+    b.is_ascii_digit() | b.is_ascii_uppercase()
 }
 
 // Most have no letter, and are told by their nine digits.
@@ -146,56 +111,18 @@ pub fn is_kpp(t: &[u8]) -> bool
     !begins_with(t, b"00") & sides
 }
 
-pub(crate) fn is_kbk(t: &[u8]) -> bool
-    ensures { result ≡ kbk t.now }
-{
-    has_digits_not_zero(t, 20)
-}
-
-pub(crate) fn is_oktmo(t: &[u8]) -> bool
-    ensures { result ≡ oktmo t.now }
-{
-    has_digits_not_zero(t, 8)
-}
-
-pub(crate) fn is_office(t: &[u8]) -> bool
-    ensures { result ≡ office t.now }
-{
-    has_digits(t, 8)
-}
-
-fn is_pair(t: &[u8], pair: [u8; 2]) -> bool
-    ensures { result ≡ same t.now pair }
-{
-    equals(t, &pair)
-}
-
 pub(crate) fn is_letter_pair(t: &[u8]) -> bool
     ensures { result ≡ letter_pair t.now }
 {
-    if t.len() != 2 {
-        return false;
-    }
-    let mut found = false;
-    let mut i = 0;
-    while i < LETTER_PAIR_COUNT {
-        found = found | is_pair(t, LETTER_PAIRS[i]);
-        i += 1;
-    }
-    found
+    LETTER_PAIRS.iter().any(|pair| equals(t, pair))
 }
 
 // Most have no ";" at its place, and are told by that.
 pub(crate) fn is_person(t: &[u8]) -> bool
     ensures { result ≡ person t.now }
 {
-    if t.len() < 4 {
-        return false;
-    }
-    if !equals(part(t, 2, 3), b";") {
-        return false;
-    }
-    is_among(number_2(part(t, 0, 2)), &PERSON_TYPES)
+    ((4 <= t.len()) & equals(part(t, 2, 3), b";"))
+        && is_among(number::<2>(part(t, 0, 2)), &PERSON_TYPES)
 }
 
 fn is_allowed(b: u8) -> bool
@@ -207,13 +134,7 @@ fn is_allowed(b: u8) -> bool
 fn all_allowed(t: &[u8]) -> bool
     ensures { result ≡ every allowed t.now }
 {
-    let mut good = true;
-    let mut i = 0;
-    while i < t.len() {
-        good = good & is_allowed(t[i]);
-        i += 1;
-    }
-    good
+    t.iter().all(|b| is_allowed(*b))
 }
 
 pub(crate) fn is_document(t: &[u8]) -> bool
@@ -239,8 +160,8 @@ fn is_snils(t: &[u8]) -> bool
         return false;
     }
     let nine = part(t, 0, 9);
-    let low = number_9(nine) <= 1001998;
-    low | (wide(number_2(part(t, 9, 11))) == snils_check(nine))
+    let low = number::<9>(nine) <= 1001998;
+    low | (number::<2>(part(t, 9, 11)) == snils_check(nine))
 }
 
 // Rule 35 of a text. One that is no identifier of type 14 pays one comparison.
@@ -259,23 +180,18 @@ fn is_leap(y: usize) -> bool
     (y % 4 == 0) & (!(y % 100 == 0) | (y % 400 == 0))
 }
 
-fn month_days(m: u8, y: usize) -> u8
+fn month_days(m: usize, y: usize) -> usize
     ensures { result ≡ month_days m y }
 {
     match m {
         4 | 6 | 9 | 11 => 30,
-        2 => {
-            if is_leap(y) {
-                return 29;
-            }
-            28
-        }
+        2 => if is_leap(y) { 29 } else { 28 },
         _ => 31,
     }
 }
 
 // No month has fewer than 28 days.
-pub(crate) fn is_gregorian(d: u8, m: u8, y: usize) -> bool
+pub(crate) fn is_gregorian(d: usize, m: usize, y: usize) -> bool
     ensures { result ≡ gregorian d m y }
 {
     let usual = ((1900 <= y) & (y <= 2099)) & ((1 <= m) & (m <= 12));
@@ -292,9 +208,9 @@ pub(crate) fn is_date(t: &[u8]) -> bool
         return false;
     }
     let points = equals(part(t, 2, 3), b".") & equals(part(t, 5, 6), b".");
-    let d = number_2(part(t, 0, 2));
-    let m = number_2(part(t, 3, 5));
-    let y = number_4(part(t, 6, 10));
+    let d = number::<2>(part(t, 0, 2));
+    let m = number::<2>(part(t, 3, 5));
+    let y = number::<4>(part(t, 6, 10));
     points & is_gregorian(d, m, y)
 }
 

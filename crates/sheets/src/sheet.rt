@@ -1,11 +1,11 @@
 // Fields, and a sheet's texts and form.
-ghost use Rattle.std.specs.Prelude.{◌≡◌, ◌+◌};
+ghost use Rattle.std.specs.Prelude.{◌≡◌, ◌+◌, ◌*◌, ◌≤◌};
 ghost use Rattle.texts.specs.Texts.{every, are, between};
 ghost use Rattle.sheets.specs.Sheet.{slot_count, slot_of, field_in, cell_size, cell_text, cell_ok, cell_of, text_of, well_formed};
 ghost use Rattle.sheets.specs.Working.Cells.{cells_at};
 
 use texts::comparisons::all_are;
-use texts::parts::{at, part, wide};
+use texts::parts::{at, part};
 
 // "A text has 0 to 25 bytes".
 pub const TEXT_MAX: usize = 25;
@@ -59,20 +59,20 @@ pub fn slot_of(field: Field) -> u8
 pub fn field_in(slot: u8) -> Field
     ensures { result.0 ≡ field_in slot }
 {
-    Field(at(&FIELDS, wide(slot)))
+    Field(at(&FIELDS, usize::from(slot)))
 }
 
 fn cell(sheet: &[u8], slot: u8) -> &[u8]
     ensures { result.now ≡ cell_of sheet.now slot }
 {
-    let a = wide(slot) * CELL_SIZE;
+    let a = usize::from(slot) * CELL_SIZE;
     part(sheet, a, a + CELL_SIZE)
 }
 
 pub fn cell_text(c: &[u8]) -> &[u8]
     ensures { result.now ≡ cell_text c.now }
 {
-    let n = wide(at(c, 0));
+    let n = usize::from(at(c, 0));
     if n < c.len() {
         return &c[1..1 + n];
     }
@@ -85,23 +85,29 @@ pub fn text(sheet: &[u8], slot: u8) -> &[u8]
     cell_text(cell(sheet, slot))
 }
 
-// All bytes of t are zero. Where t has w bytes, as it mostly has, the loop runs a number of times that the call fixes.
-fn all_zero(t: &[u8], w: usize) -> bool
+// All bytes of t are zero. Where t has W bytes, as it mostly has, the loop runs a number of times that the call fixes.
+fn all_zero<const W: usize>(t: &[u8]) -> bool
     ensures { result ≡ every (are 0) t.now }
 {
-    if t.len() != w {
+    if t.len() != W {
         return all_are(t, 0);
     }
     let mut good = true;
-    let mut i = 0;
-    while i < w {
-        good = good & (t[i] == 0);
-        i += 1;
+    for b in t {
+        good = good & (*b == 0);
     }
     good
 }
 
-// The bytes of a cell from n on are zero, by two windows that overlap. The test of the size fixes their widths.
+// The bytes of a cell from n on are zero, by two windows of W bytes that meet or overlap.
+fn is_zero_from<const W: usize>(c: &[u8], n: usize) -> bool
+    requires { (n + W ≤ cell_size) × (cell_size ≤ n + 2 * W) }
+    ensures { result ≡ every (are 0) (between c.now n cell_size) }
+{
+    all_zero::<W>(part(c, n, n + W)) & all_zero::<W>(part(c, CELL_SIZE - W, CELL_SIZE))
+}
+
+// The bytes of a cell from n on are zero. The test of the size fixes the widths of the windows.
 fn is_padded(c: &[u8], n: usize) -> bool
     ensures { result ≡ every (are 0) (between c.now n cell_size) }
 {
@@ -109,13 +115,13 @@ fn is_padded(c: &[u8], n: usize) -> bool
         return all_are(part(c, n, CELL_SIZE), 0);
     }
     if n <= 10 {
-        return all_zero(part(c, n, n + 16), 16) & all_zero(part(c, 10, CELL_SIZE), 16);
+        return is_zero_from::<16>(c, n);
     }
     if n <= 18 {
-        return all_zero(part(c, n, n + 8), 8) & all_zero(part(c, 18, CELL_SIZE), 8);
+        return is_zero_from::<8>(c, n);
     }
     if n <= 22 {
-        return all_zero(part(c, n, n + 4), 4) & all_zero(part(c, 22, CELL_SIZE), 4);
+        return is_zero_from::<4>(c, n);
     }
     all_are(part(c, n, CELL_SIZE), 0)
 }
@@ -124,7 +130,7 @@ fn is_padded(c: &[u8], n: usize) -> bool
 fn cell_ok(c: &[u8]) -> bool
     ensures { result ≡ cell_ok c.now }
 {
-    let n = wide(at(c, 0));
+    let n = usize::from(at(c, 0));
     (n <= TEXT_MAX) & is_padded(c, 1 + n)
 }
 
@@ -133,19 +139,10 @@ fn cell_ok(c: &[u8]) -> bool
 pub fn cells_ok(t: &[u8], first: u8, step: u8) -> bool
     ensures { result ≡ cells_at step slot_count t.now first }
 {
-    let mut good: u8 = 0;
-    let mut place = wide(first);
-    let mut slot: u8 = 0;
-    while slot < SLOT_COUNT {
-        if place + CELL_SIZE <= t.len() {
-            if cell_ok(&t[place..place + CELL_SIZE]) {
-                good += 1;
-            }
-        }
-        place += wide(step);
-        slot += 1;
-    }
-    good == SLOT_COUNT
+    (0..FIELD_COUNT).all(|slot| {
+        let place = usize::from(first) + slot * usize::from(step);
+        t.get(place..place + CELL_SIZE).is_some_and(cell_ok)
+    })
 }
 
 // "Malformed: another size, a length above 25, a nonzero pad byte".

@@ -73,13 +73,12 @@ cells-put (u ∷ us) (suc k) t h l s =
 
 -- ---- cell_of, put_part
 
-pub cell-made : (t x y : List ℕ) → length t ≤ text_max → x ≡ put_at (replicate cell_size 0) 0 (length t ∷ []) → y ≡ put_at x 1 t → y ≡ cell t
-unfolding cell
-cell-made t x y l ex ey =
+pub cell-made : (t y : List ℕ) → length t ≤ text_max → y ≡ put_at (length t ∷ replicate text_max 0) 1 t → y ≡ cell t
+unfolding cell put
+cell-made t y l ey =
     let z : List ℕ = replicate cell_size 0 in
     let s : List ℕ = length t ∷ [] in
-    let fx : x ≡ put z 0 s = ex ∙ put-fits z 0 s (omega arith) in
-    let fy : y ≡ put z 0 (s ++ t) = ey ∙ put_next z s t x 1 refl (omega arith) fx in
+    let fy : y ≡ put z 0 (s ++ t) = ey ∙ put_next z s t (length t ∷ replicate text_max 0) 1 refl (omega arith) refl in
     let n : cell_size ≡ 1 + length t + (text_max - length t) = omega arith in
     let m : length (s ++ t) ≡ 1 + length t = omega arith in
     fy ∙ ap (λ (k : ℕ). put (replicate k 0) 0 (s ++ t)) n ∙ put-zeros (s ++ t) (1 + length t) (text_max - length t) m

@@ -1,14 +1,17 @@
 -- Lines taken apart, and put together again.
 use mathlib.Core.Path.{◌≡◌, refl, sym, ap, ◌∙◌}
-use mathlib.Core.Bool.{Bool, true, false, ◌&&◌, and-true}
-use mathlib.Core.List.{[], ◌++◌, append_assoc}
+use mathlib.Core.Logic.{◌⊎◌, inl, inr}
+use mathlib.Core.Bool.{Bool, true, false, ◌&&◌}
+use mathlib.Core.List.{List, [], ◌∷◌, ◌++◌, append_assoc}
 use Prim.Native.Nat.{ℕ, ◌+◌, ◌-◌, ◌<◌, ◌≤◌}
 use native.Mathlib.Omega.{arith}
 use borrow.Author.Tests.{leb-true, le-leb, lt-leb}
-use lib.ListN.{length, take, drop, length-append, take-append-drop}
-use lib.Seq.{take_at, drop_at, drop-drop, drop-length}
+use lib.ListN.{length, take, drop, length-append, length-drop, take-append-drop}
+use lib.Seq.{take_all, take_at, drop_at, drop-drop, drop-length}
 use Rattle.texts.specs.Quoted.{Text, bytes}
-use Rattle.texts.specs.Texts.{between, same}
+use Rattle.std.specs.List.{list_all}
+use denote.Ref.{Bor}
+use Rattle.texts.specs.Texts.{between, same, starts_with}
 use Rattle.texts.proofs.Codes.{same_true, same_self}
 use Rattle.sheets.specs.Sheet.{text_max}
 use Rattle.rules.specs.Working.Tests.{all_true}
@@ -108,28 +111,52 @@ lines-again b h =
 -- ---- has_marks
 
 module _ (b : Text) where
-  pub marks-low : length b < least_lines → false ≡ marked b
+  marks-low : length b < least_lines → false ≡ marked b
   unfolding marked all_true
   marks-low h = sym (rw (lt-leb least_lines (length b) h))
 
-  pub marks-high : least_lines ≤ length b → most_lines < length b → false ≡ marked b
+  marks-high : most_lines < length b → false ≡ marked b
   unfolding marked all_true
-  marks-high l h = sym (rw (le-leb least_lines (length b) l, lt-leb (length b) most_lines h))
+  marks-high h = sym (rw (le-leb least_lines (length b) (omega arith), lt-leb (length b) most_lines h))
 
-  pub marks-are : (e0 e1 e2 e3 e4 e5 e6 e7 : Bool) → least_lines ≤ length b → length b ≤ most_lines
-      → e0 ≡ same (between b 0 6) (bytes before_status)
-      → e1 ≡ same (between b 8 18) mark_bik
-      → e2 ≡ same (between b 27 28) (bytes before_bank)
-      → e3 ≡ same (between b 48 54) mark_account
-      → e4 ≡ same (between b 74 78) mark_payee
-      → e5 ≡ same (between b 88 92) (bytes before_kpp)
-      → e6 ≡ same (between b 101 111) mark_code
-      → e7 ≡ same (between b (length b - 1) (length b)) line_feed
-      → (e0 && (e1 && (e2 && (e3 && (e4 && (e5 && (e6 && e7))))))) ≡ marked b
+  pub marks-not : (length b < least_lines) ⊎ ((least_lines ≤ length b) × (most_lines < length b)) → false ≡ marked b
+  marks-not (inl h) = marks-low h
+  marks-not (inr h) = marks-high h.1
+
+  -- what the code asks at a place
+  abbrev pub stands : ℕ × Bor (List ℕ) → Bool
+  stands p = starts_with (between b p.0 (length b)) p.1.now
+
+  stands-as : (o n : ℕ) (t : Bor (List ℕ)) (m : Text) → t.now ≡ m → o + length m ≡ n → stands (o, t) ≡ same (between b o n) m
+  unfolding between
+  stands-as o n t m e k =
+      let w : take (length b - o) (drop o b) ≡ drop o b = take_all (length b - o) (drop o b) (omega (arith, length-drop o b)) in
+      let j : length m - 0 ≡ n - o = omega arith in
+      rw (e, w, j)
+
+  pub marks-are : (r : Bool) (ps : List (ℕ × Bor (List ℕ))) (t0 t1 t2 t3 t4 t5 t6 t7 : Bor (List ℕ)) → least_lines ≤ length b → length b ≤ most_lines
+      → r ≡ list_all stands ps
+      → ps ≡ (0, t0) ∷ (8, t1) ∷ (27, t2) ∷ (48, t3) ∷ (74, t4) ∷ (88, t5) ∷ (101, t6) ∷ (length b - 1, t7) ∷ []
+      → t0.now ≡ bytes before_status
+      → t1.now ≡ mark_bik
+      → t2.now ≡ bytes before_bank
+      → t3.now ≡ mark_account
+      → t4.now ≡ mark_payee
+      → t5.now ≡ bytes before_kpp
+      → t6.now ≡ mark_code
+      → t7.now ≡ line_feed
+      → r ≡ marked b
   unfolding marked all_true
-  marks-are e0 e1 e2 e3 e4 e5 e6 e7 l h h0 h1 h2 h3 h4 h5 h6 h7 =
-      (λ i. h0 i && (h1 i && (h2 i && (h3 i && (h4 i && (h5 i && (h6 i && (h7 ∙ sym (and-true (same (between b (length b - 1) (length b)) line_feed))) i)))))))
-      ∙ sym (rw (le-leb least_lines (length b) l, le-leb (length b) most_lines h))
+  marks-are r ps t0 t1 t2 t3 t4 t5 t6 t7 l h e q h0 h1 h2 h3 h4 h5 h6 h7 =
+      let c0 = stands-as 0 6 t0 (bytes before_status) h0 refl in
+      let c1 = stands-as 8 18 t1 mark_bik h1 refl in
+      let c2 = stands-as 27 28 t2 (bytes before_bank) h2 refl in
+      let c3 = stands-as 48 54 t3 mark_account h3 refl in
+      let c4 = stands-as 74 78 t4 mark_payee h4 refl in
+      let c5 = stands-as 88 92 t5 (bytes before_kpp) h5 refl in
+      let c6 = stands-as 101 111 t6 mark_code h6 refl in
+      let c7 = stands-as (length b - 1) (length b) t7 line_feed h7 (omega arith) in
+      e ∙ ap (list_all stands) q ∙ (λ i. c0 i && (c1 i && (c2 i && (c3 i && (c4 i && (c5 i && (c6 i && (c7 i && true)))))))) ∙ sym (rw (le-leb least_lines (length b) l, le-leb (length b) most_lines h))
 
 pub marked-low : (b : Text) → marked b ≡ true → least_lines ≤ length b
 unfolding marked

@@ -7,13 +7,14 @@ use native.Mathlib.Omega.{arith}
 use borrow.Author.Tests.{eq-eqb, leb-true, not-true, not-false}
 use borrow.Author.Rules.{rules}
 use lib.ListN.{length, get_or}
+use Rattle.std.specs.Prelude.{Result, Ok, Err}
+use Rattle.texts.specs.declared.answers.Refusal.{Refusal}
 use Rattle.texts.specs.Quoted.{Text}
 use Rattle.texts.specs.Texts.{every, same}
-use Rattle.texts.specs.Working.Writing.{put_at}
+use Rattle.texts.specs.Refusals.{refusal_number}
 use Rattle.texts.specs.Answers.{success, passes}
 use Rattle.texts.proofs.Bools.{both, and2, cases}
 use Rattle.texts.proofs.Codes.{same_true, same_self}
-use Rattle.texts.proofs.Puts.{put-fits, put_whole}
 use Rattle.texts.proofs.Refusals.{no-success, none_of, succeeds, succeeded, unchanged, Way, way_out, tested}
 use Rattle.sheets.specs.Sheet.{Sheet, slot_count, sheet_size, text_max, short, slot_of, text_of, ◌⟨◌⟩}
 use Rattle.sheets.specs.Working.Facts.{Read}
@@ -23,11 +24,9 @@ use Rattle.rules.specs.Rules.{class_a, budget, of_lines, keeps}
 use Rattle.swift.specs.Lines.{Seven, seven_in, lines_of, slot_texts, sheet_with, any_status, fits_in, fits, parts_of, taken}
 use Rattle.swift.specs.Working.Places.{marked}
 use Rattle.swift.specs.Promises.{read_answer, read_tests, reading_lines, sheet_read, ReadsLines}
-use Rattle.swift.specs.declared.read.LinesRead.{LinesRead}
-use Rattle.swift.specs.declared.read.LinesRead.TheVariants.{Filled, Refused}
 use Rattle.swift.proofs.Cells.{text-cells, length-cells, parts-short}
 use Rattle.swift.proofs.Forms.{Widths, widths-in}
-use Rattle.swift.proofs.Cutting.{cut-lines, lines-again, marked-high}
+use Rattle.swift.proofs.Cutting.{cut-lines, lines-again, marked-low, marked-high}
 
 -- ---- is_fit
 
@@ -96,12 +95,12 @@ taken-means b h = let q = both (same (lines_of (parts_of b)) b) (fits (parts_of 
 
 -- ---- the promise
 
-read_made : (r : LinesRead) → read_answer r ≡ success [] → r ≡ Filled
+read_made : (r : Result Unit Refusal) → read_answer r ≡ success [] → r ≡ Ok tt
 unfolding read_answer
-read_made Filled e = refl
-read_made (Refused n) e = absurd (no-success n.0 [] _ e)
+read_made (Ok u) e = refl
+read_made (Err n) e = absurd (no-success (refusal_number n) [] _ e)
 
-reads-by : (b o : List ℕ) (r : LinesRead) (e : List ℕ) → read_answer r ≡ reading_lines b o → e ≡ sheet_read b o → ReadsLines b o r e
+reads-by : (b o : List ℕ) (r : Result Unit Refusal) (e : List ℕ) → read_answer r ≡ reading_lines b o → e ≡ sheet_read b o → ReadsLines b o r e
 unfolding reading_lines sheet_read read_tests read_answer fits
 reads-by b o r e p q = record {
   answer = p;
@@ -122,20 +121,20 @@ reads-by b o r e p q = record {
     let-in : length o ≡ sheet_size → taken b ≡ true → passes (read_tests b o) ≡ true
     let-in z h = rw (eq-eqb (length o) sheet_size z, h)
 
-    is-taken : r ≡ Filled → (taken b ≡ true) × (e ≡ sheet_with (parts_of b))
+    is-taken : r ≡ Ok tt → (taken b ≡ true) × (e ≡ sheet_with (parts_of b))
     is-taken f =
         let z = (succeeded [] [] (read_tests b o) (ap read_answer (sym f) ∙ p)).0 in
         let k = none_of (read_tests b o) z in
         (not-false (taken b) k.1.0, q ∙ rw z)
 
-    seven-of : r ≡ Filled → seven_in e ≡ parts_of b
+    seven-of : r ≡ Ok tt → seven_in e ≡ parts_of b
     seven-of f =
         let k = is-taken f in
         ap seven_in k.1 ∙ seven-with (parts_of b) (both (every short (slot_texts (parts_of b))) (fits_in (sheet_with (parts_of b))) (taken-means b k.0).1).0
 
 -- ---- the ways out of `read_lines`
 
-pub read_out : (k : ℕ) (b o : List ℕ) (r : LinesRead) (e : List ℕ) → Way [] (sheet_with (parts_of b)) o (read_answer r) e (ReadsLines b o r e) k (read_tests b o)
+pub read_out : (k : ℕ) (b o : List ℕ) (r : Result Unit Refusal) (e : List ℕ) → Way [] (sheet_with (parts_of b)) o (read_answer r) e (ReadsLines b o r e) k (read_tests b o)
 unfolding reading_lines sheet_read
 read_out k b o r e = way_out [] (sheet_with (parts_of b)) o (read_answer r) e (ReadsLines b o r e) k (read_tests b o) (λ p q. reads-by b o r e p q)
 
@@ -150,12 +149,15 @@ module _ (b : List ℕ) (m : Bool) (em : m ≡ marked b) where
   pub is-marked : not m ≡ false → marked b ≡ true
   is-marked n = sym em ∙ not-false m n
 
+  pub is-marked-long : not m ≡ false → (112 ≤ length b) × (length b ≤ 137)
+  is-marked-long n = (marked-low b (is-marked n), marked-high b (is-marked n))
+
   -- one with them is taken if its texts fit
   module _ (n : not m ≡ false) (w : List ℕ) (ew : w ≡ sheet_with (parts_of b)) (f : Bool) (ef : length w ≡ sheet_size → f ≡ fits_in w) where
     all_short : every short (slot_texts (parts_of b)) ≡ true
     all_short = parts-short b (marked-high b (is-marked n))
 
-    work-size : length w ≡ sheet_size
+    pub work-size : length w ≡ sheet_size
     work-size = ap length ew ∙ length-cells (slot_texts (parts_of b)) all_short
 
     pub fits-as : (z : Bool) → not f ≡ z → not (taken b) ≡ z
@@ -164,7 +166,4 @@ module _ (b : List ℕ) (m : Bool) (em : m ≡ marked b) where
         let l : same (lines_of (parts_of b)) b ≡ true = ap (λ (u : Text). same u b) (lines-again b (is-marked n)) ∙ same_self b in
         rw (l, all_short) (ap not (sym (ef work-size ∙ ap fits_in ew)) ∙ k)
 
-    pub work-put : (o e : List ℕ) → length o ≡ sheet_size → e ≡ put_at o 0 w → e ≡ sheet_with (parts_of b)
-    work-put o e z q = q ∙ put-fits o 0 w (omega (arith, work-size)) ∙ put_whole o w (work-size ∙ sym z) ∙ ew
-
-pub ruleset reading = (rules, tested, unmarked, is-marked, fits-as, work-put)
+pub ruleset reading = (rules, tested, unmarked, is-marked, fits-as)

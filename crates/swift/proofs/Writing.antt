@@ -1,97 +1,128 @@
 -- Writing: the lines put one behind the other, the promise from its equations, and the ways out.
 use mathlib.Core.Path.{◌≡◌, refl, sym, ap, ◌∙◌}
-use mathlib.Core.Bool.{Bool, true, false, not}
+use mathlib.Core.Bool.{Bool, true, false, not, cond}
 use mathlib.Core.List.{List, [], ◌∷◌, ◌++◌, append_assoc}
-use Prim.Native.Nat.{ℕ, ◌+◌, ◌<◌, ◌≤◌}
+use Rattle.std.proofs.lemmas.List.{append-nil}
+use Rattle.std.specs.Prelude.{Result, Ok, Err}
+use denote.Ref.{Bor}
+use Prim.Native.Nat.{ℕ, zero, suc, ◌+◌, ◌<◌, ◌≤◌}
+use native.Mathlib.Numerals.{add-one}
 use native.Mathlib.Omega.{arith}
 use borrow.Author.Tests.{eqb-true, le-leb, lt-ltb, le-ltb, ltb-false, not-false}
-use borrow.Author.Rules.{rules}
 use lib.Dec.{ltb}
-use lib.ListN.{length, take, drop, length-append}
+use lib.ListN.{length, get_or, take, drop, length-append, take-append-drop}
+use lib.Seq.{take_all}
 use Rattle.texts.specs.Quoted.{Text, bytes}
 use Rattle.texts.specs.Texts.{every, among}
 use Rattle.texts.specs.Buffers.{put}
 use Rattle.texts.specs.Working.Writing.{put_at, Wrote}
-use Rattle.texts.specs.Answers.{success, passes}
+use Rattle.texts.specs.Refusals.{refusal_number}
+use Rattle.texts.specs.declared.answers.Refusal.TheVariants.{WrongSize, NotLines}
+use Rattle.texts.specs.Answers.{success, refusal, passes, ◌refuses◌}
 use Rattle.texts.proofs.Bools.{and2}
-use Rattle.texts.proofs.Puts.{put-fits, put-put, length-put, mid-put, drop-put, wrote_as, wrote_then}
-use Rattle.texts.proofs.Refusals.{no-success, none_of, succeeds, succeeded, unchanged, Way, way_out, not-as, tested}
+use Rattle.texts.proofs.Puts.{put-fits, length-put, mid-put, drop-put, wrote_as, wrote_then}
+use Rattle.texts.proofs.Refusals.{NoneOf, no-success, none_of, succeeds, succeeded, refused, unchanged, Way, way_out}
 use Rattle.sheets.specs.Sheet.{Sheet, text_max, short, well_formed, slot_of, text_of, ◌⟨◌⟩}
 use Rattle.sheets.specs.Dates.{dates_fit, listed, status_texts}
 use Rattle.sheets.specs.declared.dates.Dates.{Dates}
 use Rattle.sheets.proofs.Frames.{text-short}
-use Rattle.rules.specs.Rules.{class_a, keeps, keeps_all, first_broken, order}
-use Rattle.rules.specs.Verdicts.{check_tests}
-use Rattle.rules.specs.declared.rules.RuleNumber.{RuleNumber}
+use Rattle.rules.specs.Rules.{class_a, class_b, class_of, keeps, keeps_all, order}
+use Rattle.rules.specs.Verdicts.{class_name, rejection_answer, verdict_answer, check_tests, checked}
+use Rattle.rules.specs.Checked.{Checked}
+use Rattle.rules.specs.declared.class.Class.{Class}
+use Rattle.rules.specs.declared.class.Class.TheVariants.{A, B, O}
+use Rattle.rules.specs.contracts.class.Class.{the_type}
+use denote.Enum.Bare.{sameb}
 use Rattle.rules.proofs.First.{none_kept, kept-none}
 use Rattle.rules.proofs.Means.{order-numbered}
-use Rattle.rules.proofs.Judging.{first-as, beside-as}
 use Rattle.swift.specs.Lines.{line_feed, before_status, before_bik, before_bank, before_account, before_payee, before_kpp, before_code, Seven, ended, seven_in, lines_of, slot_texts, sheet_with, any_status, fits_in, fits}
-use Rattle.swift.specs.Working.Places.{least_lines, lines_size}
+use Rattle.swift.specs.Working.Places.{least_lines, joined, lines_size}
 use Rattle.swift.specs.Promises.{written_answer, line_tests, writing_lines, lines_into, WritesLines}
-use Rattle.swift.specs.declared.write.LinesWritten.{LinesWritten}
-use Rattle.swift.specs.declared.write.LinesWritten.TheVariants.{Lines, Broken, Refused}
+use Rattle.rules.specs.declared.check.Rejection.{Rejection}
+use Rattle.rules.specs.declared.check.Rejection.TheVariants.{Broken, Refused}
 use Rattle.swift.proofs.Forms.{fits-once, widths-in, code-long, forms-in, forms_by}
 use Rattle.swift.proofs.Cutting.{length-lines}
 use Rattle.swift.proofs.Reading.{seven-with}
 
--- ---- put_field, put_line, put_line_of_two, put_lines
+-- ---- put_line: the first of its pieces are written, the next is put behind them
 
--- a string and a text by two puts
-pub field_put : (b c e m t s : List ℕ) (at k : ℕ) → t ≡ text_of s k → at + length m + length (text_of s k) ≤ length b → c ≡ put_at b at m → e ≡ put_at c (at + length m) t
-    → Wrote b at (m ++ text_of s k) (at + length m + length t) e × (at + length m + length t ≡ at + length m + length (text_of s k))
-field_put b c e m t s at k o h p q =
-    let f : c ≡ put b at m = p ∙ put-fits b at m (omega arith) in
-    let l : length c ≡ length b = ap length f ∙ length-put b at m (omega arith) in
-    let n = ap length o in
-    let u = text_of s k in
-    ((q ∙ put-fits c (at + length m) t (omega arith) ∙ rw (f, o) (put-put b at m u (at + length m) refl (omega arith)), omega (arith, length-append m u)), omega arith)
+put-nothing : (b : List ℕ) (at : ℕ) → at ≤ length b → b ≡ put b at []
+unfolding put
+put-nothing b at l = rw (append-nil (take at b)) (sym (take-append-drop at b) ∙ ap (λ (n : ℕ). take at b ++ drop n b) (omega arith))
 
--- a string and a text, and where they end
-abbrev Piece : List ℕ → ℕ → Text → Sheet → ℕ → ℕ → List ℕ → Type 0
-Piece b at m s k r e = Wrote b at (m ++ text_of s k) r e × (r ≡ at + length m + length (text_of s k))
+joined-more : (ps : List (Bor (List ℕ))) (i : ℕ) (d : Bor (List ℕ)) → i < length ps → joined (take (suc i) ps) ≡ joined (take i ps) ++ (get_or ps i d).now
+joined-more [] i d h = absurd (omega arith)
+joined-more (p ∷ ps) zero d h = append-nil p.now
+joined-more (p ∷ ps) (suc i) d h = ap (λ (t : Text). p.now ++ t) (joined-more ps i d (omega arith)) ∙ sym (append_assoc p.now (joined (take i ps)) (get_or ps i d).now)
 
-abbrev Line : List ℕ → ℕ → Text → Sheet → ℕ → ℕ → List ℕ → Type 0
-Line b at m s k r e = Wrote b at (ended (m ++ text_of s k)) r e × (r ≡ at + length m + length (text_of s k) + 1)
+joined-short : (ps : List (Bor (List ℕ))) (i : ℕ) → length (joined (take i ps)) ≤ length (joined ps)
+joined-short [] zero = omega arith
+joined-short [] (suc i) = omega arith
+joined-short (p ∷ ps) zero = omega arith
+joined-short (p ∷ ps) (suc i) = omega (arith, joined-short ps i, length-append p.now (joined (take i ps)), length-append p.now (joined ps))
 
-pub line-put : (b c e m s : List ℕ) (at k r : ℕ) → at + length m + length (text_of s k) + 1 ≤ length b → Piece b at m s k r c → e ≡ put_at c r line_feed → Line b at m s k (r + 1) e
-line-put b c e m s at k r h w q =
-    let n = w.1 in
-    let l : length c ≡ length b = ap length w.0.0 ∙ length-put b at (m ++ text_of s k) (omega (arith, w.0.1)) in
-    let v : Wrote c r line_feed (r + 1) e = (q ∙ put-fits c r line_feed (omega arith), refl) in
-    (wrote_then b c e at r (r + 1) (m ++ text_of s k) line_feed w.0 v (omega arith), omega arith)
+module _ (b : List ℕ) (at : ℕ) (ps : List (Bor (List ℕ))) (room : at + length (joined ps) + 1 ≤ length b) where
+  pub put-start : Wrote b at (joined (take 0 ps)) at b
+  put-start = (put-nothing b at (omega arith), omega arith)
 
-four : (m x n y z : Text) → (m ++ x) ++ ((n ++ y) ++ z) ≡ m ++ x ++ n ++ y ++ z
-four m x n y z = simp append_assoc
+  module _ (i r : ℕ) (c : List ℕ) (w : Wrote b at (joined (take i ps)) r c) where
+    pub put-room : (d : Bor (List ℕ)) → i < length ps → r + length (get_or ps i d).now ≤ length b
+    put-room d h = omega (arith, w.1, joined-short ps (suc i), ap length (joined-more ps i d h), length-append (joined (take i ps)) (get_or ps i d).now)
 
-pub two-put : (b c e m n s : List ℕ) (at j k r q : ℕ) → at + length m + length (text_of s j) + length n + length (text_of s k) + 1 ≤ length b → Piece b at m s j r c → Line c r n s k q e
-    → Wrote b at (ended (m ++ text_of s j ++ n ++ text_of s k)) q e × (q ≡ at + length m + length (text_of s j) + length n + length (text_of s k) + 1)
-two-put b c e m n s at j k r q h w v =
-    let f = w.1 in
-    let g = v.1 in
-    (wrote_as b e at q _ _ (four m (text_of s j) n (text_of s k) line_feed) (wrote_then b c e at r q _ _ w.0 v.0 (omega arith)), omega arith)
+    pub put-more : (d : Bor (List ℕ)) (e : List ℕ) → i < length ps → e ≡ put_at c r (get_or ps i d).now → Wrote b at (joined (take (i + 1) ps)) (r + length (get_or ps i d).now) e
+    put-more d e h q =
+        let t = (get_or ps i d).now in
+        let l : length c ≡ length b = ap length w.0 ∙ length-put b at (joined (take i ps)) (omega (arith, joined-short ps i)) in
+        let k = put-room d h in
+        let v : Wrote c r t (r + length t) e = (q ∙ put-fits c r t (omega arith), refl) in
+        rw (add-one, joined-more ps i d h) (wrote_then b c e at r (r + length t) (joined (take i ps)) t w v k)
 
-abbrev Two : List ℕ → ℕ → Text → ℕ → Text → ℕ → Sheet → ℕ → List ℕ → Type 0
-Two b at m j n k s r e = Wrote b at (ended (m ++ text_of s j ++ n ++ text_of s k)) r e × (r ≡ at + length m + length (text_of s j) + length n + length (text_of s k) + 1)
+    pub put-end : (e : List ℕ) → length ps ≤ i → e ≡ put_at c r line_feed → Wrote b at (ended (joined ps)) (r + 1) e
+    put-end e h q =
+        let a : joined (take i ps) ≡ joined ps = ap joined (take_all i ps h) in
+        let l : length c ≡ length b = ap length w.0 ∙ length-put b at (joined (take i ps)) (omega (arith, joined-short ps i)) in
+        let v : Wrote c r line_feed (r + 1) e = (q ∙ put-fits c r line_feed (omega (arith, joined-short ps i)), refl) in
+        wrote_then b c e at r (r + 1) (joined ps) line_feed (rw a at w) v (omega (arith, joined-short ps i))
 
-pub lines-put : (s o c1 c2 c3 c4 e : List ℕ) (r1 r2 r3 r4 r : ℕ) → lines_size s ≤ length o
-    → Line o 0 (bytes before_status) s 6 r1 c1
-    → Two c1 r1 (bytes before_bik) 0 (bytes before_bank) 1 s r2 c2
-    → Line c2 r2 (bytes before_account) s 2 r3 c3
-    → Two c3 r3 (bytes before_payee) 5 (bytes before_kpp) 8 s r4 c4
-    → Line c4 r4 (bytes before_code) s 3 r e
+-- ---- put_lines
+
+-- one field, and two
+one : (m x : Text) → m ++ (x ++ []) ≡ m ++ x
+one m x = rw append-nil
+
+four : (m x n y : Text) → m ++ (x ++ (n ++ (y ++ []))) ≡ m ++ x ++ n ++ y
+four m x n y = simp (append-nil, append_assoc)
+
+abbrev One : List ℕ → ℕ → Text → Text → ℕ → List ℕ → Type 0
+One b at m x r e = Wrote b at (ended (m ++ (x ++ []))) r e
+
+abbrev Two : List ℕ → ℕ → Text → Text → Text → Text → ℕ → List ℕ → Type 0
+Two b at m x n y r e = Wrote b at (ended (m ++ (x ++ (n ++ (y ++ []))))) r e
+
+pub lines-put : (s o c1 c2 c3 c4 e x0 x1 x2 x3 x5 x6 x8 : List ℕ) (r1 r2 r3 r4 r : ℕ) → lines_size s ≤ length o
+    → x0 ≡ text_of s 0 → x1 ≡ text_of s 1 → x2 ≡ text_of s 2 → x3 ≡ text_of s 3 → x5 ≡ text_of s 5 → x6 ≡ text_of s 6 → x8 ≡ text_of s 8
+    → One o 0 (bytes before_status) x6 r1 c1
+    → Two c1 r1 (bytes before_bik) x0 (bytes before_bank) x1 r2 c2
+    → One c2 r2 (bytes before_account) x2 r3 c3
+    → Two c3 r3 (bytes before_payee) x5 (bytes before_kpp) x8 r4 c4
+    → One c4 r4 (bytes before_code) x3 r e
     → Wrote o 0 (lines_of (seven_in s)) r e
 unfolding seven_in ◌⟨◌⟩ slot_of lines_of
-lines-put s o c1 c2 c3 c4 e r1 r2 r3 r4 r l h1 h2 h3 h4 h5 =
-    let e1 = h1.1 in
-    let e2 = h2.1 in
-    let e3 = h3.1 in
-    let e4 = h4.1 in
-    let e5 = h5.1 in
-    let w2 = wrote_then o c1 c2 0 r1 r2 _ _ h1.0 h2.0 (omega arith) in
-    let w3 = wrote_then o c2 c3 0 r2 r3 _ _ w2 h3.0 (omega arith) in
-    let w4 = wrote_then o c3 c4 0 r3 r4 _ _ w3 h4.0 (omega arith) in
-    wrote_then o c4 e 0 r4 r _ _ w4 h5.0 (omega arith)
+lines-put s o c1 c2 c3 c4 e x0 x1 x2 x3 x5 x6 x8 r1 r2 r3 r4 r l t0 t1 t2 t3 t5 t6 t8 h1 h2 h3 h4 h5 =
+    let g1 = wrote_as _ _ _ _ _ _ (ap ended (one (bytes before_status) x6 ∙ ap (λ (x : Text). bytes before_status ++ x) t6)) h1 in
+    let g2 = wrote_as _ _ _ _ _ _ (ap ended (four (bytes before_bik) x0 (bytes before_bank) x1 ∙ (λ i. bytes before_bik ++ t0 i ++ bytes before_bank ++ t1 i))) h2 in
+    let g3 = wrote_as _ _ _ _ _ _ (ap ended (one (bytes before_account) x2 ∙ ap (λ (x : Text). bytes before_account ++ x) t2)) h3 in
+    let g4 = wrote_as _ _ _ _ _ _ (ap ended (four (bytes before_payee) x5 (bytes before_kpp) x8 ∙ (λ i. bytes before_payee ++ t5 i ++ bytes before_kpp ++ t8 i))) h4 in
+    let g5 = wrote_as _ _ _ _ _ _ (ap ended (one (bytes before_code) x3 ∙ ap (λ (x : Text). bytes before_code ++ x) t3)) h5 in
+    let n1 : r1 ≡ 7 + length (text_of s 6) = g1.1 ∙ simp length-append (omega arith) in
+    let n2 : r2 ≡ r1 + 11 + length (text_of s 0) + length (text_of s 1) = g2.1 ∙ simp length-append (omega arith) in
+    let n3 : r3 ≡ r2 + 6 + length (text_of s 2) = g3.1 ∙ simp length-append (omega arith) in
+    let n4 : r4 ≡ r3 + 8 + length (text_of s 5) + length (text_of s 8) = g4.1 ∙ simp length-append (omega arith) in
+    let n5 : r ≡ r4 + 10 + length (text_of s 3) = g5.1 ∙ simp length-append (omega arith) in
+    let w2 = wrote_then o c1 c2 0 r1 r2 _ _ g1 g2 (omega arith) in
+    let w3 = wrote_then o c2 c3 0 r2 r3 _ _ w2 g3 (omega arith) in
+    let w4 = wrote_then o c3 c4 0 r3 r4 _ _ w3 g4 (omega arith) in
+    wrote_then o c4 e 0 r4 r _ _ w4 g5 (omega arith)
 
 -- ---- an accepted sheet of class A fits
 
@@ -124,11 +155,11 @@ sizes s h =
 
 -- ---- the promise
 
-written-made : (w : LinesWritten) (n : ℕ) → written_answer w ≡ success (n ∷ []) → w ≡ Lines n
-unfolding written_answer
-written-made (Lines k) n e = cc
-written-made (Broken f r) n e = absurd (no-success 8 _ _ e)
-written-made (Refused k) n e = absurd (no-success k.0 [] _ e)
+written-made : (w : Result ℕ Rejection) (n : ℕ) → written_answer w ≡ success (n ∷ []) → w ≡ Ok n
+unfolding written_answer rejection_answer
+written-made (Ok k) n e = cc
+written-made (Err (Broken f r)) n e = absurd (no-success 8 _ _ e)
+written-made (Err (Refused k)) n e = absurd (no-success (refusal_number k) [] _ e)
 
 module _ (D : Dates) (s : Sheet) (o : List ℕ) where
   -- what writing asks for
@@ -155,7 +186,7 @@ module _ (D : Dates) (s : Sheet) (o : List ℕ) where
   unfolding line_tests check_tests keeps_all
   asked Q = rw (Q.formed, Q.dated, kept-none (keeps D s) order Q.kept, Q.class, le-ltb _ _ Q.room)
 
-  writes-by : (r : LinesWritten) (e : List ℕ) → written_answer r ≡ writing_lines D s o → e ≡ lines_into D s o → WritesLines D s o r e
+  writes-by : (r : Result ℕ Rejection) (e : List ℕ) → written_answer r ≡ writing_lines D s o → e ≡ lines_into D s o → WritesLines D s o r e
   unfolding writing_lines lines_into written_answer
   writes-by r e p q = record {
     answer = p;
@@ -177,7 +208,7 @@ module _ (D : Dates) (s : Sheet) (o : List ℕ) where
         (g, sym (R.only g (seven_in s) f (sym w.1.0)));
   }
     where
-      out_of : (n : ℕ) → r ≡ Lines n → Asked × ((take n e ≡ lines_of (seven_in s)) × (drop n e ≡ drop n o)) × (n ≡ length (lines_of (seven_in s)))
+      out_of : (n : ℕ) → r ≡ Ok n → Asked × ((take n e ≡ lines_of (seven_in s)) × (drop n e ≡ drop n o)) × (n ≡ length (lines_of (seven_in s)))
       out_of n z =
           let (k, j) = succeeded (length (lines_of (seven_in s)) ∷ []) (n ∷ []) (line_tests D s o) (ap written_answer (sym z) ∙ p) in
           let m : n ≡ length (lines_of (seven_in s)) = cc in
@@ -188,33 +219,73 @@ module _ (D : Dates) (s : Sheet) (o : List ℕ) where
 
 -- ---- the ways out of `write_lines`
 
-pub write-out : (k : ℕ) (D : Dates) (s : Sheet) (o : List ℕ) (r : LinesWritten) (e : List ℕ) → Way (length (lines_of (seven_in s)) ∷ []) (put o 0 (lines_of (seven_in s))) o (written_answer r) e (WritesLines D s o r e) k (line_tests D s o)
+pub write-out : (k : ℕ) (D : Dates) (s : Sheet) (o : List ℕ) (r : Result ℕ Rejection) (e : List ℕ) → Way (length (lines_of (seven_in s)) ∷ []) (put o 0 (lines_of (seven_in s))) o (written_answer r) e (WritesLines D s o r e) k (line_tests D s o)
 unfolding writing_lines lines_into
 write-out k D s o r e = way_out _ _ _ _ _ _ k (line_tests D s o) (λ p q. writes-by D s o r e p q)
 
--- the room that an accepted sheet of class A asks for
-module _ (D : Dates) (s : Sheet) (g : RuleNumber) (e : first_broken D s order ≡ g.0) (n : g.0 ≡ 0) (a : Bool) (ea : a ≡ class_a s) (na : not a ≡ false) (t : Text) (et : t ≡ text_of s 3) where
-  sized : (lines_size s ≡ least_lines + length t) × (length (lines_of (seven_in s)) ≡ least_lines + length t)
-  unfolding keeps_all
-  sized =
-      let k : keeps_all D s ≡ true = none_kept (keeps D s) order order-numbered (e ∙ n) in
-      rw et (sizes s (fits-once D s k (sym ea ∙ not-false a na)))
+-- ---- write_lines: what the check of the sheet answered
 
-  module _ (o : List ℕ) where
-    pub room-not : length o < least_lines + length t → ltb (length o) (length (lines_of (seven_in s))) ≡ true
-    room-not h = rw sized.1 (lt-ltb (length o) (least_lines + length t) h)
+-- what a sheet of class A is, and one of another
+same_a : Class → Bool
+same_a c = sameb the_type c A
 
-    room-enough : least_lines + length t ≤ length o → ltb (length o) (length (lines_of (seven_in s))) ≡ false
-    room-enough h = rw sized.1 (le-ltb (length o) (least_lines + length t) h)
+a-only : (a b : Bool) → same_a (cond a A (cond b B O)) ≡ a
+unfolding same_a
+a-only true b = refl
+a-only false true = refl
+a-only false false = refl
 
-    pub room_for : least_lines + length t ≤ length o → lines_size s ≤ length o
-    room_for h = rw sized.0 h
+module _ (D : Dates) (s : Sheet) (o : List ℕ) (v : Result Class Rejection) (C : Checked D s v) where
+  -- a rejection is handed on
+  handed_on : (n : ℕ) (us : List ℕ) (r : Result ℕ Rejection) → verdict_answer v ≡ refusal n us → written_answer r ≡ refusal n us → WritesLines D s o r o
+  unfolding checked writing_lines lines_into line_tests
+  handed_on n us r e w =
+      let ls = length (lines_of (seven_in s)) in
+      let q = refused (class_name (class_of s)) (ls ∷ []) n us (check_tests D s) ((not (class_a s) refuses 11) ∷ (ltb (length o) ls refuses 7) ∷ []) (sym e ∙ C.answer) in
+      writes-by D s o r o (w ∙ q.1) (sym (unchanged (ls ∷ []) _ o (line_tests D s o) (λ z. no-success n us _ (q.1 ∙ z))))
 
-    pub write-whole : (w v : Bool) → w ≡ well_formed s → not w ≡ false → v ≡ dates_fit D → not v ≡ false → least_lines + length t ≤ length o
-        → (r : ℕ) (x : List ℕ) → Wrote o 0 (lines_of (seven_in s)) r x → WritesLines D s o (Lines r) x
-    unfolding written_answer line_tests check_tests
-    write-whole w v ew nw ev nv h r x y =
-        write-out 5 D s o (Lines r) x (not-as (well_formed s) w false ew nw) (not-as (dates_fit D) v false ev nv) (rw (e ∙ n)) (not-as (class_a s) a false ea na) (room-enough h)
-        (ap (λ (k : ℕ). success (k ∷ [])) (y.1 ∙ omega arith)) y.0
+  pub rejects : (x : Rejection) (r : Result ℕ Rejection) → v ≡ Err x → r ≡ Err x → WritesLines D s o r o
+  unfolding verdict_answer written_answer rejection_answer
+  rejects (Broken f g) r z y = handed_on 8 (f.0 ∷ g.0 ∷ []) r (ap verdict_answer z) (ap written_answer y)
+  rejects (Refused k) r z y = handed_on (refusal_number k) [] r (ap verdict_answer z) (ap written_answer y)
 
-pub ruleset writing = (rules, tested, first-as, beside-as, room-not)
+  module _ (c : Class) (z : v ≡ Ok c) where
+    accepted : NoneOf (check_tests D s)
+    unfolding checked verdict_answer
+    accepted = none_of (check_tests D s) (succeeded (class_name (class_of s)) (class_name c) (check_tests D s) (sym (ap verdict_answer z) ∙ C.answer)).0
+
+    kept : keeps_all D s ≡ true
+    unfolding check_tests keeps_all
+    kept = none_kept (keeps D s) order order-numbered (eqb-true _ _ (not-false _ accepted.1.1.0))
+
+    in_class_a : same_a c ≡ class_a s
+    unfolding check_tests class_of
+    in_class_a =
+        let e : v ≡ Ok (class_of s) = (C.accepted (not-false _ accepted.0) (not-false _ accepted.1.0)).1 kept in
+        let f : c ≡ class_of s = cc in
+        ap same_a f ∙ a-only (class_a s) (class_b s)
+
+    pub other-class : not (sameb the_type c A) ≡ true → WritesLines D s o (Err (Refused NotLines)) o
+    unfolding check_tests line_tests written_answer rejection_answer same_a
+    other-class n = write-out 3 D s o _ o accepted.0 accepted.1.0 accepted.1.1.0 (ap not (sym in_class_a) ∙ n) refl refl
+
+    -- the room that an accepted sheet of class A asks for
+    module _ (n : not (sameb the_type c A) ≡ false) (t : Text) (et : t ≡ text_of s 3) where
+      of_class_a : not (class_a s) ≡ false
+      unfolding same_a
+      of_class_a = ap not (sym in_class_a) ∙ n
+
+      sized : (lines_size s ≡ least_lines + length t) × (length (lines_of (seven_in s)) ≡ least_lines + length t)
+      sized = rw et (sizes s (fits-once D s kept (not-false _ of_class_a)))
+
+      pub too-short : length o < least_lines + length t → WritesLines D s o (Err (Refused WrongSize)) o
+      unfolding check_tests line_tests written_answer rejection_answer
+      too-short h = write-out 4 D s o _ o accepted.0 accepted.1.0 accepted.1.1.0 of_class_a (rw sized.1 (lt-ltb (length o) (least_lines + length t) h)) refl refl
+
+      pub room_for : least_lines + length t ≤ length o → lines_size s ≤ length o
+      room_for h = rw sized.0 h
+
+      pub write-whole : least_lines + length t ≤ length o → (r : ℕ) (x : List ℕ) → Wrote o 0 (lines_of (seven_in s)) r x → WritesLines D s o (Ok r) x
+      unfolding check_tests line_tests written_answer
+      write-whole h r x y =
+          write-out 5 D s o (Ok r) x accepted.0 accepted.1.0 accepted.1.1.0 of_class_a (rw sized.1 (le-ltb (length o) (least_lines + length t) h)) (ap (λ (k : ℕ). success (k ∷ [])) (y.1 ∙ omega arith)) y.0

@@ -1,7 +1,7 @@
 // Reading the lines of MT103: fixed strings compared at their places, the texts between them cut out.
-ghost use Rattle.std.specs.Prelude.{◌≡◌, true, ◌+◌, ◌*◌, ◌≤◌, length, replicate};
+ghost use Rattle.std.specs.Prelude.{◌≡◌, ◌+◌, ◌*◌, ◌≤◌, length, replicate};
 ghost use Rattle.texts.specs.Working.Writing.{put_at};
-ghost use Rattle.texts.specs.Texts.{same, between};
+ghost use Rattle.texts.specs.Texts.{starts_with, between};
 ghost use Rattle.sheets.specs.Sheet.{text_max, cell_size, sheet_size, cell};
 ghost use Rattle.swift.specs.Lines.{any_status, fits_in, sheet_with, parts_of};
 ghost use Rattle.swift.specs.Working.Places.{marked, bank_parts_of};
@@ -14,15 +14,7 @@ use sheets::facts::facts_of;
 use sheets::sheet::{CELL_SIZE, SHEET_SIZE};
 use texts::answers::Refusal;
 use texts::buffers::put;
-use texts::comparisons::equals;
-use texts::parts::{part, wide};
-
-// What reading answers.
-#[derive(Clone, Copy)]
-pub enum LinesRead {
-    Filled,
-    Refused(Refusal),
-}
+use texts::parts::part;
 
 // Dates at which all statuses are in force.
 fn any_status() -> Dates
@@ -36,11 +28,11 @@ fn any_status() -> Dates
     }
 }
 
-// A fixed string stands from place a up to place e.
-fn has_mark<'a>(block: &'a [u8], a: usize, e: usize, mark: &'a [u8]) -> bool
-    ensures { result ≡ same (between block.now a e) mark.now }
+// A fixed string stands at a place.
+fn has_mark(block: &[u8], at: usize, mark: &[u8]) -> bool
+    ensures { result ≡ starts_with (between block.now at (length block.now)) mark.now }
 {
-    equals(part(block, a, e), mark)
+    part(block, at, block.len()).starts_with(mark)
 }
 
 // The block has a length that lines can have, and the fixed strings at their places.
@@ -48,20 +40,20 @@ fn has_marks(block: &[u8]) -> bool
     ensures { result ≡ marked block.now }
 {
     let n = block.len();
-    if n < 112 {
+    if n < 112 || 137 < n {
         return false;
     }
-    if 137 < n {
-        return false;
-    }
-    has_mark(block, 0, 6, b":26T:S")
-        & (has_mark(block, 8, 18, b"\n:57D://RU")
-            & (has_mark(block, 27, 28, b".")
-                & (has_mark(block, 48, 54, b"\n:59:/")
-                    & (has_mark(block, 74, 78, b"\nINN")
-                        & (has_mark(block, 88, 92, b".KPP")
-                            & (has_mark(block, 101, 111, b"\n:72:/UIP/")
-                                & has_mark(block, n - 1, n, b"\n")))))))
+    let marks: [(usize, &[u8]); 8] = [
+        (0, b":26T:S"),
+        (8, b"\n:57D://RU"),
+        (27, b"."),
+        (48, b"\n:59:/"),
+        (74, b"\nINN"),
+        (88, b".KPP"),
+        (101, b"\n:72:/UIP/"),
+        (n - 1, b"\n"),
+    ];
+    marks.iter().all(|(at, mark)| has_mark(block, *at, mark))
 }
 
 // The cell of a text.
@@ -69,42 +61,40 @@ fn cell_of(t: &[u8]) -> [u8; CELL_SIZE]
     requires { length t.now ≤ text_max }
     ensures { result ≡ cell t.now }
 {
-    let head = [t.len() as u8];
-    let mut c = [0u8; CELL_SIZE];
-    put(&mut c, 0, &head);
-    put(&mut c, 1, t);
+    let mut c = [0; CELL_SIZE];
+    c[0] = t.len() as u8;
+    c[1..1 + t.len()].copy_from_slice(t);
     c
 }
 
-// Puts the bytes of a block from place a up to place e into a slot.
-fn put_part(sheet: &mut [u8], slot: u8, block: &[u8], a: usize, e: usize)
-    requires { e ≤ a + text_max }
-    ensures { sheet.new ≡ put_at sheet.old (slot * cell_size) (cell (between block.now a e)) }
+// Puts a text into a slot.
+fn put_text(sheet: &mut [u8], slot: u8, t: &[u8])
+    requires { length t.now ≤ text_max }
+    ensures { sheet.new ≡ put_at sheet.old (slot * cell_size) (cell t.now) }
 {
-    let c = cell_of(part(block, a, e));
-    put(sheet, wide(slot) * CELL_SIZE, &c);
+    put(sheet, usize::from(slot) * CELL_SIZE, &cell_of(t));
 }
 
 // Puts the texts of a block's first three lines into an empty sheet.
 fn put_bank_texts(sheet: &mut [u8], block: &[u8])
-    requires { sheet.old ≡ replicate sheet_size 0 }
+    requires { (sheet.old ≡ replicate sheet_size 0) × (112 ≤ length block.now) }
     ensures { sheet.new ≡ sheet_with (bank_parts_of block.now) }
 {
-    put_part(sheet, 6, block, 6, 8);
-    put_part(sheet, 0, block, 18, 27);
-    put_part(sheet, 1, block, 28, 48);
-    put_part(sheet, 2, block, 54, 74);
+    put_text(sheet, 6, &block[6..8]);
+    put_text(sheet, 0, &block[18..27]);
+    put_text(sheet, 1, &block[28..48]);
+    put_text(sheet, 2, &block[54..74]);
 }
 
 // Puts those of the last two lines beside them.
 fn put_payee_texts(sheet: &mut [u8], block: &[u8])
-    requires { (sheet.old ≡ sheet_with (bank_parts_of block.now)) × (marked block.now ≡ true) }
+    requires { (sheet.old ≡ sheet_with (bank_parts_of block.now)) × (112 ≤ length block.now) × (length block.now ≤ 137) }
     ensures { sheet.new ≡ sheet_with (parts_of block.now) }
 {
     let n = block.len();
-    put_part(sheet, 5, block, 78, 88);
-    put_part(sheet, 8, block, 92, 101);
-    put_part(sheet, 3, block, 111, n - 1);
+    put_text(sheet, 5, &block[78..88]);
+    put_text(sheet, 8, &block[92..101]);
+    put_text(sheet, 3, &block[111..n - 1]);
 }
 
 // "Texts keep rules 1, 2, 3, 5, 7, 9, 10 and 12 and make class A".
@@ -116,21 +106,21 @@ fn is_fit(sheet: &[u8]) -> bool
 }
 
 // "A reader fills a sheet with these seven fields, all others blank".
-pub fn read_lines(block: &[u8], sheet: &mut [u8]) -> LinesRead
+pub fn read_lines(block: &[u8], sheet: &mut [u8]) -> Result<(), Refusal>
     ensures { ReadsLines block.now sheet.old result sheet.new }
 {
     if sheet.len() != SHEET_SIZE {
-        return LinesRead::Refused(Refusal(7));
+        return Err(Refusal::WrongSize);
     }
     if !has_marks(block) {
-        return LinesRead::Refused(Refusal(11));
+        return Err(Refusal::NotLines);
     }
-    let mut work = [0u8; SHEET_SIZE];
+    let mut work = [0; SHEET_SIZE];
     put_bank_texts(&mut work, block);
     put_payee_texts(&mut work, block);
     if !is_fit(&work) {
-        return LinesRead::Refused(Refusal(11));
+        return Err(Refusal::NotLines);
     }
-    put(sheet, 0, &work);
-    LinesRead::Filled
+    sheet.copy_from_slice(&work);
+    Ok(())
 }

@@ -1,7 +1,6 @@
 -- What the account of a list of postings asks of a slot, what the test of a draft asks of it beside its cell, what `put_text` and `put_sheet`
 -- leave, and which sizes a version takes.
-use Rattle.std.specs.Prelude.{Bool, cond, not, ◌&&◌, List, [], ◌∷◌, ℕ, zero, suc, ◌+◌, ◌*◌, eqb, leb, length, get_or}
-use Rattle.texts.specs.Numbers.{big}
+use Rattle.std.specs.Prelude.{Bool, cond, not, ◌&&◌, List, ℕ, zero, suc, ◌+◌, ◌*◌, eqb, leb, length, get_or, true}
 use Rattle.texts.specs.Working.Writing.{put_at}
 use Rattle.sheets.specs.Sheet.{sheet_size, text_max}
 use Rattle.drafts.specs.Revision.{known_party, rank}
@@ -25,18 +24,14 @@ sheet_into d s = cond (eqb (length d) draft_size && eqb (length s) sheet_size) (
 unfoldable pub text_put : List ℕ → ℕ → Revision → List ℕ → List ℕ
 text_put d i v t = cond (leb (length t) text_max) (put_at d (i * slot_size) (slot_bytes v t)) d
 
--- 1 for an unknown party
-unfoldable pub unknown_party : ℕ → ℕ
-unknown_party p = cond (known_party p) 0 1
+-- what stands before a slot's text fits it
+unfoldable pub head_fits : List ℕ → Bool
+head_fits s = cond (eqb (slot_revision s).number 0) (eqb (slot_revision s).party.0 0 && eqb (get_or s cell_place 0) 0) (known_party (slot_revision s).party.0)
 
--- what does not fit before a slot's text, as a number: in a slot of revision 0 the length of a text and the party, read as one, in
--- another 1 for an unknown party; and in the first n slots together
-unfoldable pub misfit : List ℕ → ℕ
-misfit s = cond (eqb (slot_revision s).number 0) (big (get_or s cell_place 0 ∷ (slot_revision s).party.0 ∷ [])) (unknown_party (slot_revision s).party.0)
-
-unfoldable pub misfit_all : List ℕ → ℕ → ℕ
-misfit_all d zero = 0
-misfit_all d (suc n) = misfit_all d n + misfit (slot_in d n)
+-- and in the first n slots
+unfoldable pub heads_fit : List ℕ → ℕ → Bool
+heads_fit d zero = true
+heads_fit d (suc n) = heads_fit d n && head_fits (slot_in d n)
 
 -- whether a message of the version w may have n bytes, of those that one of either version may have
 unfoldable pub takes : ℕ → ℕ → Bool

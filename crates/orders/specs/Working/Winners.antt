@@ -3,11 +3,12 @@ use Rattle.std.specs.Prelude.{◌≡◌, List, ℕ, ◌<◌, length, get_or}
 use Rattle.sheets.specs.Sheet.{slot_count}
 use Rattle.drafts.specs.History.{AllBytes, highest}
 use Rattle.orders.specs.Origins.{origin_of}
-use Rattle.orders.specs.declared.origins.Winners.{Winners}
+use Rattle.orders.specs.declared.origins.Winner.{Winner}
 
-pub record Won (ms : List (List ℕ)) (w : Winners) : Type 0 where
+abbrev pub nobody : Winner
+nobody = record { rank = 0; number = 0 }
+
+pub record Won (ms : List (List ℕ)) (ws : List Winner) : Type 0 where
   pub strings : AllBytes ms
-  pub ranked : length w.ranks ≡ slot_count
-  pub numbered : length w.numbers ≡ slot_count
-  pub rank : (i : ℕ) → i < slot_count → get_or w.ranks i 0 ≡ highest i ms
-  pub number : (i : ℕ) → i < slot_count → get_or w.numbers i 0 ≡ origin_of ms i
+  pub sized : length ws ≡ slot_count
+  pub each : (i : ℕ) → i < slot_count → get_or ws i nobody ≡ record { rank = highest i ms; number = origin_of ms i }

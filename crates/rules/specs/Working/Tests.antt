@@ -1,6 +1,7 @@
 -- The rules' tests on facts, and their outcomes by number. A reader of the promise needs none of this; proofs/On.antt shows
 -- that the tests on facts are the rules.
-use Rattle.std.specs.Prelude.{Bool, true, not, cond, ◌&&◌, ◌||◌, List, [], ◌∷◌, ◌++◌, ℕ, get_or}
+use Rattle.std.specs.Prelude.{Bool, true, not, cond, ◌&&◌, ◌||◌, List, [], ◌∷◌, ◌++◌, ℕ, get_or, find, Option}
+use Rattle.std.specs.Option.{option_map}
 use Rattle.sheets.specs.Forms.{◌⇒◌}
 use Rattle.rules.specs.declared.class.Class.{Class}
 use Rattle.rules.specs.declared.class.Class.TheVariants.{A, B, O}
@@ -8,6 +9,7 @@ use Rattle.sheets.specs.declared.forms.Wanted.{Wanted}
 use Rattle.sheets.specs.declared.forms.Wanted.TheVariants.{Any, Inn, Ten, Twelve, Zero}
 use Rattle.sheets.specs.declared.facts.Payer.{Payer}
 use Rattle.sheets.specs.declared.facts.Facts.{Facts}
+use Rattle.rules.specs.declared.rules.RuleNumber.{RuleNumber}
 
 -- ---- the rules' tests on facts
 
@@ -157,6 +159,10 @@ judged_on f = cond (ordinary f) (general_on f) (outcomes_on f)
 -- the rule with a number is kept, by its outcome; one without an outcome is
 unfoldable pub kept : List Bool → ℕ → Bool
 kept os n = get_or os n true
+
+-- the first of some rules that is broken, by the outcomes
+abbrev pub first_of : List Bool → List ℕ → Option RuleNumber
+first_of os ns = option_map (λ (n : ℕ). record { 0 = n }) (find (λ (n : ℕ). not (kept os n)) ns)
 
 unfoldable pub holds : Facts → ℕ → Bool
 holds f n = get_or (outcomes_on f) n true

@@ -1,12 +1,13 @@
 -- The entries that completion puts into the blank fields 101, 106, 108 and 109, a sheet with one put in, and the facts of such a sheet.
-use Rattle.std.specs.Prelude.{Bool, not, cond, ◌&&◌, List, [], ◌∷◌, ℕ, ◌+◌, ◌*◌, leb, length, get_or}
+use Rattle.std.specs.Prelude.{◌≡◌, Bool, not, cond, ◌&&◌, List, [], ◌∷◌, ℕ, ◌+◌, ◌*◌, leb, length, get_or}
 use Rattle.texts.specs.Quoted.{Text}
 use Rattle.texts.specs.Texts.{blank}
 use Rattle.texts.specs.Working.Writing.{put_at}
-use Rattle.sheets.specs.Sheet.{Sheet, cell_size, text_of}
+use Rattle.sheets.specs.Sheet.{Sheet, cell, cell_size, text_of}
 use Rattle.sheets.specs.Lists.{zero_texts, basis_texts}
 use Rattle.sheets.specs.Dates.{texts_in}
-use Rattle.sheets.specs.Working.Facts.{standing_of, basis_of, document_of, day_of}
+use Rattle.sheets.specs.Working.Facts.{standing_of, basis_of, document_of, day_of, Read}
+use Rattle.sheets.specs.declared.dates.Dates.{Dates}
 use Rattle.sheets.specs.declared.dates.Force.{Force}
 use Rattle.sheets.specs.declared.facts.Standing.{Standing}
 use Rattle.sheets.specs.declared.facts.Basis.{Basis}
@@ -68,3 +69,11 @@ with_document g f k = with_all g g.status g.basis (document_at f k) g.day
 
 abbrev pub with_day : Facts → Facts → ℕ → Facts
 with_day g f k = with_all g g.status g.basis g.document (day_at f k)
+
+-- b is whether the text in slot j is blank, of each sheet that f was read of
+abbrev pub TellsBlank : Facts → ℕ → Bool → Type 0
+TellsBlank f j b = (D : Dates) (s : Sheet) → Read D f s → b ≡ blank (text_of s j)
+
+-- r are the facts of a sheet t, which g was read of, with entry k of a list in slot j, where f was read of a sheet that has the same text there
+abbrev pub FillsSlot : Facts → Facts → ℕ → List Text → ℕ → Facts → Type 0
+FillsSlot g f j ts k r = (D : Dates) (s t : Sheet) → Read D f s → Read D g t → text_of t j ≡ text_of s j → Read D r (filled_at t j (cell (get_or ts k [])))

@@ -1,5 +1,6 @@
 -- Where the fixed strings stand in a block: all texts but the last have one width. A reader of the promises needs none of this.
 use Rattle.std.specs.Prelude.{Bool, List, [], ◌∷◌, ◌++◌, ℕ, ◌+◌, ◌-◌, leb, length}
+use denote.Ref.{Bor}
 use Rattle.texts.specs.Quoted.{Text, bytes}
 use Rattle.texts.specs.Texts.{between, same}
 use Rattle.sheets.specs.Sheet.{Sheet, text_of}
@@ -56,6 +57,11 @@ bank_parts_of b =
       kpp = [];
       code = [];
     }
+
+-- texts one behind another
+abbrev pub joined : List (Bor (List ℕ)) → Text
+joined [] = []
+joined (t ∷ ts) = t.now ++ joined ts
 
 -- how long the lines of a sheet's texts are
 abbrev pub lines_size : Sheet → ℕ

@@ -1,27 +1,10 @@
-use mathlib.Core.Path.{refl}
-use Prim.Native.Nat.{◌-◌}
-use native.Mathlib.Omega.{arith}
-use lib.Dec.{leb}
-use Rattle.texts.proofs.Loops.{loops, every_more, every-kept}
+use Rattle.std.proofs.Common.{rules, leb, ◌∙◌}
+use Rattle.std.proofs.lemmas.Iterator.{YieldsList-from_slice}
+use Rattle.std.proofs.lemmas.Iterator.Search.{all_from_yields_List}
+use Rattle.texts.proofs.Std.{every-list_all}
 use Rattle.amounts.proofs.shares.all_some.Goals as goal
 
-pub loop-i-init : goal.loop-i-init
-loop-i-init c = search loops
-
-pub offset_bounds-periods-i : goal.offset_bounds-periods-i
-offset_bounds-periods-i c = search loops
-
-pub bounds-periods-i : goal.bounds-periods-i
-bounds-periods-i c = search loops
-
-pub overflow_add-i : goal.overflow_add-i
-overflow_add-i c = search loops
-
-pub loop-i-smaller : goal.loop-i-smaller
-loop-i-smaller c = search loops
-
-pub loop-i-preserved : goal.loop-i-preserved
-loop-i-preserved c = (omega arith, every_more (leb 1) c.args.periods.now c.loop-i.i c.loop-i.good _ c.loop-i.invariant.1 c.loop-i-test.true refl)
-
 pub returns : goal.returns
-returns c = every-kept (leb 1) c.args.periods.now c.loop-i.i _ c.loop-i.invariant.1 c.loop-i-test.false
+returns c =
+    all_from_yields_List (leb 1) _ _ _ c.all.ensures.ran (YieldsList-from_slice c.args.periods.now cc) (λ x b q k. search rules)
+    ∙ every-list_all (leb 1) c.args.periods.now

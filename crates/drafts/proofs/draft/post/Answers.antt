@@ -1,77 +1,25 @@
-use Rattle.drafts.proofs.DraftPromises.{posts}
+use Rattle.std.proofs.lemmas.Result.{err_from_is_err_and}
+use Rattle.drafts.proofs.DraftPromises.{posts, post-unread, post-clash, post-newer, post-still}
 use Rattle.drafts.proofs.draft.post.Goals as goal
-
-pub well_formed-requires : goal.well_formed-requires
-well_formed-requires c = search posts
-
-pub shape_of-draft-then-not-well_formed : goal.shape_of-draft-then-not-well_formed
-shape_of-draft-then-not-well_formed c = search posts
 
 pub returns-then-not-well_formed : goal.returns-then-not-well_formed
 returns-then-not-well_formed c = search posts
 
-pub read-requires : goal.read-requires
-read-requires c = search posts
+pub returns-in_err-heading : goal.returns-in_err-heading
+returns-in_err-heading c =
+    let p = err_from_is_err_and c.from_residual.result c.from_residual.ensures.1 in
+    rw (p.1, p.2) (post-unread _ _ c.type_inv.message _ c.well_formed-2.ensures c.if-not-well_formed.false _ c.read.ensures _ c.in_err-heading.was)
 
-pub enum_known-refusal : goal.enum_known-refusal
-enum_known-refusal c = search posts
+pub returns-in_err-standing : goal.returns-in_err-standing
+returns-in_err-standing c =
+    let p = err_from_is_err_and c.from_residual-in_err-standing.result c.from_residual-in_err-standing.ensures.1 in
+    rw (p.1, p.2)
+    (post-clash _ _ c.type_inv.message _ c.well_formed-2.ensures c.if-not-well_formed.false _ c.read.ensures _ c.in_ok-heading.was _ c.message_text-text.ensures _ c.slot_of-slot.ensures _ c.slot_in.ensures _ c.stands.ensures _ c.in_err-standing.was)
 
-pub enum_known-field : goal.enum_known-field
-enum_known-field c = search posts
+pub returns-then-eq : goal.returns-then-eq
+returns-then-eq c =
+    post-newer _ _ c.type_inv.message _ c.well_formed-2.ensures c.if-not-well_formed.false _ c.read.ensures _ c.in_ok-heading.was _ c.message_text-text.ensures _ c.slot_of-slot.ensures _ c.slot_in.ensures _ c.stands.ensures _ _ _ c.in_ok-standing.was c.eq.ensures c.if-eq.true c.put_text.ensures
 
-pub slot_of-slot-requires : goal.slot_of-slot-requires
-slot_of-slot-requires c = search posts
-
-pub message_text-text-requires : goal.message_text-text-requires
-message_text-text-requires c = search posts
-
-pub slot_in-requires : goal.slot_in-requires
-slot_in-requires c = search posts
-
-pub stands-requires : goal.stands-requires
-stands-requires c = search posts
-
-pub enum_told-1 : goal.enum_told-1
-enum_told-1 c = search posts
-
-pub store-requires : goal.store-requires
-store-requires c = search posts
-
-pub enum_told-in-Same : goal.enum_told-in-Same
-enum_told-in-Same c = search posts
-
-pub enum_told-in-Older : goal.enum_told-in-Older
-enum_told-in-Older c = search posts
-
-pub enum_told-in-Clash : goal.enum_told-in-Clash
-enum_told-in-Clash c = search posts
-
-pub shape_of-draft-in-Refused : goal.shape_of-draft-in-Refused
-shape_of-draft-in-Refused c = search posts
-
-pub returns-in-Refused : goal.returns-in-Refused
-returns-in-Refused c = search posts
-
-pub shape_of-draft-in-Newer : goal.shape_of-draft-in-Newer
-shape_of-draft-in-Newer c = search posts
-
-pub returns-in-Newer : goal.returns-in-Newer
-returns-in-Newer c = search posts
-
-pub shape_of-draft-in-Same : goal.shape_of-draft-in-Same
-shape_of-draft-in-Same c = search posts
-
-pub returns-in-Same : goal.returns-in-Same
-returns-in-Same c = search posts
-
-pub shape_of-draft-in-Older : goal.shape_of-draft-in-Older
-shape_of-draft-in-Older c = search posts
-
-pub returns-in-Older : goal.returns-in-Older
-returns-in-Older c = search posts
-
-pub shape_of-draft-in-Clash : goal.shape_of-draft-in-Clash
-shape_of-draft-in-Clash c = search posts
-
-pub returns-in-Clash : goal.returns-in-Clash
-returns-in-Clash c = search posts
+pub returns-else-eq : goal.returns-else-eq
+returns-else-eq c =
+    post-still _ _ c.type_inv.message _ c.well_formed-2.ensures c.if-not-well_formed.false _ c.read.ensures _ c.in_ok-heading.was _ c.message_text-text.ensures _ c.slot_of-slot.ensures _ c.slot_in.ensures _ c.stands.ensures _ _ c.in_ok-standing.was c.eq.ensures c.if-eq.false

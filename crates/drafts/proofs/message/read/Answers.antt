@@ -16,7 +16,7 @@ returns-then-not-takes c = search (reading, read_out 2)
 
 pub field_and_revision-body-requires : goal.field_and_revision-body-requires
 unfolding read_tests
-field_and_revision-body-requires c = window-fits _ _ _ _ c.framed.ensures c.if-not-framed.false-raw c.takes.ensures c.if-not-takes.false-raw
+field_and_revision-body-requires c = window-fits _ _ _ _ c.framed.ensures c.if-not-framed.false c.takes.ensures c.if-not-takes.false
 
 pub returns-then-not-known-2 : goal.returns-then-not-known-2
 unfolding read_tests

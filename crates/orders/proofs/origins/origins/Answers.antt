@@ -1,40 +1,20 @@
-use mathlib.Core.Path.{refl}
+use Rattle.std.proofs.Common.{rules}
+use mathlib.Core.Path.{refl, ap, ◌∙◌}
 use native.Mathlib.Omega.{arith}
-use Rattle.orders.proofs.Streaming.{stream-within}
-use Rattle.orders.proofs.Winning.{seen_none, seeing}
+use Rattle.orders.specs.Working.Messages.{messages_left}
+use Rattle.orders.specs.Working.Winners.{nobody}
+use Rattle.orders.proofs.Streaming.{messages-room, gone-none, gone-done}
+use Rattle.orders.proofs.Winning.{none-won, seen_next, seen-room, origins-by}
 use Rattle.orders.proofs.origins.origins.Goals as goal
 
-pub loop-from-init : goal.loop-from-init
-loop-from-init c = (omega arith, omega arith, seen_none _ _ refl refl)
-
-pub part-requires : goal.part-requires
-part-requires c = search seeing
-
-pub piece-message-requires : goal.piece-message-requires
-piece-message-requires c = search seeing
+pub loop-message-init : goal.loop-message-init
+loop-message-init c = gone-none (none-won _ refl, refl) (ap messages_left c.into_iter-message-iterator.ensures.into_iter_gives ∙ c.of-message-items.ensures)
 
 pub overflow_add-number : goal.overflow_add-number
-overflow_add-number c = omega arith
+overflow_add-number c = omega (arith, seen-room c.loop-message.invariant _ _ c.in-Some.ensures.steps, messages-room c.args.input.now)
 
-pub with_message-winners-requires : goal.with_message-winners-requires
-with_message-winners-requires c = search seeing
-
-pub ends_stream-requires : goal.ends_stream-requires
-ends_stream-requires c = search seeing
-
-pub returns-then-ends_stream : goal.returns-then-ends_stream
-returns-then-ends_stream c = search seeing
-
-pub overflow_add-from : goal.overflow_add-from
-overflow_add-from c =
-    let b = stream-within _ _ c.loop-from-test.true _ _ c.part.ensures c.piece-message.ensures in
-    omega arith
-
-pub loop-from-smaller : goal.loop-from-smaller
-loop-from-smaller c = search seeing
-
-pub loop-from-preserved : goal.loop-from-preserved
-loop-from-preserved c = (search seeing, search seeing, search seeing)
+pub loop-message-preserved : goal.loop-message-preserved
+loop-message-preserved c = seen_next c.loop-message.invariant _ _ c.in-Some.ensures.steps _ c.note.ensures
 
 pub returns : goal.returns
-returns c = search seeing
+returns c = origins-by _ _ (gone-done c.loop-message.invariant c.in-None.ensures.steps.0).0 _ c.map.ensures.items.long (λ i l. let q = c.map.ensures.items.at i nobody 0 l in search rules)

@@ -1,29 +1,25 @@
 use mathlib.Core.Path.{refl}
-use Rattle.texts.proofs.Refusals.{tested}
-use Rattle.orders.specs.Pretest.{pretest_answer, pretest_tests}
 use Rattle.orders.proofs.Completing.{Prepared, prepared}
-use Rattle.orders.proofs.Pretesting.{not_named, pretest-out, ahead-8, ahead-9, ahead_none, ahead-named}
+use Rattle.orders.proofs.Pretesting.{ahead-1, ahead-unpaid, ahead_none, ahead-named}
 use Rattle.orders.proofs.pretest.pretest.Goals as goal
-use Rattle.orders.proofs.pretest.pretest.Goals.{After-broken_basic-broken}
+use Rattle.orders.proofs.pretest.pretest.Goals.{After-facts_of_payment}
 
--- what is known once rules 1 to 3 were tested
-begun : (c : After-broken_basic-broken) → Prepared c.program_dates-dates.result c.args.draft.now c.put_sheet.new.sheet c.fill_zeros.new.sheet c.facts_of-f.result c.broken_basic-broken.result
-begun c =
-    prepared _ _ _ c.well_formed-2.ensures c.if-not-well_formed.false-raw _ _ refl c.put_sheet.ensures _ _ _ c.fill_zeros.ensures c.facts_of-f.ensures.0 c.broken_basic-broken.ensures.0
+-- what is known of the draft once its facts were asked
+begun : (c : After-facts_of_payment) → Prepared c.args.draft.now c.fill_zeros.new.sheet
+begun c = prepared _ c.if-not-well_formed.ensures _ _ refl c.put_sheet.ensures _ c.fill_zeros.ensures
 
 pub returns-then-not-well_formed : goal.returns-then-not-well_formed
-unfolding pretest_answer pretest_tests
-returns-then-not-well_formed c = search (tested, pretest-out 0, not_named)
+returns-then-not-well_formed c D = ahead-1 D _ c.if-not-well_formed.ensures
 
-pub returns-then-broken-ne0 : goal.returns-then-broken-ne0
-returns-then-broken-ne0 c = ahead-8 (begun (goal.at.returns-then-broken-ne0 c).After-broken_basic-broken) _ c.if-broken-ne0.true c.field_of.ensures
-
-pub returns-then-not-is_budget : goal.returns-then-not-is_budget
-returns-then-not-is_budget c = ahead-9 (begun (goal.at.returns-then-not-is_budget c).After-broken_basic-broken) c.if-broken-ne0.false _ c.is_budget.ensures.0 c.if-not-is_budget.true-raw
+pub returns-in_err-facts_of_payment : goal.returns-in_err-facts_of_payment
+returns-in_err-facts_of_payment c = ahead-unpaid _ (begun (goal.at.returns-in_err-facts_of_payment c).After-facts_of_payment) _ c.in_err-facts_of_payment.ensures _ c.from_residual.ensures.1
 
 -- the first filling, looked at
-pub returns-then-named-eq0 : goal.returns-then-named-eq0
-returns-then-named-eq0 c = ahead_none (begun (goal.at.returns-then-named-eq0 c).After-broken_basic-broken) c.if-broken-ne0.false _ c.is_budget.ensures.0 c.if-not-is_budget.false-raw _ c.fill_picked.ensures _ c.facts_of.ensures.0 _ c.broken_ahead-named.ensures.0 c.if-named-eq0.true
+pub returns-in-None : goal.returns-in-None
+returns-in-None c =
+    ahead_none _ (begun (goal.at.returns-in-None c).After-facts_of_payment) _ c.in_ok-facts_of_payment.ensures _ c.fill_picked.ensures _ c.facts_of.ensures.0 _ c.broken_ahead.ensures.0 c.in-None.is
 
-pub returns : goal.returns
-returns c = ahead-named (begun (goal.at.returns c).After-broken_basic-broken) c.if-broken-ne0.false _ c.is_budget.ensures.0 c.if-not-is_budget.false-raw _ c.fill_picked.ensures _ c.facts_of.ensures.0 _ c.broken_ahead-named.ensures.0 _ c.if-named-eq0.false c.field_of-2.ensures
+pub returns-in-Some : goal.returns-in-Some
+returns-in-Some c =
+    ahead-named _ (begun (goal.at.returns-in-Some c).After-facts_of_payment) _ c.in_ok-facts_of_payment.ensures _ c.fill_picked.ensures _ c.facts_of.ensures.0 _ c.broken_ahead.ensures.0
+    _ c.in-Some.is _ c.field_of.ensures

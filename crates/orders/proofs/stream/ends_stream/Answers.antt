@@ -1,17 +1,9 @@
-use Rattle.orders.proofs.Streaming.{streams}
+use mathlib.Core.Path.{◌∙◌}
+use Rattle.orders.proofs.Streaming.{ends-not, ends_by}
 use Rattle.orders.proofs.stream.ends_stream.Goals as goal
 
-pub read-requires : goal.read-requires
-read-requires c = search streams
+pub returns-in-Ok : goal.returns-in-Ok
+returns-in-Ok c = ends-not _ _ c.read.ensures _ c.in-Ok.is
 
-pub enum_told-1 : goal.enum_told-1
-enum_told-1 c = search streams
-
-pub enum_known-refusal : goal.enum_known-refusal
-enum_known-refusal c = search streams
-
-pub returns-in-Message : goal.returns-in-Message
-returns-in-Message c = search streams
-
-pub returns-in-Refused : goal.returns-in-Refused
-returns-in-Refused c = search streams
+pub returns-in-Err : goal.returns-in-Err
+returns-in-Err c = c.eq.ensures ∙ ends_by _ _ c.read.ensures _ c.in-Err.is

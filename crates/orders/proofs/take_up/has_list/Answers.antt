@@ -1,5 +1,6 @@
-use Rattle.orders.proofs.TakeUp.{list-is}
+use mathlib.Core.Path.{◌∙◌}
+use Rattle.orders.proofs.Lists.{some-listed}
 use Rattle.orders.proofs.take_up.has_list.Goals as goal
 
 pub returns : goal.returns
-returns c D = list-is D _ _ _ c.wide.ensures c.at.ensures
+returns c D = c.is_some.ensures ∙ some-listed D _ _ c.list_in.ensures

@@ -1,14 +1,9 @@
 use mathlib.Core.Path.{◌≡◌}
-use Prim.Native.Nat.{◌-◌, ◌≤◌}
 use lib.ListN.{length}
-use Rattle.sheets.specs.Sheet.{slot_count}
 use Rattle.drafts.specs.History.{posted_from}
 use Rattle.orders.specs.TakeUp.{proposals}
 use Rattle.orders.specs.Working.Upto.{Postable}
 use Rattle.orders.proofs.take_up.take_all.Given as goal
 
 abbrev pub invariant-loop-slot : goal.invariant-loop-slot
-invariant-loop-slot l = (l.slot ≤ slot_count) × (l.draft ≡ posted_from l.initial.draft (proposals l.initial.draft l.sheet l.set l.slot)) × Postable l.initial.draft l.sheet l.set × (length l.draft ≡ length l.initial.draft)
-
-abbrev pub decreases-loop-slot : goal.decreases-loop-slot
-decreases-loop-slot l = slot_count - l.slot
+invariant-loop-slot l = (l.draft ≡ posted_from l.initial.draft (proposals l.initial.draft l.sheet l.set l.slot)) × Postable l.initial.draft l.sheet l.set × (length l.draft ≡ length l.initial.draft)

@@ -1,40 +1,41 @@
-use mathlib.Core.Path.{refl, ◌∙◌, ap}
-use Prim.Native.Nat.{◌+◌}
+use mathlib.Core.Path.{◌≡◌, refl, ap, ◌∙◌}
+use mathlib.Core.List.{List}
+use Prim.Native.Nat.{ℕ, ◌/◌, ◌+◌, ◌<◌}
 use native.Mathlib.Omega.{arith}
-use borrow.Author.Rules.{rules}
-use Rattle.registers.specs.Register.{total_of}
-use Rattle.registers.proofs.Registers.{total-next, total-most, lines-all}
+use lib.ListN.{length}
+use Rattle.registers.specs.Register.{line_of, total_of}
+use Rattle.registers.specs.Working.Parts.{line_at}
+use Rattle.registers.proofs.Registers.{total-next, total-most, lines-all, chunk_at}
 use Rattle.registers.proofs.lines.total_of.Goals as goal
+use Rattle.registers.proofs.lines.total_of.Goals.{After-kopecks_of-sum}
 
-pub loop-i-init : goal.loop-i-init
-unfolding total_of
-loop-i-init c = (omega arith, refl)
+more : (c : After-kopecks_of-sum) → c.loop-line.line-index < length c.args.register.now / 20
+more c = omega (arith, c.as_chunks.ensures.front_len, c.loop-line-test.true)
 
-pub kopecks_at-sum-requires : goal.kopecks_at-sum-requires
+-- the kopecks of the line at hand
+kopecks : (c : After-kopecks_of-sum) → c.kopecks_of-sum.result.0 ≡ (line_at c.args.register.now c.loop-line.line-index).1
+kopecks c = c.kopecks_of-sum.ensures ∙ ap (λ (b : List ℕ). (line_of b).1) (chunk_at c.args.register.now _ c.as_chunks.ensures.front c.loop-line.line-index (more c) _)
+
+pub loop-line-init : goal.loop-line-init
 unfolding total_of
-kopecks_at-sum-requires c = omega arith
+loop-line-init c = refl
 
 pub overflow_add-sum : goal.overflow_add-sum
 overflow_add-sum c =
-    let l = c.loop-i in
-    let h = c.loop-i-test.true in
-    record { fits = omega (arith, l.invariant.1, c.kopecks_at-sum.ensures, total-next c.args.register.now l.i h, total-most c.args.register.now c.requires (l.i + 1) (omega arith)) }
+    let t = c.args.register.now in
+    let k = (goal.at.overflow_add-sum c).After-kopecks_of-sum in
+    record { fits = omega (arith, c.loop-line.invariant, kopecks k, more k, total-next t c.loop-line.line-index (more k), total-most t c.requires (c.loop-line.line-index + 1) (omega (arith, more k))) }
 
-pub overflow_add-i : goal.overflow_add-i
-unfolding total_of
-overflow_add-i c = search rules
-
-pub loop-i-smaller : goal.loop-i-smaller
-unfolding total_of
-loop-i-smaller c = search rules
-
-pub loop-i-preserved : goal.loop-i-preserved
-loop-i-preserved c =
-    let l = c.loop-i in
-    let h = c.loop-i-test.true in
-    (omega arith, omega (arith, l.invariant.1, c.kopecks_at-sum.ensures, total-next c.args.register.now l.i h))
+pub loop-line-preserved : goal.loop-line-preserved
+loop-line-preserved c =
+    let k = (goal.at.loop-line-preserved c).After-kopecks_of-sum in
+    omega (arith, c.loop-line.invariant, kopecks k, total-next c.args.register.now c.loop-line.line-index (more k))
 
 pub returns : goal.returns
 returns c =
-    let l = c.loop-i in
-    (l.invariant.1 ∙ ap total_of (lines-all c.args.register.now l.i c.loop-i-test.false), omega (arith, l.invariant.1, total-most c.args.register.now c.requires l.i l.invariant.0))
+    let t = c.args.register.now in
+    let l = c.loop-line in
+    let a = c.as_chunks.ensures.front_len in (
+      l.invariant ∙ ap total_of (lines-all t l.line-index (omega (arith, a, c.loop-line-test.false))),
+      omega (arith, l.invariant, total-most t c.requires l.line-index (omega (arith, a, l.auto.line-index-end))),
+    )

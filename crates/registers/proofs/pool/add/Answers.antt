@@ -12,5 +12,5 @@ returns c =
     let o = c.args.output.now in
     let at = c.args.place * 20 + 12 in
     c.put.ensures
-    ∙ ap (put_at o at) (c.bytes_of_8.ensures ∙ ap (λ (k : ℕ). bytes_of 8 (k + c.args.kopecks.0)) c.number_at.ensures)
+    ∙ ap (put_at o at) (c.bytes_of.ensures ∙ ap (λ (k : ℕ). bytes_of 8 (k + c.args.kopecks.0)) c.number_at.ensures)
     ∙ put-fits o at (bytes_of 8 (big_at o at + c.args.kopecks.0)) (omega (arith, c.requires.0))

@@ -1,10 +1,9 @@
+use mathlib.Core.Path.{sym, ◌∙◌}
+use borrow.Author.Tests.{eqb-true, eqb-false, not-true, not-false}
 use borrow.Author.Rules.{sfits_of}
-use native.Mathlib.Omega.{arith}
 use mir.Syntax.{w64}
 use mir.Val.{to_z, of_z}
 use mir.Facts.{to_z-of_z}
-use Rattle.texts.proofs.Bools.{both}
-use Rattle.registers.proofs.Registers.{is-register}
 use Rattle.registers.proofs.Promises.{Passed, refused-7, refused-16, differs-17, made-0}
 use Rattle.registers.proofs.pool.pool.Goals as goal
 use Rattle.registers.proofs.pool.pool.Goals.{Else-not-is_register-is_order}
@@ -22,24 +21,13 @@ returns-then-output-lt-OUTPUT_SIZE c = refused-7 _ _ _ c.if-output-lt-OUTPUT_SIZ
 pub returns-then-not-is_register-is_order : goal.returns-then-not-is_register-is_order
 returns-then-not-is_register-is_order c = refused-16 _ _ _ c.if-output-lt-OUTPUT_SIZE.false _ _ c.is_register.ensures c.is_order.ensures c.if-not-is_register-is_order.true
 
-pub total_of-total-requires : goal.total_of-total-requires
-total_of-total-requires c = (both _ _ (passed c).right).0
-
-pub difference-requires : goal.difference-requires
-difference-requires c =
-    let a = c.args in
-    (omega (arith, c.total_of-total.ensures.1), (is-register a.register.now a.amount.0 (passed (goal.at.difference-requires c).Else-not-is_register-is_order).right).orders.1)
-
-pub returns-then-total-amount : goal.returns-then-total-amount
-returns-then-total-amount c =
-    differs-17 _ _ _ (passed (goal.at.returns-then-total-amount c).Else-not-is_register-is_order) c.total_of-total.result.0 c.total_of-total.ensures.0 c.if-total-amount.true (to_z w64 (of_z w64 c.difference.result))
+pub returns-then-ne : goal.returns-then-ne
+returns-then-ne c =
+    let differ = eqb-false _ _ (not-true _ (sym c.ne.ensures ∙ c.if-ne.true)) in
+    differs-17 _ _ _ (passed (goal.at.returns-then-ne c).Else-not-is_register-is_order) c.total_of-total.result.0 c.total_of-total.ensures.0 differ (to_z w64 (of_z w64 c.difference.result))
     (rw (to_z-of_z {w = w64} {z = c.difference.result} (sfits_of c.difference.type_inv)) c.difference.ensures)
-
-pub pool_lines-requires : goal.pool_lines-requires
-pool_lines-requires c =
-    let w = passed (goal.at.pool_lines-requires c).Else-not-is_register-is_order in
-    ((both _ _ w.right).0, w.room)
 
 pub returns : goal.returns
 returns c =
-    made-0 _ _ _ (passed (goal.at.returns c).Else-not-is_register-is_order) c.total_of-total.result.0 c.total_of-total.ensures.0 c.if-total-amount.false c.pool_lines.result _ c.pool_lines.ensures
+    let agree = eqb-true _ _ (not-false _ (sym c.ne.ensures ∙ c.if-ne.false)) in
+    made-0 _ _ _ (passed (goal.at.returns c).Else-not-is_register-is_order) c.total_of-total.result.0 c.total_of-total.ensures.0 agree c.pool_lines.result _ c.pool_lines.ensures

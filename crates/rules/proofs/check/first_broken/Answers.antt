@@ -1,13 +1,13 @@
-use Prim.Native.Nat.{◌-◌}
-use borrow.Author.Rules.{rules}
-use Rattle.rules.proofs.First.{not_found, not_more, not_none}
+use Rattle.std.proofs.Common.{rules, ℕ, not}
+use borrow.Author.Tests.{tests}
+use Rattle.std.proofs.lemmas.Iterator.{YieldsList-from_slice}
+use Rattle.std.proofs.lemmas.Iterator.Consumers.{YieldsList-from_copied}
+use Rattle.std.proofs.lemmas.Iterator.Search.{find_from_yields_List}
+use Rattle.rules.specs.Working.Tests.{kept}
+use Rattle.rules.proofs.First.{mapped}
 use Rattle.rules.proofs.check.first_broken.Goals as goal
 
-pub returns-then-not-is_kept : goal.returns-then-not-is_kept
-returns-then-not-is_kept c = search (rules, not_found)
-
-pub loop-i-preserved : goal.loop-i-preserved
-loop-i-preserved c = search (rules, not_more)
-
 pub returns : goal.returns
-returns c = search (rules, not_none)
+returns c =
+    let found = find_from_yields_List (λ (n : ℕ). not (kept c.args.outcomes.now n)) _ _ c.find.result c.find.ensures.ran (YieldsList-from_copied (YieldsList-from_slice c.args.order.now (search rules))) (λ x b q k. search (rules, tests)) in
+    mapped _ (λ x y k. search rules) c.find.result _ _ found c.map.ensures.cases

@@ -1,11 +1,6 @@
-use borrow.Author.Rules.{rules}
 use borrow.Author.Tests.{lt-ltb, le-ltb}
 use Rattle.sheets.specs.Working.Facts.{in_set}
 use Rattle.sheets.proofs.facts.is_in.Goals as goal
-
-pub overflow_shr-result : goal.overflow_shr-result
-unfolding in_set
-overflow_shr-result c = search rules
 
 pub returns-then-n-lt64 : goal.returns-then-n-lt64
 unfolding in_set

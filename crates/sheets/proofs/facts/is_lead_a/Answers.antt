@@ -1,12 +1,9 @@
 use borrow.Author.Rules.{rules}
-use Rattle.sheets.proofs.Sets.{lead_low, lead_high, lead-in}
+use Rattle.sheets.proofs.Sets.{lead_low, lead-in}
 use Rattle.sheets.proofs.facts.is_lead_a.Goals as goal
 
 pub returns-then-lead-lt3212 : goal.returns-then-lead-lt3212
 returns-then-lead-lt3212 c = search (rules, lead_low)
-
-pub returns-then-lead-ge3276 : goal.returns-then-lead-ge3276
-returns-then-lead-ge3276 c = search (rules, lead_high)
 
 pub returns : goal.returns
 returns c = search (rules, lead-in)

@@ -1,49 +1,22 @@
-use mathlib.Core.Path.{sym}
-use Rattle.rules.specs.Verdicts.{check_tests}
-use Rattle.rules.proofs.Judging.{facts-read}
-use Rattle.swift.specs.Promises.{written_answer, line_tests}
-use Rattle.swift.proofs.Writing.{writing, write-out, room_for, write-whole}
+use mathlib.Core.Path.{refl, sym, ap, ◌∙◌}
+use Rattle.std.specs.Prelude.{Err}
+use Rattle.std.proofs.lemmas.Result.{err_from_is_err_and}
+use Rattle.swift.proofs.Writing.{rejects, other-class, too-short, room_for, write-whole}
 use Rattle.swift.proofs.write.write_lines.Goals as goal
 
--- In each answer r is what is known where the facts were read, e of the first broken rule, and k of class A.
-pub returns-then-not-well_formed : goal.returns-then-not-well_formed
-unfolding written_answer line_tests check_tests
-returns-then-not-well_formed c = search (writing, write-out 0)
+pub returns-in_err-check : goal.returns-in_err-check
+returns-in_err-check c =
+    let p = err_from_is_err_and c.from_residual.result c.from_residual.ensures.1 in
+    rejects _ _ _ _ c.in_err-check.ensures c.in_err-check.field-0.0 _ refl (p.1 ∙ ap Err p.2)
 
-pub returns-then-not-are_fit : goal.returns-then-not-are_fit
-unfolding written_answer line_tests check_tests
-returns-then-not-are_fit c = search (writing, write-out 1)
-
-pub returns-then-b-ne0 : goal.returns-then-b-ne0
-unfolding written_answer line_tests check_tests
-returns-then-b-ne0 c =
-    let r = facts-read _ _ _ _ c.well_formed-2.ensures c.if-not-well_formed.false-raw c.facts_of-f.ensures.0 in
-    let e = sym (c.broken-b.ensures.0 _ _ r) in
-    search (writing, write-out 2)
-
-pub returns-then-not-is_class_a : goal.returns-then-not-is_class_a
-unfolding written_answer line_tests check_tests
-returns-then-not-is_class_a c =
-    let r = facts-read _ _ _ _ c.well_formed-2.ensures c.if-not-well_formed.false-raw c.facts_of-f.ensures.0 in
-    let e = sym (c.broken-b.ensures.0 _ _ r) in
-    let k = c.is_class_a.ensures.0 _ _ r in
-    search (writing, write-out 3)
+pub returns-then-ne : goal.returns-then-ne
+returns-then-ne c = other-class _ _ _ _ c.in_ok-check.ensures _ refl (sym c.ne.ensures ∙ c.if-ne.true)
 
 pub returns-then-buffer-text : goal.returns-then-buffer-text
-unfolding written_answer line_tests check_tests
-returns-then-buffer-text c =
-    let r = facts-read _ _ _ _ c.well_formed-2.ensures c.if-not-well_formed.false-raw c.facts_of-f.ensures.0 in
-    let e = sym (c.broken-b.ensures.0 _ _ r) in
-    let k = c.is_class_a.ensures.0 _ _ r in
-    search (writing, write-out 4)
+returns-then-buffer-text c = too-short _ _ _ _ c.in_ok-check.ensures _ refl (sym c.ne.ensures ∙ c.if-ne.false) _ c.text.ensures c.if-buffer-text.true
 
 pub put_lines-requires : goal.put_lines-requires
-put_lines-requires c =
-    let r = facts-read _ _ _ _ c.well_formed-2.ensures c.if-not-well_formed.false-raw c.facts_of-f.ensures.0 in
-    room_for _ _ _ (sym (c.broken-b.ensures.0 _ _ r)) c.if-b-ne0.false _ (c.is_class_a.ensures.0 _ _ r) c.if-not-is_class_a.false-raw _ c.text.ensures c.args.buffer.now c.if-buffer-text.false
+put_lines-requires c = room_for _ _ c.args.buffer.now _ c.in_ok-check.ensures _ refl (sym c.ne.ensures ∙ c.if-ne.false) _ c.text.ensures c.if-buffer-text.false
 
 pub returns : goal.returns
-returns c =
-    let r = facts-read _ _ _ _ c.well_formed-2.ensures c.if-not-well_formed.false-raw c.facts_of-f.ensures.0 in
-    write-whole _ _ _ (sym (c.broken-b.ensures.0 _ _ r)) c.if-b-ne0.false _ (c.is_class_a.ensures.0 _ _ r) c.if-not-is_class_a.false-raw _ c.text.ensures _ _ _ c.well_formed-2.ensures c.if-not-well_formed.false-raw
-    c.are_fit.ensures c.if-not-are_fit.false-raw c.if-buffer-text.false _ _ c.put_lines.ensures
+returns c = write-whole _ _ _ _ c.in_ok-check.ensures _ refl (sym c.ne.ensures ∙ c.if-ne.false) _ c.text.ensures c.if-buffer-text.false _ _ c.put_lines.ensures
