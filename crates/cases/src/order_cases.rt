@@ -1,4 +1,8 @@
 // Cases of orders and reports.
+ghost use Rattle.std.specs.Prelude.{◌≤◌, OnOk, length};
+ghost use Rattle.std.specs.Io.KnownBytes.{Appends};
+ghost use Rattle.report.specs.Report.{report_of};
+
 use crate::fields::Fields;
 use crate::written::{Broken, Refused, Rejected, write_text};
 use orders::complete::{Filled, Incomplete};
@@ -99,7 +103,9 @@ pub(crate) fn origins<W: Write>(input: &[u8], out: &mut W) -> Result<()> {
 }
 
 // The report of an input of the program budgetorder, with all its lines.
-pub(crate) fn report<W: Write>(input: &[u8], out: &mut W) -> Result<()> {
+pub(crate) fn report<W: Write>(input: &[u8], out: &mut W) -> Result<()>
+    ensures { length input.now ≤ 32768 → OnOk result (Appends (W.contents out.old) (W.contents out.new) (report_of input.now)) }
+{
     let mut buffer = [0; REPORT_SIZE];
     let size = report::report(input, &mut buffer);
     out.write_all(part(&buffer, 0, size))
