@@ -1,39 +1,35 @@
 // Reads messages from standard input and writes the report (document 01, "Writer and program"). Assumes the contracts of libc's read and write.
 #![tactic(auto)]
 
+ghost use Rattle.std.specs.Prelude.{◌≤◌, length};
+
 use report::{INPUT_SIZE, REPORT_SIZE, report};
-use texts::parts::part;
+use std::io::{Read, Write};
 
-// The numbers of the standard streams.
-const STDIN_FILENO: i32 = 0;
-
-const STDOUT_FILENO: i32 = 1;
-
-const STDERR_FILENO: i32 = 2;
-
-fn main() {
+fn main(rt: HostRuntime) {
     let mut input = [0u8; INPUT_SIZE];
-    let n = io::read_full(STDIN_FILENO, &mut input);
+    let count = read_full(&mut rt.stdin(), &mut input);
     let mut out = [0u8; REPORT_SIZE];
-    let k = report(part(&input, 0, n), &mut out);
-    if !io::write_all(STDOUT_FILENO, part(&out, 0, k)) {
-        io::write_all(
-            STDERR_FILENO,
-            b"budgetorder: the report could not be written\n",
-        );
+    let length = report(&input[..count], &mut out);
+    if rt.stdout().write_all(&out[..length]).is_err() {
+        let _ = eprintln!(rt; "budgetorder: the report could not be written");
     }
-    if n == INPUT_SIZE {
-        tell_unread();
+    // What follows is not read as messages.
+    if count == INPUT_SIZE && read_full(&mut rt.stdin(), &mut [0]) == 1 {
+        let _ = eprintln!(rt; "budgetorder: input past 32,768 bytes was not read");
     }
 }
 
-// Says on standard error that more input follows; none of it is read as messages.
-fn tell_unread() {
-    let mut next = [0u8; 1];
-    if io::read_full(STDIN_FILENO, &mut next) == 1 {
-        io::write_all(
-            STDERR_FILENO,
-            b"budgetorder: input past 32,768 bytes was not read\n",
-        );
+// Reads until the buffer is full, the input ends or a read fails, and answers how many bytes it read.
+fn read_full<R: Read>(reader: &mut R, buffer: &mut [u8]) -> usize
+    ensures { result ≤ length buffer.new }
+{
+    let mut count = 0;
+    while count < buffer.len() {
+        match reader.read(&mut buffer[count..]) {
+            Ok(0) | Err(_) => break,
+            Ok(n) => count += n,
+        }
     }
+    count
 }

@@ -1,18 +1,19 @@
 -- The ways through the end of the report, and the whole.
-use mathlib.Core.Path.{◌≡◌, refl, sym, ap, ◌∙◌, subst}
+use mathlib.Core.Path.{◌≡◌, refl, sym, ap, ◌∙◌}
 use mathlib.Core.Bool.{Bool, true, false, cond, ◌&&◌, and-false}
-use mathlib.Core.List.{List, [], ◌∷◌, ◌++◌, append_assoc}
+use mathlib.Core.List.{List, [], ◌∷◌, ◌++◌}
 use Prim.Native.Nat.{ℕ, suc, ◌+◌, ◌<◌, ◌≤◌}
 use native.Mathlib.Omega.{arith}
 use borrow.Author.Tests.{le-leb, lt-leb, leb-true}
 use lib.Dec.{leb}
 use lib.ListN.{length, take, length-append}
-use lib.Seq.{take_at}
+use Rattle.std.specs.Prelude.{Result, Ok, Err}
 use Rattle.texts.specs.Quoted.{Text, bytes}
 use Rattle.texts.specs.Buffers.{put}
 use Rattle.texts.specs.Working.Writing.{Wrote}
 use Rattle.texts.specs.Answers.{Answer, success, refusal}
-use Rattle.texts.proofs.Puts.{put-none, put-put, mid-put, wrote_as, wrote_then}
+use Rattle.texts.specs.Refusals.{refusal_number}
+use Rattle.texts.proofs.Puts.{put-none, mid-put}
 use Rattle.sheets.specs.Sheet.{slots}
 use Rattle.rules.specs.declared.rules.RuleNumber.{RuleNumber}
 use Rattle.sheets.specs.declared.sheet.Field.{Field}
@@ -20,74 +21,79 @@ use Rattle.drafts.specs.Draft.{fresh_draft, posting_of, posted_to}
 use Rattle.drafts.specs.History.{posted_all}
 use Rattle.drafts.specs.Promises.{Freshens}
 use Rattle.texts.specs.declared.answers.Refusal.{Refusal}
-use Rattle.drafts.specs.declared.draft.Begun.{Begun}
 use Rattle.sheets.specs.Dates.{program_dates}
 use Rattle.sheets.specs.declared.dates.Dates.{Dates}
 use Rattle.orders.specs.Complete.{completing, completed, complete_answer}
 use Rattle.orders.specs.Whole.{Completes}
-use Rattle.orders.specs.Requests.R7.{completing_before, completed_before}
 use Rattle.orders.proofs.Dated.{as-before-completed}
-use Rattle.orders.specs.declared.complete.Completed.{Completed}
-use Rattle.orders.specs.declared.complete.Completed.TheVariants.{Filled, Impossible, Broken, Refused}
-use Rattle.report.specs.Lines.{decimal, item, space, newline}
+use Rattle.orders.specs.declared.complete.Filled.{Filled}
+use Rattle.orders.specs.declared.complete.Incomplete.{Incomplete}
+use Rattle.orders.specs.declared.complete.Incomplete.TheVariants.{Impossible, Broken, Refused}
+use Rattle.report.specs.Lines.{decimal, item, line}
 use Rattle.orders.specs.Stream.{messages_of}
 use Rattle.report.specs.Report.{message_line, field_lines, end_lines, no_sheet, ending, report_from, report_of, reported}
 use Rattle.report.specs.Promises.{Reports}
 use Rattle.report.specs.Requests.R7.{report_from_before, report_before}
 use Rattle.report.specs.Working.Told.{Told}
-use Rattle.report.proofs.Writing.{number-as}
-use Rattle.report.proofs.Decimals.{decimal-is}
+use Rattle.report.specs.declared.lines.Page.{Page}
+use Rattle.report.specs.Working.Page.{Puts}
+use Rattle.report.proofs.Pages.{puts_as, puts_then, puts-length}
+use Rattle.report.proofs.Writing.{two-length, three-length, four-length}
+use Rattle.report.proofs.Decimals.{decimal-is, decimal-within}
 
--- complete_draft
-pub at-program : (D : Dates) (d b : List ℕ) (r : Completed) (t : List ℕ) → D ≡ program_dates → Completes D d b r t → Completes program_dates d b r t
-at-program D d b r t e C = subst (λ (E : Dates). Completes E d b r t) e C
+-- ---- the lines of the end, and how long they are
 
-module _ (d s b x : List ℕ) (at k : ℕ) (r : Completed) (C : Completes program_dates d no_sheet r s) (w : Wrote b at (item (bytes "end") space) k x) (kw : k ≡ at + 3 + 1) (l : at + 733 ≤ length b) (e : List ℕ) (q : ℕ) where
-  ended : (a : Completed) (t : Text) → r ≡ a → t ≡ end_lines (complete_answer a) s → q ≤ at + 733 → (q ≤ at + 733 → Wrote b at t q e) → Wrote b at (ending d) q e × (q ≤ at + 733)
-  unfolding ending
-  ended a t h g o v = (
-    wrote_as b e at q t (end_lines (completing program_dates d no_sheet) (completed program_dates d no_sheet))
-        (g ∙ (λ i. end_lines ((ap complete_answer (sym h) ∙ C.answer) i) (C.sheet i))) (v o),
-    o,
-  )
+pub ok-short : (n : ℕ) → length (line (bytes "end") (bytes "ok" ∷ decimal n ∷ [])) ≤ 28
+ok-short n = omega (arith, three-length (bytes "end") (bytes "ok") (decimal n), decimal-within n)
 
-  pub end-filled : (n set ones : ℕ) (y z : List ℕ) (j i : ℕ) → r ≡ Filled n set ones → Wrote x k (item (bytes "ok") space) j y × (j ≡ k + 2 + 1) → Wrote y j (item (decimal n) newline) i z × (i ≤ j + 21) → Wrote z i (field_lines s slots) q e × (q ≤ i + 705) → Wrote b at (ending d) q e × (q ≤ at + 733)
-  unfolding end_lines complete_answer
-  end-filled n set ones y z j i h (v, lv) (u, lu) (o, lo) =
-      let E = item (bytes "end") space in
-      let O = item (bytes "ok") space in
-      let N = item (decimal n) newline in
-      let a = wrote_then b x y at k j E O w v (omega arith) in
-      let c = wrote_then b y z at j i (E ++ O) N a u (omega arith) in
-      ended (Filled n set ones) (E ++ O ++ N ++ field_lines s slots) h (ap (λ (t : Text). t ++ field_lines s slots) (append_assoc E O N)) (omega arith)
-      (λ m. wrote_then b z e at i q (E ++ O ++ N) (field_lines s slots) c o (omega arith))
+pub refused-short : (n : ℕ) → length (line (bytes "end") (decimal n ∷ [])) ≤ 733
+refused-short n = omega (arith, two-length (bytes "end") (decimal n), decimal-within n)
 
-  pub end-impossible : (n : ℕ) (y : List ℕ) (j : ℕ) → r ≡ Impossible n → Wrote x k (item (decimal 10) space) j y × (j ≤ k + 21) → Wrote y j (item (decimal n) newline) q e × (q ≤ j + 21) → Wrote b at (ending d) q e × (q ≤ at + 733)
-  unfolding end_lines complete_answer
-  end-impossible n y j h (v, lv) (u, lu) =
-      let E = item (bytes "end") space in
-      let T = item (decimal 10) space in
-      let N = item (decimal n) newline in
-      ended (Impossible n) (E ++ T ++ N) h (append_assoc E T N) (omega arith)
-      (λ m. wrote_then b y e at j q (E ++ T) N (wrote_then b x y at k j E T w v (omega arith)) u (omega arith))
+pub impossible-short : (m n : ℕ) → length (line (bytes "end") (decimal m ∷ decimal n ∷ [])) ≤ 733
+impossible-short m n = omega (arith, three-length (bytes "end") (decimal m) (decimal n), decimal-within m, decimal-within n)
 
-  pub end-broken : (f : Field) (p : RuleNumber) (g m : ℕ) (y z : List ℕ) (j i : ℕ) → r ≡ Broken f p → g ≡ f.0 → m ≡ p.0 → Wrote x k (item (decimal 8) space) j y × (j ≤ k + 21) → Wrote y j (item (decimal g) space) i z × (i ≤ j + 21) → Wrote z i (item (decimal m) newline) q e × (q ≤ i + 21) → Wrote b at (ending d) q e × (q ≤ at + 733)
-  unfolding end_lines complete_answer
-  end-broken f p g m y z j i h hg hm (v, lv) (u, lu) (o, lo) =
-      let E = item (bytes "end") space in
-      let T = item (decimal 8) space in
-      let F = item (decimal f.0) space in
-      let N = item (decimal p.0) newline in
-      let a = wrote_then b x y at k j E T w v (omega arith) in
-      let c = wrote_then b y z at j i (E ++ T) F a (number-as y z j i g f.0 space hg u) (omega arith) in
-      ended (Broken f p) (E ++ T ++ F ++ N) h (append_assoc (E ++ T) F N ∙ append_assoc E T (F ++ N)) (omega arith)
-      (λ l'. wrote_then b z e at i q (E ++ T ++ F) N c (number-as z e i q m p.0 newline hm o) (omega arith))
+pub broken-short : (k m n : ℕ) → length (line (bytes "end") (decimal k ∷ decimal m ∷ decimal n ∷ [])) ≤ 733
+broken-short k m n = omega (arith, four-length (bytes "end") (decimal k) (decimal m) (decimal n), decimal-within k, decimal-within m, decimal-within n)
 
-  pub end_refused : (n : Refusal) (m : ℕ) → r ≡ Refused n → m ≡ n.0 → Wrote x k (item (decimal m) newline) q e × (q ≤ k + 21) → Wrote b at (ending d) q e × (q ≤ at + 733)
-  unfolding end_lines complete_answer
-  end_refused n m h hm (v, lv) =
-      ended (Refused n) (item (bytes "end") space ++ item (decimal n.0) newline) h refl (omega arith)
-      (λ l'. wrote_then b x e at k q (item (bytes "end") space) (item (decimal n.0) newline) w (number-as x e k q m n.0 newline hm v) (omega arith))
+module _ (p : Page) (l : p.len + 733 ≤ length p.buffer.now) where
+  pub end-room : (t : Text) → length t ≤ 733 → p.len + length t ≤ length p.buffer.now
+  end-room t h = omega arith
+
+  pub ok-line : (n : ℕ) → p.len + length (line (bytes "end") (bytes "ok" ∷ decimal n ∷ [])) ≤ length p.buffer.now
+  ok-line n = omega (arith, ok-short n)
+
+  module _ (x : Page) (n : ℕ) (w : Puts p (line (bytes "end") (bytes "ok" ∷ decimal n ∷ [])) x) where
+    pub ok-room : x.len + 705 ≤ length x.buffer.now
+    ok-room = omega (arith, w.wrote.1, ok-short n, puts-length p x _ w (omega (arith, w.wrote.1, ok-short n)))
+
+  -- completing the draft answered r and left the sheet s
+  module _ (d s : List ℕ) (r : Result Filled Incomplete) (C : Completes program_dates d no_sheet r s) (q : Page) where
+    ended : (t : Text) → t ≡ end_lines (complete_answer r) s → Puts p t q → length t ≤ 733 → Puts p (ending d) q × (q.len ≤ p.len + 733)
+    unfolding ending
+    ended t e w h = (
+      puts_as p q t (end_lines (completing program_dates d no_sheet) (completed program_dates d no_sheet)) (e ∙ rw (C.answer, C.sheet) refl) w,
+      omega (arith, w.wrote.1),
+    )
+
+    pub end-filled : (f : Filled) (n : ℕ) (x : Page) → r ≡ Ok f → n ≡ f.count → Puts p (line (bytes "end") (bytes "ok" ∷ decimal n ∷ [])) x → Puts x (field_lines s slots) q → q.len ≤ x.len + 705 → Puts p (ending d) q × (q.len ≤ p.len + 733)
+    unfolding end_lines complete_answer
+    end-filled f n x h hn w v k =
+        let t = line (bytes "end") (bytes "ok" ∷ decimal n ∷ []) in
+        ended (t ++ field_lines s slots) (rw (h, hn) refl) (puts_then p x q t (field_lines s slots) w v (omega (arith, w.wrote.1, ok-short n)))
+        (omega (arith, w.wrote.1, v.wrote.1, ok-short n, length-append t (field_lines s slots)))
+
+    module _ (e : Incomplete) (h : r ≡ Err e) where
+      pub end-impossible : (k n m : ℕ) → k ≡ 10 → e ≡ Impossible n → m ≡ n → Puts p (line (bytes "end") (decimal k ∷ decimal m ∷ [])) q → Puts p (ending d) q × (q.len ≤ p.len + 733)
+      unfolding end_lines complete_answer
+      end-impossible k n m hk he hm w = ended _ (rw (h, he, hk, hm) refl) w (impossible-short k m)
+
+      pub end-broken : (f : Field) (u : RuleNumber) (k m n : ℕ) → k ≡ 8 → e ≡ Broken f u → m ≡ f.0 → n ≡ u.0 → Puts p (line (bytes "end") (decimal k ∷ decimal m ∷ decimal n ∷ [])) q → Puts p (ending d) q × (q.len ≤ p.len + 733)
+      unfolding end_lines complete_answer
+      end-broken f u k m n hk he hm hn w = ended _ (rw (h, he, hk, hm, hn) refl) w (broken-short k m n)
+
+      pub end_refused : (n : Refusal) (m : ℕ) → e ≡ Refused n → m ≡ refusal_number n → Puts p (line (bytes "end") (decimal m ∷ [])) q → Puts p (ending d) q × (q.len ≤ p.len + 733)
+      unfolding end_lines complete_answer
+      end_refused n m he hm w = ended _ (rw (h, he, hm) refl) w (refused-short m)
 
 -- ---- R-7: the report is the one before
 
@@ -99,7 +105,7 @@ told-before D n d (m ∷ ms) = ap (λ (r : List ℕ). message_line n (posting_of
 -- ---- the whole
 
 -- a draft of 465 bytes made fresh
-pub fresh-is : (d : List ℕ) (r : Begun) (e : List ℕ) → Freshens d r e → length d ≡ 465 → e ≡ fresh_draft
+pub fresh-is : (d : List ℕ) (r : Result Unit Refusal) (e : List ℕ) → Freshens d r e → length d ≡ 465 → e ≡ fresh_draft
 unfolding posted_all
 fresh-is d r e F l = (F.start l).draft
 
@@ -160,10 +166,10 @@ module _ (i b : List ℕ) where
   unfolding reported
   report-small h = nothing (simp (lt-leb 46080 (length b) h, and-false (leb (length i) 32768)))
 
-  pub report-whole : (d x e : List ℕ) (at r : ℕ) → length i ≤ 32768 → 46080 ≤ length b → Told i b at d x → Wrote x at (ending d) r e → r ≤ length b → Reports i b r e
-  report-whole d x e at r h l T w u =
-      let v = wrote_then b x e 0 at r T.text (ending d) (T.buffer, T.count ∙ omega arith) w u in
+  pub report-whole : (d e : List ℕ) (p x q : Page) → length i ≤ 32768 → 46080 ≤ length b → p.buffer.now ≡ b → p.len ≡ 0 → Told i p d x → Puts x (ending d) q → q.len ≤ length b → e ≡ q.buffer.now → Reports i b q.len e
+  report-whole d e p x q h l eb z T w u ee =
+      let v : Puts p (T.text ++ ending d) q = puts_then p x q T.text (ending d) T.puts w (omega (arith, ap length eb)) in
       let g : T.text ++ ending d ≡ reported i b = T.rest ∙ sym (fitting h l) in
-      let o : Wrote b 0 (reported i b) r e = wrote_as b e 0 r (T.text ++ ending d) (reported i b) g v in
-      let n : length (reported i b) ≡ r = omega (arith, o.1) in
-      reports-by r e (sym n) o.0 (ap (take r) o.0 ∙ mid-put b 0 (reported i b) r n (omega arith))
+      let o : Wrote b 0 (reported i b) q.len e = (ee ∙ v.wrote.0 ∙ (λ k. put (eb k) (z k) (g k)), omega (arith, v.wrote.1, z, ap length g)) in
+      let n : length (reported i b) ≡ q.len = omega (arith, o.1) in
+      reports-by q.len e (sym n) o.0 (ap (take q.len) o.0 ∙ mid-put b 0 (reported i b) q.len n (omega arith))

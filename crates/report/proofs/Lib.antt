@@ -1,4 +1,5 @@
 pub mod Decimals
+pub mod Pages
 pub mod Writing
 pub mod Telling
 pub mod Ending

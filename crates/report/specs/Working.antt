@@ -1,2 +1,3 @@
 -- How the code works: a reader of the promises needs none of this.
+pub mod Page
 pub mod Told

@@ -1,74 +1,78 @@
 // The end of the report: the completion's answer and the sheet.
-ghost use Rattle.std.specs.Prelude.{◌≡◌, ◌+◌, ◌≤◌, length};
-ghost use Rattle.texts.specs.Working.Writing.{Wrote};
-ghost use Rattle.sheets.specs.Sheet.{slots};
+ghost use Rattle.std.specs.Prelude.{◌≡◌, ◌+◌, ◌≤◌, length, cond};
+ghost use Rattle.texts.specs.Quoted.{bytes};
+ghost use Rattle.texts.specs.Texts.{blank};
+ghost use Rattle.sheets.specs.Sheet.{slots, text_of};
 ghost use Rattle.sheets.specs.Dates.{program_dates};
 ghost use Rattle.orders.specs.Whole.{Completes};
-ghost use Rattle.report.specs.Report.{field_line, field_lines, ending};
+ghost use Rattle.report.specs.Report.{field_lines, ending};
+ghost use Rattle.report.specs.Working.Page.{Puts};
 
-use crate::lines::{put_item, put_number};
-use orders::complete::{Completed, complete};
+use crate::lines::{Item, Page, number_of};
+use orders::complete::{Filled, Incomplete, complete};
 use sheets::dates::program_dates;
 use sheets::sheet::{SHEET_SIZE, SLOT_COUNT, field_in, text};
-use texts::parts::wide;
+use texts::answers::Refusal;
 
-// "Field number, a space and the sheet's text", `-` for a blank.
-fn put_field(out: &mut [u8], at: usize, sheet: &[u8], slot: u8) -> usize
-    requires { at + 47 ≤ length out.old }
-    ensures { Wrote out.old at (field_line sheet.now slot) result out.new × (result ≤ at + 47) }
+// "For a blank 15 the text is `-`".
+fn shown(sheet: &[u8], slot: u8) -> &[u8]
+    ensures { result.now ≡ cond (blank (text_of sheet.now slot)) (bytes "-") (text_of sheet.now slot) }
 {
-    let next = put_number(out, at, wide(field_in(slot).0), b' ');
     let shown = text(sheet, slot);
-    if shown.len() == 0 {
-        return put_item(out, next, b"-", b'\n');
-    }
-    put_item(out, next, shown, b'\n')
+    if shown.is_empty() { b"-" } else { shown }
 }
 
-// "15 lines .. in slot order".
-fn put_fields(out: &mut [u8], at: usize, sheet: &[u8]) -> usize
-    requires { at + 705 ≤ length out.old }
-    ensures { Wrote out.old at (field_lines sheet.now slots) result out.new × (result ≤ at + 705) }
+// "15 lines .. in slot order": "field number, a space and the sheet's text".
+fn put_fields(page: &mut Page<'_>, sheet: &[u8])
+    requires { page.old.len + 705 ≤ length page.old.buffer.now }
+    ensures { Puts page.old (field_lines sheet.now slots) page.new × (page.new.len ≤ page.old.len + 705) }
 {
-    let mut next = at;
-    let mut slot: u8 = 0;
-    while slot < SLOT_COUNT {
-        next = put_field(out, next, sheet, slot);
-        slot += 1;
+    for slot in 0..SLOT_COUNT {
+        page.put_line(
+            Item::Number(usize::from(field_in(slot).0)),
+            &[Item::Word(shown(sheet, slot))],
+        );
     }
-    next
 }
 
 // At the program's dates (R-7).
-fn complete_draft(draft: &[u8], sheet: &mut [u8]) -> Completed
+fn complete_draft(draft: &[u8], sheet: &mut [u8]) -> Result<Filled, Incomplete>
     ensures { Completes program_dates draft.now sheet.old result sheet.new }
 {
     complete(draft, sheet, program_dates())
 }
 
 // "Then it completes the draft and prints the end".
-pub(crate) fn put_end(out: &mut [u8], at: usize, draft: &[u8]) -> usize
-    requires { at + 733 ≤ length out.old }
-    ensures { Wrote out.old at (ending draft.now) result out.new × (result ≤ at + 733) }
+pub(crate) fn put_end(page: &mut Page<'_>, draft: &[u8])
+    requires { page.old.len + 733 ≤ length page.old.buffer.now }
+    ensures { Puts page.old (ending draft.now) page.new × (page.new.len ≤ page.old.len + 733) }
 {
+    let end = Item::Word(b"end");
     let mut sheet = [0u8; SHEET_SIZE];
-    let answer = complete_draft(draft, &mut sheet);
-    let place = put_item(out, at, b"end", b' ');
-    match answer {
-        Completed::Filled { count, .. } => {
-            let second = put_item(out, place, b"ok", b' ');
-            let third = put_number(out, second, count, b'\n');
-            put_fields(out, third, &sheet)
+    match complete_draft(draft, &mut sheet) {
+        Ok(Filled { count, .. }) => {
+            page.put_line(end, &[Item::Word(b"ok"), Item::Number(count)]);
+            put_fields(page, &sheet);
         }
-        Completed::Impossible(count) => {
-            let second = put_number(out, place, 10, b' ');
-            put_number(out, second, count, b'\n')
+        Err(Incomplete::Impossible(count)) => {
+            page.put_line(
+                end,
+                &[
+                    Item::Number(number_of(Refusal::Impossible)),
+                    Item::Number(count),
+                ],
+            );
         }
-        Completed::Broken(field, rule) => {
-            let second = put_number(out, place, 8, b' ');
-            let third = put_number(out, second, wide(field.0), b' ');
-            put_number(out, third, wide(rule.0), b'\n')
+        Err(Incomplete::Broken(field, rule)) => page.put_line(
+            end,
+            &[
+                Item::Number(number_of(Refusal::BrokenRule)),
+                Item::Number(usize::from(field.0)),
+                Item::Number(usize::from(rule.0)),
+            ],
+        ),
+        Err(Incomplete::Refused(refusal)) => {
+            page.put_line(end, &[Item::Number(number_of(refusal))]);
         }
-        Completed::Refused(refusal) => put_number(out, place, wide(refusal.0), b'\n'),
     }
 }

@@ -8,6 +8,7 @@ mod lines;
 mod messages;
 
 use crate::end::put_end;
+use crate::lines::Page;
 use crate::messages::put_messages;
 use drafts::draft::{DRAFT_SIZE, fresh};
 
@@ -29,7 +30,9 @@ pub fn report(input: &[u8], out: &mut [u8]) -> usize
         return 0;
     }
     let mut draft = [0u8; DRAFT_SIZE];
-    fresh(&mut draft);
-    let at = put_messages(out, &mut draft, input);
-    put_end(out, at, &draft)
+    let _ = fresh(&mut draft);
+    let mut page = Page::new(out);
+    put_messages(&mut page, &mut draft, input);
+    put_end(&mut page, &draft);
+    page.len
 }

@@ -1,49 +1,69 @@
-// Items and numbers, written into a buffer one behind the other.
-ghost use Rattle.std.specs.Prelude.{◌≡◌, ◌+◌, ◌≤◌, length, drop};
-ghost use Rattle.texts.specs.Working.Writing.{Wrote};
-ghost use Rattle.report.specs.Lines.{decimal, item};
+// Lines of items, written into a lent buffer one behind the other.
+ghost use Rattle.std.specs.Prelude.{◌≡◌, ◌+◌, ◌<◌, ◌≤◌, length, map};
+ghost use Rattle.texts.specs.Refusals.{refusal_number};
+ghost use Rattle.report.specs.Lines.{line};
+ghost use Rattle.report.specs.Working.Page.{item_text, Puts};
 
+use texts::answers::Refusal;
 use texts::buffers::put;
-use texts::parts::part;
 
-// A number in decimal: its digits stand from place `from` on.
+// A word, or a number that is written in decimal.
 #[derive(Clone, Copy)]
-pub(crate) struct Decimal {
-    pub digits: [u8; 20],
-    pub from: usize,
+pub(crate) enum Item<'a> {
+    Word(&'a [u8]),
+    Number(usize),
 }
 
-pub(crate) fn decimal_of(n: usize) -> Decimal
-    ensures { (drop result.from result.digits ≡ decimal n) × (length result.digits ≡ 20) }
+pub(crate) fn number_of(refusal: Refusal) -> usize
+    ensures { (result ≡ refusal_number refusal) × (result < 256) }
 {
-    let mut digits = [0u8; 20];
-    let mut from = 20;
-    let mut rest = n;
-    while from > 0 {
-        from -= 1;
-        digits[from] = 48 + (rest % 10) as u8;
-        if rest < 10 {
-            return Decimal { digits, from };
-        }
-        rest /= 10;
+    usize::from(u8::from(refusal))
+}
+
+// What is written so far, at the start of a buffer.
+#[derive(Drop)]
+pub(crate) struct Page<'a> {
+    buffer: &'a mut [u8],
+    pub len: usize,
+}
+
+impl<'a> Page<'a> {
+    pub(crate) fn new(buffer: &'a mut [u8]) -> Page<'a>
+        ensures same { result.buffer.ghost_name ≡ buffer.entry.ghost_name }
+        ensures buffer { result.buffer.now ≡ buffer.old }
+        ensures len { result.len ≡ 0 }
+    {
+        Page { buffer, len: 0 }
     }
-    Decimal { digits, from }
-}
 
-// Writes an item and the byte after it from place `at` on, and answers the place behind them.
-pub(crate) fn put_item(out: &mut [u8], at: usize, text: &[u8], after: u8) -> usize
-    requires { at + length text.now + 1 ≤ length out.old }
-    ensures { Wrote out.old at (item text.now after) result out.new × (result ≡ at + length text.now + 1) }
-{
-    put(out, at, text);
-    put(out, at + text.len(), &[after]);
-    at + text.len() + 1
-}
+    fn put(&mut self, text: &[u8])
+        requires { self.old.len + length text.now ≤ length self.old.buffer.now }
+        ensures { Puts self.old text.now self.new }
+    {
+        put(self.buffer, self.len, text);
+        self.len += text.len();
+    }
 
-pub(crate) fn put_number(out: &mut [u8], at: usize, n: usize, after: u8) -> usize
-    requires { at + 21 ≤ length out.old }
-    ensures { Wrote out.old at (item (decimal n) after) result out.new × (result ≤ at + 21) }
-{
-    let d = decimal_of(n);
-    put_item(out, at, part(&d.digits, d.from, 20), after)
+    fn put_item(&mut self, item: Item<'_>)
+        requires { self.old.len + length (item_text item) ≤ length self.old.buffer.now }
+        ensures { Puts self.old (item_text item.entry) self.new }
+    {
+        match item {
+            Item::Word(text) => self.put(text),
+            Item::Number(n) => self.put(itoa::Buffer::new().format(n).as_bytes()),
+        }
+    }
+
+    // "Items on a line are parted by one space".
+    pub(crate) fn put_line(&mut self, first: Item<'_>, others: &[Item<'_>])
+        requires { self.old.len + length (line (item_text first) (map item_text others.now)) ≤ length self.old.buffer.now }
+        ensures { Puts self.old (line (item_text first.entry) (map item_text others.now)) self.new }
+    {
+        self.put_item(first);
+        for other in others {
+            self.put(b" ");
+            self.put_item(*other);
+        }
+        self.put(b"\n");
+    }
 }

@@ -1,14 +1,13 @@
 -- What is written before the end. A reader of the promise needs none of this.
-use Rattle.std.specs.Prelude.{◌≡◌, List, ◌++◌, ℕ, ◌≤◌, length}
+use Rattle.std.specs.Prelude.{◌≡◌, List, ◌++◌, ℕ, ◌≤◌}
 use Rattle.texts.specs.Quoted.{Text}
-use Rattle.texts.specs.Buffers.{put}
+use Rattle.report.specs.declared.lines.Page.{Page}
 use Rattle.report.specs.Report.{ending, report_of}
+use Rattle.report.specs.Working.Page.{Puts}
 
--- the lines of the messages of i were put at the start of a buffer that held b and now holds e, as far as place r; the draft
--- that the messages leave is d
-pub record Told (i b : List ℕ) (r : ℕ) (d e : List ℕ) : Type 0 where
+-- the lines of the messages of i were put on the page p, which left it as q; the draft that the messages leave is d
+pub record Told (i : List ℕ) (p : Page) (d : List ℕ) (q : Page) : Type 0 where
   pub text : Text
-  pub buffer : e ≡ put b 0 text
-  pub count : r ≡ length text
+  pub puts : Puts p text q
   pub rest : text ++ ending d ≡ report_of i
-  pub short : r ≤ 45067
+  pub short : q.len ≤ 45067

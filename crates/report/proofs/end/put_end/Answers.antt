@@ -1,24 +1,46 @@
-use Rattle.report.proofs.Ending.{end-filled, end-impossible, end-broken, end_refused}
+use mathlib.Core.Path.{refl, ap, ◌∙◌}
+use Rattle.texts.specs.Refusals.{refusal_number}
+use Rattle.sheets.specs.declared.sheet.Field.{Field}
+use Rattle.rules.specs.declared.rules.RuleNumber.{RuleNumber}
+use Rattle.report.proofs.Ending.{refused-short, impossible-short, broken-short, end-room, ok-line, ok-room, end-filled, end-impossible, end-broken, end_refused}
 use Rattle.report.proofs.end.put_end.Goals as goal
 
--- Each answer of the completion.
-pub returns-in-Filled : goal.returns-in-Filled
-returns-in-Filled c =
-    end-filled _ _ _ _ _ _ _ c.complete_draft-answer.ensures c.put_item-place.ensures.0 c.put_item-place.ensures.1 c.requires _ _ _ _ _ _ _ _ _
-    c.in-Filled.is c.put_item-second.ensures c.put_number-third.ensures c.put_fields.ensures
+pub put_line-requires : goal.put_line-requires
+put_line-requires c = ok-line c.args.page.now c.requires _
 
-pub returns-in-Impossible : goal.returns-in-Impossible
-returns-in-Impossible c =
-    end-impossible _ _ _ _ _ _ _ c.complete_draft-answer.ensures c.put_item-place.ensures.0 c.put_item-place.ensures.1 c.requires _ _ _ _ _
-    c.in-Impossible.is c.put_number-second.ensures c.put_number.ensures
+pub put_fields-requires : goal.put_fields-requires
+put_fields-requires c = ok-room c.args.page.now c.requires _ _ c.put_line.ensures
 
-pub returns-in-Broken : goal.returns-in-Broken
-returns-in-Broken c =
-    end-broken _ _ _ _ _ _ _ c.complete_draft-answer.ensures c.put_item-place.ensures.0 c.put_item-place.ensures.1 c.requires _ _ _ _ _ _ _ _ _ _
-    c.in-Broken.is c.wide.ensures c.wide-in-Broken.ensures
-    c.put_number-second-in-Broken.ensures c.put_number-third-in-Broken.ensures c.put_number-in-Broken.ensures
+pub put_line-requires-in-Err-Impossible : goal.put_line-requires-in-Err-Impossible
+put_line-requires-in-Err-Impossible c = end-room c.args.page.now c.requires _ (impossible-short _ _)
 
-pub returns-in-Refused : goal.returns-in-Refused
-returns-in-Refused c =
-    end_refused _ _ _ _ _ _ _ c.complete_draft-answer.ensures c.put_item-place.ensures.0 c.put_item-place.ensures.1 c.requires _ _ _ _
-    c.in-Refused.is c.wide-in-Refused.ensures c.put_number-in-Refused.ensures
+pub put_line-requires-in-Err-Broken : goal.put_line-requires-in-Err-Broken
+put_line-requires-in-Err-Broken c = end-room c.args.page.now c.requires _ (broken-short _ _ _)
+
+pub put_line-requires-in-Err-Refused : goal.put_line-requires-in-Err-Refused
+put_line-requires-in-Err-Refused c = end-room c.args.page.now c.requires _ (refused-short _)
+
+pub returns-in-Ok : goal.returns-in-Ok
+returns-in-Ok c =
+    let w = c.put_fields.ensures in end-filled c.args.page.now c.requires _ _ _ c.complete_draft.ensures _ _ _ _ c.in-Ok.is refl c.put_line.ensures w.0 w.1
+
+pub returns-in-Err-Impossible : goal.returns-in-Err-Impossible
+returns-in-Err-Impossible c =
+    let i = c.in-Err-Impossible in
+    end-impossible c.args.page.now c.requires _ _ _ c.complete_draft.ensures _ _ i.is _ _ _ c.number_of.ensures.0 i.field-0-is i.count-is
+    c.put_line-in-Err-Impossible.ensures
+
+pub returns-in-Err-Broken : goal.returns-in-Err-Broken
+returns-in-Err-Broken c =
+    let i = c.in-Err-Broken in
+    end-broken c.args.page.now c.requires _ _ _ c.complete_draft.ensures _ _ i.is _ _ _ _ _ c.number_of-in-Err-Broken.ensures.0 i.field-0-is
+    (c.from.ensures ∙ ap (λ (f : Field). f.0) i.field-is)
+    (c.from-in-Err-Broken.ensures ∙ ap (λ (u : RuleNumber). u.0) i.rule-is)
+    c.put_line-in-Err-Broken.ensures
+
+pub returns-in-Err-Refused : goal.returns-in-Err-Refused
+returns-in-Err-Refused c =
+    let i = c.in-Err-Refused in
+    end_refused c.args.page.now c.requires _ _ _ c.complete_draft.ensures _ _ i.is _ _ i.field-0-is
+    (c.number_of-in-Err-Refused.ensures.0 ∙ ap refusal_number i.refusal-is)
+    c.put_line-in-Err-Refused.ensures

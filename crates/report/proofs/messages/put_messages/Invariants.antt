@@ -1,15 +1,9 @@
-use mathlib.Core.Path.{◌≡◌}
-use Prim.Native.Nat.{◌+◌, ◌-◌, ◌*◌, ◌≤◌}
-use lib.ListN.{length}
+use Rattle.orders.specs.Working.Messages.{messages_left}
 use Rattle.report.proofs.Telling.{Telling}
 use Rattle.report.proofs.messages.put_messages.Given as goal
 
--- The messages before a place are told, and those from there on are left.
--- eight bytes make a line of eleven at most
-abbrev pub invariant-loop-from : goal.invariant-loop-from
-invariant-loop-from l =
-    (l.from ≤ length l.input) × (8 * l.at ≤ 11 * l.from) × (8 * l.number ≤ l.from + 8) × (length l.out ≡ length l.initial.out) × (length l.draft ≡ length l.initial.draft)
-    × Telling l.input l.initial.out l.from l.number l.at l.draft l.out
-
-abbrev pub decreases-loop-from : goal.decreases-loop-from
-decreases-loop-from l = length l.input - l.from
+-- The messages that were given are told.
+abbrev pub invariant-loop-index : goal.invariant-loop-index
+invariant-loop-index l =
+    goal.iterator-loop-index.can_next l.index-iterator × goal.iterator-loop-index.is_finite l.index-iterator
+    × Telling l.input l.fn.page l.index-iterator.count (messages_left l.index-iterator.iter) l.draft l.page
