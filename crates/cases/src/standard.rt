@@ -1,0 +1,43 @@
+// The standard input and output.
+ghost use Rattle.std.specs.Prelude.{◌≡◌, ◌≤◌, length};
+
+use std::io::{Error, ErrorKind, Result, Write};
+
+// The numbers of the streams.
+const STDIN_FILENO: i32 = 0;
+
+const STDOUT_FILENO: i32 = 1;
+
+// Zeros for the input, which a literal array of that length would be too long for. What is promised is their number alone, which is all that
+// a program asks.
+pub fn zeros<const N: usize>() -> [u8; N]
+    ensures { length result ≡ N }
+{
+    [0; N]
+}
+
+// The standard input, as far as the buffer holds it.
+pub fn read_input(buffer: &mut [u8]) -> &[u8]
+    ensures { length result.now ≤ length buffer.old }
+{
+    let size = io::read_full(STDIN_FILENO, buffer);
+    &buffer[..size]
+}
+
+// The standard output, as a writer.
+#[derive(Drop)]
+pub struct Output;
+
+impl Write for Output {
+    fn write(&mut self, bytes: &[u8]) -> Result<usize> {
+        if io::write_all(STDOUT_FILENO, bytes) {
+            Ok(bytes.len())
+        } else {
+            Err(Error::from(ErrorKind::WriteZero))
+        }
+    }
+
+    fn flush(&mut self) -> Result<()> {
+        Ok(())
+    }
+}
