@@ -45,8 +45,12 @@ unfolding check_digit
 check-digit-is ws t u b v k s eu eb ev ek es = cc
 
 -- is_inn10, is_inn12: where the digits are right
-pub inn-told : (a b c d : Bool) → b ≡ a → b ≡ true → d ≡ c → d ≡ (a && c)
-inn-told a b c d e h f = rw (sym e ∙ h) f
+module _ (a b : Bool) (e : b ≡ a) (h : b ≡ true) where
+  pub inn10-told : (c x : Bool) → x ≡ c → x ≡ (a && c)
+  inn10-told c x f = rw (sym e ∙ h) f
+
+  pub inn12-told : (c d x y : Bool) → x ≡ c → y ≡ d → (x && y) ≡ (a && (c && d))
+  inn12-told c d x y f g = rw (sym e ∙ h, f, g)
 
 -- snils_check
 pub two_digits : (s : ℕ) → s % 101 % 100 ≡ cond (eqb (s % 101) 100) 0 (s % 101)

@@ -81,13 +81,15 @@ fn has_check_digit(t: &[u8], weights: &[u8]) -> bool
 pub fn is_inn10(t: &[u8]) -> bool
     ensures { result ≡ inn10 t.now }
 {
-    has_digits_not_00(t, 10) && has_check_digit(t, &WEIGHTS_10)
+    let plain = has_digits_not_00(t, 10);
+    plain && has_check_digit(t, &WEIGHTS_10)
 }
 
 pub fn is_inn12(t: &[u8]) -> bool
     ensures { result ≡ inn12 t.now }
 {
-    has_digits_not_00(t, 12) && (has_check_digit(t, &WEIGHTS_11) & has_check_digit(t, &WEIGHTS_12))
+    let plain = has_digits_not_00(t, 12);
+    plain && (has_check_digit(t, &WEIGHTS_11) & has_check_digit(t, &WEIGHTS_12))
 }
 
 fn is_digit_or_capital(b: u8) -> bool

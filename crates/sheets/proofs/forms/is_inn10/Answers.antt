@@ -1,7 +1,8 @@
+use borrow.Author.Rules.{rules}
 use Rattle.texts.specs.Texts.{between}
-use Rattle.sheets.proofs.Ways.{inn-told}
+use Rattle.sheets.proofs.Ways.{inn10-told}
 use Rattle.sheets.proofs.forms.is_inn10.Goals as goal
 
-pub returns-then-has_digits_not_00 : goal.returns-then-has_digits_not_00
+pub returns-then-plain : goal.returns-then-plain
 unfolding between
-returns-then-has_digits_not_00 c = inn-told _ _ _ _ c.has_digits_not_00.ensures c.if-has_digits_not_00.true c.has_check_digit.ensures
+returns-then-plain c = search (rules, inn10-told)
