@@ -71,7 +71,7 @@ cells-put (u ∷ us) (suc k) t h l s =
     ∙ append_assoc (cell u) (A ++ cell t) B
     ∙ ap (λ (x : List ℕ). cell u ++ x) (cells-put us k t q.1 (omega arith) s)
 
--- ---- cell_of, put_part
+-- ---- cell_of, put_text
 
 pub cell-made : (t y : List ℕ) → length t ≤ text_max → y ≡ put_at (length t ∷ replicate text_max 0) 1 t → y ≡ cell t
 unfolding cell put
@@ -89,9 +89,6 @@ between-long b o n = omega (arith, length-take (n - o) (drop o b))
 
 pub part-short : (b t : Text) (a e : ℕ) → e ≤ a + text_max → t ≡ between b a e → length t ≤ text_max
 part-short b t a e h p = omega (arith, ap length p, between-long b a e)
-
-pub part-put : (s e c b t : List ℕ) (k w a z : ℕ) → t ≡ between b a z → c ≡ cell t → w ≡ k → e ≡ put_at s (w * cell_size) c → e ≡ put_at s (k * cell_size) (cell (between b a z))
-part-put s e c b t k w a z o p q r = cc
 
 -- ---- put_bank_texts, put_payee_texts: a sheet of fifteen short texts
 
