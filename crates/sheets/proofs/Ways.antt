@@ -52,6 +52,14 @@ module _ (a b : Bool) (e : b ≡ a) (h : b ≡ true) where
   pub inn12-told : (c d x y : Bool) → x ≡ c → y ≡ d → (x && y) ≡ (a && (c && d))
   inn12-told c d x y f g = rw (sym e ∙ h, f, g)
 
+-- the same, said of either answer of the first test
+module _ (a b : Bool) (e : b ≡ a) where
+  pub inn-other : (c : Bool) → not b ≡ true → false ≡ (a && c)
+  inn-other c h = cc (not-true b h)
+
+  pub inn-these : (c d : Bool) → not b ≡ false → d ≡ c → d ≡ (a && c)
+  inn-these c d h f = cc (not-false b h)
+
 -- snils_check
 pub two_digits : (s : ℕ) → s % 101 % 100 ≡ cond (eqb (s % 101) 100) 0 (s % 101)
 two_digits s =
