@@ -1,5 +1,5 @@
 -- The ways through the end of the report, and the whole.
-use mathlib.Core.Path.{◌≡◌, refl, sym, ap, ◌∙◌}
+use mathlib.Core.Path.{◌≡◌, refl, sym, ap, ◌∙◌, subst}
 use mathlib.Core.Bool.{Bool, true, false, cond, ◌&&◌, and-false}
 use mathlib.Core.List.{List, [], ◌∷◌, ◌++◌}
 use Prim.Native.Nat.{ℕ, suc, ◌+◌, ◌<◌, ◌≤◌}
@@ -40,6 +40,10 @@ use Rattle.report.specs.Working.Page.{Puts}
 use Rattle.report.proofs.Pages.{puts_as, puts_then, puts-length}
 use Rattle.report.proofs.Writing.{two-length, three-length, four-length}
 use Rattle.report.proofs.Decimals.{decimal-is, decimal-within}
+
+-- at the program's dates (R-7)
+pub at-program : (D : Dates) (d b : List ℕ) (r : Result Filled Incomplete) (t : List ℕ) → D ≡ program_dates → Completes D d b r t → Completes program_dates d b r t
+at-program D d b r t e C = subst (λ (E : Dates). Completes E d b r t) e C
 
 -- ---- the lines of the end, and how long they are
 
