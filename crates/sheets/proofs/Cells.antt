@@ -1,17 +1,15 @@
 -- Cells at equal distances, tested one after another.
 use Rattle.std.specs.List.{list_all, range_with_len}
 use mathlib.Core.Path.{◌≡◌, refl, ap, ◌∙◌}
-use mathlib.Core.Bool.{Bool, true, false, ◌&&◌, and-true, and-false, and_assoc}
+use mathlib.Core.Bool.{Bool, true, false, ◌&&◌}
 use mathlib.Core.List.{List}
 use Prim.Native.Nat.{ℕ, zero, suc, ◌+◌, ◌-◌, ◌*◌, ◌<◌, ◌≤◌}
 use native.Mathlib.Omega.{arith}
-use borrow.Author.Rules.{rules}
-use borrow.Author.Tests.{le-leb, lt-leb, eq-eqb, ne_eqb, eqb-true}
-use lib.Dec.{leb, eqb}
+use borrow.Author.Tests.{le-leb, lt-leb}
 use lib.ListN.{length, take, drop}
 use Rattle.texts.specs.Texts.{between, every}
-use Rattle.texts.proofs.Bools.{both, and2, alike}
-use Rattle.sheets.specs.Sheet.{slot_count, slots, cell_size, cell_ok, cell_of, slot_ok, sheet_size, well_formed}
+use Rattle.texts.proofs.Bools.{both, and2}
+use Rattle.sheets.specs.Sheet.{slot_count, cell_size, cell_ok, cell_of, slot_ok, sheet_size, well_formed}
 use Rattle.sheets.specs.Working.Cells.{cell_at, cells_at}
 
 -- a cell of the loop

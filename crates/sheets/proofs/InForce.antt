@@ -2,23 +2,23 @@
 -- it, how many they are, and where each stands among all.
 use mathlib.Core.Path.{◌≡◌, refl, ap, sym, ◌∙◌}
 use mathlib.Core.Logic.{◌↔◌}
-use mathlib.Core.Bool.{Bool, true, false, not, cond, ◌&&◌, ◌||◌, or-true, false≢true}
+use mathlib.Core.Bool.{Bool, true, false, cond, ◌&&◌, ◌||◌, or-true, false≢true}
 use mathlib.Core.List.{List, [], ◌∷◌, map}
 use Prim.Native.Nat.{ℕ, zero, suc, ◌+◌, ◌*◌, ◌/◌, ◌%◌, ◌≤◌, ◌<◌}
 use native.Mathlib.Omega.{arith}
 use borrow.Author.Tests.{leb-true, le-leb}
-use lib.Dec.{eqb, leb, ltb}
+use lib.Dec.{eqb, leb}
 use lib.ListN.{length, get_or}
 use Rattle.std.specs.Int.{from_bool}
 use Rattle.texts.specs.Quoted.{Text, bytes, words}
-use Rattle.texts.specs.Texts.{every, any, are, among, same, value_of, value, number, ◌is◌, ◌is_one_of◌}
+use Rattle.texts.specs.Texts.{every, any, among, same, value_of, value, number, ◌is◌, ◌is_one_of◌}
 use Rattle.texts.proofs.Bools.{both, and2}
 use Rattle.texts.proofs.Codes.{same_true, same_self, is_number, is-one-of}
 use Rattle.sheets.specs.Forms.{◌⇒◌, leap, month_days, gregorian}
 use Rattle.sheets.specs.Lists.{statuses}
 use Rattle.sheets.specs.Working.Facts.{numbers_of, allowed_by}
 use Rattle.sheets.specs.Dates.{day_number, dates_fit, Day, Dated, force_of, allowed_in, those, texts_in, listed, ascends, InForce}
-use Rattle.sheets.specs.Working.Entries.{past02, place_in, count_in}
+use Rattle.sheets.specs.Working.Entries.{place_in, count_in}
 use Rattle.sheets.specs.declared.dates.Dates.{Dates}
 use Rattle.sheets.specs.declared.dates.Force.{Force}
 

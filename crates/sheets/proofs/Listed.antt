@@ -12,12 +12,12 @@ use lib.ListN.{length, get_or, get_or-append, get_or-eq_default}
 use lib.Seq.{get_or-append-add}
 use Rattle.std.specs.Int.{from_bool}
 use Rattle.texts.specs.Quoted.{Text, words}
-use Rattle.texts.specs.Texts.{every, any, are, among, same, between, value_of, value, number, ◌is_one_of◌}
+use Rattle.texts.specs.Texts.{every, any, same, between, value_of, value, number, ◌is_one_of◌}
 use Rattle.sheets.specs.Forms.{person, document, pension, date}
 use Rattle.sheets.specs.Lists.{statuses, letter_pairs, basis_texts, zero_texts}
 use Rattle.sheets.specs.Working.Entries.{basis_count, zero_count, row_of, place_in, count_in, status_at}
 use Rattle.sheets.specs.Working.Facts.{numbers_of, standing_by, standing_of, basis_of, document_of, day_of, facts_by, Read}
-use Rattle.sheets.specs.Dates.{listed, force_of, texts_in, status_texts, status_count}
+use Rattle.sheets.specs.Dates.{force_of, texts_in, status_texts, status_count}
 use Rattle.sheets.specs.Sheet.{Sheet}
 use Rattle.sheets.specs.declared.dates.Dates.{Dates}
 use Rattle.sheets.specs.declared.facts.Facts.{Facts}

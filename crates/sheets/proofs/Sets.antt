@@ -1,6 +1,6 @@
 -- Sets of numbers below 64 as bits: that a bit is set exactly if the number is one of a list is one computation.
 use mathlib.Core.Path.{◌≡◌, refl, ap, sym, ◌∙◌}
-use mathlib.Core.Bool.{Bool, true, false, ◌&&◌, ◌||◌, or-false}
+use mathlib.Core.Bool.{Bool, true, false, ◌||◌, or-false}
 use mathlib.Core.List.{List, [], ◌∷◌, map}
 use Prim.Native.Nat.{ℕ, zero, suc, ◌+◌, ◌-◌, ◌/◌, ◌%◌, ◌^◌, ◌≤◌, ◌<◌}
 use native.Mathlib.Decide.{dec_lt, ℕ_discrete}
@@ -12,7 +12,6 @@ use Rattle.texts.specs.Texts.{every, any, are, among, value_of, value, number}
 use Rattle.texts.proofs.Bools.{both}
 use Rattle.sheets.specs.Lists.{accounts_a, statuses, customs_group, treasury_group, courts_group, personal_group}
 use Rattle.sheets.specs.Working.Facts.{numbers_of, in_set, groups_by}
-use Rattle.sheets.specs.declared.facts.Groups.{Groups}
 
 -- n numbers from i on
 abbrev up_from : ℕ → ℕ → List ℕ

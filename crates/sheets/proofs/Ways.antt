@@ -1,21 +1,21 @@
 -- What the ways through the functions come to: facts of plain values, of which `search` finds the premises.
 use mathlib.Core.Path.{◌≡◌, refl, ap, sym, ◌∙◌}
-use mathlib.Core.Bool.{Bool, true, false, not, cond, ◌&&◌, ◌||◌, and_comm, and_assoc, and-true, and-false}
+use mathlib.Core.Bool.{Bool, true, false, not, cond, ◌&&◌, ◌||◌, and_comm, and_assoc, and-true}
 use mathlib.Core.List.{List, [], ◌∷◌}
 use mathlib.Core.Logic.{inl, inr}
-use Prim.Native.Nat.{ℕ, ◌-◌, ◌/◌, ◌%◌, ◌≤◌, ◌<◌}
+use Prim.Native.Nat.{ℕ, ◌/◌, ◌%◌, ◌≤◌, ◌<◌}
 use native.Mathlib.Decide.{ℕ_discrete, dec_lt}
 use native.Mathlib.Omega.{arith}
 use borrow.Author.Tests.{eqb-true, eq-eqb, ne_eqb, lt-ltb, le-ltb, le-leb, lt-leb, not-true, not-false}
 use lib.Dec.{eqb, leb, ltb}
 use lib.ListN.{length, get_or, replicate}
 use Rattle.texts.specs.Quoted.{Text}
-use Rattle.texts.specs.Texts.{every, any, are, among, between, same, starts_with, digits, value_of, value, number, weighted, ◌is◌, ◌is_one_of◌, ◌begins◌}
+use Rattle.texts.specs.Texts.{every, any, are, among, between, same, starts_with, digits, value_of, value, number, weighted, ◌is_one_of◌, ◌begins◌}
 use Rattle.texts.proofs.Bools.{both}
 use Rattle.texts.proofs.Codes.{same_true, is-one-of}
 use Rattle.texts.proofs.Arms.{AnyOf, arm, outside}
 use Rattle.sheets.specs.Sheet.{sheet_size, text_of}
-use Rattle.sheets.specs.Forms.{weights10, check_digit, inn10, digits10, digit_or_capital, kpp, person, document, snils_bound, snils_check, snils, pension, leap, month_days, gregorian, date}
+use Rattle.sheets.specs.Forms.{weights10, check_digit, inn10, digits10, digit_or_capital, kpp, person, snils_bound, snils_check, snils, pension, leap, month_days, gregorian, date}
 use Rattle.sheets.specs.Lists.{customs_group, treasury_group, courts_group, personal_group, banks_b, person_types, zero_texts}
 use Rattle.sheets.specs.Working.Facts.{numbers_of, is_b, in_set, allowed_by, groups_by, groups_of, standing_by, standing_of, wanted_by, basis_of, document_of, day_of, facts_by, facts_of, facts_in, Read}
 use Rattle.sheets.specs.declared.forms.Wanted.TheVariants.{Any, Ten}

@@ -5,11 +5,9 @@ use mathlib.Core.List.{List, [], ◌∷◌}
 use Prim.Native.Nat.{ℕ, zero, suc, ◌+◌, ◌-◌, ◌*◌, ◌≤◌}
 use native.Mathlib.Nat.{zero-add, suc-add}
 use native.Mathlib.Omega.{arith}
-use lib.Dec.{eqb}
-use lib.ListN.{length, get_or, take, drop}
+use lib.ListN.{take, drop}
 use lib.Seq.{take-nil, drop-drop}
 use Rattle.texts.specs.Texts.{between, every, are}
-use Rattle.texts.proofs.Loops.{are-more, every-kept}
 
 twice : (x a b : Bool) → ((x && a) && (x && b)) ≡ (x && (a && b))
 twice true a b = refl

@@ -150,47 +150,39 @@ pub fn blank_day(f: Facts) -> bool
 pub fn fill_status(f: Facts, k: usize) -> Facts
     ensures { ((D : Dates) (s : Sheet) → Read D f s → Read D result (filled_at s 6 (cell (get_or (status_texts D) k [])))) × (result ≡ with_status f f k) }
 {
-    Facts {
-        status: if f.status.blank {
-            status_entry(f.force, k)
-        } else {
-            f.status
-        },
-        ..f
-    }
+    let status = if f.status.blank {
+        status_entry(f.force, k)
+    } else {
+        f.status
+    };
+    Facts { status, ..f }
 }
 
 pub fn fill_basis(g: Facts, f: Facts, k: usize) -> Facts
     ensures { FillsSlot g f 11 basis_texts k result × (result ≡ with_basis g f k) }
 {
-    Facts {
-        basis: if f.basis.blank {
-            basis_entry(k)
-        } else {
-            f.basis
-        },
-        ..g
-    }
+    let basis = if f.basis.blank {
+        basis_entry(k)
+    } else {
+        f.basis
+    };
+    Facts { basis, ..g }
 }
 
 pub fn fill_document(g: Facts, f: Facts, k: usize) -> Facts
     ensures { FillsSlot g f 13 zero_texts k result × (result ≡ with_document g f k) }
 {
-    Facts {
-        document: if f.document.blank {
-            document_entry(k)
-        } else {
-            f.document
-        },
-        ..g
-    }
+    let document = if f.document.blank {
+        document_entry(k)
+    } else {
+        f.document
+    };
+    Facts { document, ..g }
 }
 
 pub fn fill_day(g: Facts, f: Facts, k: usize) -> Facts
     ensures { FillsSlot g f 14 zero_texts k result × (result ≡ with_day g f k) }
 {
-    Facts {
-        day: if f.day.blank { day_entry(k) } else { f.day },
-        ..g
-    }
+    let day = if f.day.blank { day_entry(k) } else { f.day };
+    Facts { day, ..g }
 }

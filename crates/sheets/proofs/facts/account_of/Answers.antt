@@ -1,6 +1,6 @@
 use mathlib.Core.Path.{refl}
 use native.Mathlib.Omega.{arith}
-use Rattle.texts.specs.Texts.{every, between, ◌is◌, ◌begins◌, value_of, value, number}
+use Rattle.texts.specs.Texts.{every, between, value_of, value, number}
 use Rattle.texts.proofs.Codes.{is-one-of, begins-one-of, begins-this}
 use Rattle.sheets.specs.Lists.{accounts_a, banks_b, account_b, accounts_b, account03100, account03212}
 use Rattle.sheets.specs.Working.Facts.{account_of, is_a, is_b}

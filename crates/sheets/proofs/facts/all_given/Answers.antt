@@ -1,9 +1,8 @@
-use Rattle.std.proofs.Common.{rules, tests, ℕ, ◌∙◌, not}
+use Rattle.std.proofs.Common.{rules, tests, ◌∙◌}
 use Rattle.std.proofs.lemmas.Iterator.{YieldsList-from_slice}
 use Rattle.std.proofs.lemmas.Iterator.Search.{all_from_yields_List}
-use Rattle.texts.specs.Texts.{blank}
 use Rattle.texts.proofs.Std.{every-list_all}
-use Rattle.sheets.specs.Sheet.{text_of, given}
+use Rattle.sheets.specs.Sheet.{given}
 use Rattle.sheets.specs.Working.Facts.{fixed}
 use Rattle.sheets.proofs.facts.all_given.Goals as goal
 

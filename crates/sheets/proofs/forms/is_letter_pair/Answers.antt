@@ -2,7 +2,7 @@ use Rattle.std.proofs.Common.{rules, tests, ◌≡◌, List, [], ◌∷◌, refl
 use Rattle.std.specs.List.{list_any}
 use Rattle.std.proofs.lemmas.Iterator.{YieldsList-from_slice}
 use Rattle.std.proofs.lemmas.Iterator.Search.{any_from_yields_List}
-use Rattle.texts.specs.Quoted.{Text, words}
+use Rattle.texts.specs.Quoted.{words}
 use Rattle.texts.specs.Texts.{any, same, ◌is_one_of◌}
 use Rattle.sheets.specs.Lists.{letter_pairs}
 use Rattle.sheets.proofs.forms.is_letter_pair.Goals as goal

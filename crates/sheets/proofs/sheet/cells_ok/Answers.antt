@@ -1,9 +1,9 @@
-use Rattle.std.proofs.Common.{rules, tests, ◌+◌, ℕ, ◌*◌, refl, ap, ◌∙◌, arith}
+use Rattle.std.proofs.Common.{rules, tests, ◌+◌, ℕ, ◌*◌, refl, ◌∙◌}
 use Rattle.std.proofs.lemmas.Iterator.{YieldsList-from_range}
 use Rattle.std.proofs.lemmas.Iterator.Search.{all_from_yields_List}
 use Rattle.sheets.proofs.Cells.{cell-inside, cell-past, cells-all}
 use Rattle.sheets.specs.Sheet.{slot_count}
-use Rattle.sheets.specs.Working.Cells.{cell_at, cells_at}
+use Rattle.sheets.specs.Working.Cells.{cell_at}
 use Rattle.sheets.proofs.sheet.cells_ok.Goals as goal
 
 pub returns : goal.returns
