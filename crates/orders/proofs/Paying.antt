@@ -1,8 +1,6 @@
 -- Whether a sheet is a budget payment, as the code finds it.
 use mathlib.Core.Path.{◌≡◌, refl, sym, ap, ◌∙◌}
 use mathlib.Core.Bool.{Bool, true, false, not, true≢false}
-use mathlib.Core.List.{List}
-use Prim.Native.Nat.{ℕ}
 use borrow.Author.Tests.{eq-eqb}
 use lib.ListN.{length}
 use Rattle.texts.specs.declared.answers.Refusal.TheVariants.{NotBudget}

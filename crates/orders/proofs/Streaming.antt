@@ -13,7 +13,6 @@ use lib.ListN.{length, get_or, take, drop, length-take, length-drop}
 use lib.Seq.{take_all}
 use Rattle.texts.specs.Numbers.{big}
 use Rattle.texts.specs.Texts.{between}
-use Rattle.sheets.specs.declared.sheet.Field.{Field}
 use Rattle.texts.specs.Answers.{refusal, number_of, Test, test, answer_by}
 use Rattle.texts.proofs.Bools.{cases}
 use Rattle.drafts.specs.Message.{length_of, read_tests, reading_of}
@@ -23,7 +22,6 @@ use Rattle.texts.specs.Refusals.{refusal_number}
 use Rattle.texts.specs.declared.answers.Refusal.TheVariants.{Malformed, BadLength, UnknownVersion, UnknownField, NoRevision, Clash, WrongSize, BrokenRule, NotBudget, Impossible, NotLines, Undated, UnknownParty, BadCharge, BadPart, BadRegister, Differs, BadPayments, SameArrivals, Unfit}
 use Rattle.drafts.specs.declared.message.Heading.{Heading}
 use Rattle.drafts.specs.Promises.{Reads, Postings}
-use Rattle.drafts.specs.declared.revision.Revision.{Revision}
 use Rattle.texts.specs.declared.answers.Refusal.{Refusal}
 use Rattle.sheets.specs.declared.dates.Dates.{Dates}
 use Rattle.orders.specs.Complete.{completing, completed, complete_answer}
@@ -79,7 +77,6 @@ module _ (m : List ℕ) (rd : Result Heading Refusal) (R : Reads m rd) where
   pub ends_by : (n : Refusal) → rd ≡ Err n → sameb the_type n BadLength ≡ ends_stream m
   unfolding ends_stream
   ends_by n e = is-short n ∙ (rw (← R.answer, e))
-
 
 -- a refusal of tests that return nothing beside their numbers
 abbrev Bare : List Test → Type 0

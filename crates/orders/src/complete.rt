@@ -11,7 +11,7 @@ use sheets::sheet::Field;
 use texts::answers::Refusal;
 
 // Of the first filling that keeps the rules: its count, the set of filled slots and how many bits are set.
-#[derive(Clone, Copy)]
+#[derive(Clone, Copy, Debug, PartialEq, Eq)]
 pub struct Filled {
     pub count: usize,
     pub set: u16,

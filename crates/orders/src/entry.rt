@@ -13,7 +13,7 @@ use sheets::sheet::{Field, SLOT_COUNT, slot_of};
 use texts::answers::Refusal;
 
 // The entry's length and its bytes; the second is 0 where there is none.
-#[derive(Clone, Copy)]
+#[derive(Clone, Copy, Debug, PartialEq, Eq)]
 pub struct Row {
     pub length: u8,
     pub first: u8,

@@ -9,7 +9,8 @@ use sheets::facts::{Facts, facts_of};
 use sheets::sheet::SHEET_SIZE;
 use texts::answers::Refusal;
 
-// The facts of a budget payment; 8 with the first broken of rules 1 to 3, or 9.
+// The facts of a budget payment; 8 with the first broken of rules 1 to 3, or 9. Compiled into its callers, so that the facts are not copied.
+#[inline(always)]
 pub(crate) fn facts_of_payment(sheet: &[u8; SHEET_SIZE], dates: Dates) -> Result<Facts, Rejection>
     ensures { Pays dates sheet.now result }
 {

@@ -1,9 +1,9 @@
 -- The set of all broken rules: its bits, and the ways through the functions that make it.
 use mathlib.Core.Path.{◌≡◌, refl, ap, sym, ◌∙◌, fun_ext}
 use mathlib.Core.Logic.{◌↔◌}
-use mathlib.Core.Bool.{Bool, true, false, not, cond, ◌&&◌, false≢true}
+use mathlib.Core.Bool.{Bool, true, false, not, cond}
 use mathlib.Core.List.{List, [], ◌∷◌, ◌++◌, map, reverse}
-use Prim.Native.Nat.{ℕ, zero, suc, ◌+◌, ◌-◌, ◌*◌, ◌/◌, ◌%◌, ◌^◌, ◌≤◌, ◌<◌}
+use Prim.Native.Nat.{ℕ, zero, suc, ◌+◌, ◌*◌, ◌/◌, ◌%◌, ◌^◌, ◌≤◌, ◌<◌}
 use native.Mathlib.Nat.{mul_comm, mul_assoc, mul_right_comm, add-mul, zero-mul, one-mul, zero-div, div-one, div-div-eq-div-mul, pow-suc}
 use native.Mathlib.Omega.{arith}
 use borrow.Author.Tests.{eqb-true}
@@ -26,7 +26,7 @@ use Rattle.sheets.specs.declared.dates.Dates.{Dates}
 use Rattle.sheets.specs.declared.facts.Facts.{Facts}
 use Rattle.sheets.specs.Working.Facts.{facts_of, Read}
 use Rattle.rules.specs.Requests.R5.{up_to20, from23}
-use Rattle.rules.specs.Rules.{Rule, rules, order, keeps, keeps_all, first_not, first_broken}
+use Rattle.rules.specs.Rules.{Rule, rules, order, keeps, keeps_all, first_not}
 use Rattle.rules.specs.AllBroken.{bits_of, broken_set, bit_of, BrokenSet, broken_answer, break_tests, breaking, BreaksRules}
 use Rattle.rules.specs.Working.Tests.{ordinary, general_on, special_on, outcomes_on, judged_on, all_true}
 use Rattle.rules.specs.Working.Bits.{failed_bit, failed_bits}
@@ -34,7 +34,6 @@ use Rattle.texts.specs.declared.answers.Refusal.{Refusal}
 use Rattle.texts.specs.declared.answers.Refusal.TheVariants.{Malformed, Undated}
 use Rattle.rules.proofs.Numbers.{refusal_of, refusal-back}
 use Rattle.std.specs.Prelude.{Result, Ok, Err}
-use Rattle.rules.proofs.First.{all_held}
 use Rattle.rules.proofs.On.{tests_of, counted, rules-counted, none-at, verdicts_on, tests-on, keeps_on}
 
 -- ---- the bits of outcomes

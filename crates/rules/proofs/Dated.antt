@@ -1,23 +1,22 @@
 -- R-7: at the program's dates every sheet is checked as before.
 use mathlib.Core.Path.{◌≡◌, refl, ap, sym, ◌∙◌}
-use mathlib.Core.Bool.{Bool, true, false, not, cond, ◌&&◌, ◌||◌, false≢true}
+use mathlib.Core.Bool.{Bool, true, false, ◌&&◌, false≢true}
 use mathlib.Core.List.{List, [], ◌∷◌, ◌++◌}
 use Prim.Native.Nat.{ℕ}
-use Prim.Native.String.{String}
 use Rattle.texts.specs.Quoted.{Text, bytes, words}
-use Rattle.texts.specs.Texts.{every, any, same, are, among, ◌is_one_of◌, ◌begins◌}
-use Rattle.texts.proofs.Bools.{cases, both}
+use Rattle.texts.specs.Texts.{every, any, same, ◌is_one_of◌, ◌begins◌}
+use Rattle.texts.proofs.Bools.{cases}
 use Rattle.texts.proofs.Codes.{same_true}
-use Rattle.sheets.specs.Sheet.{Sheet, well_formed, ◌⟨◌⟩}
+use Rattle.sheets.specs.Sheet.{Sheet, ◌⟨◌⟩}
 use Rattle.sheets.specs.Forms.{◌⇒◌}
 use Rattle.sheets.specs.Lists.{treasury_group, account03100}
-use Rattle.sheets.specs.Dates.{program_dates, status_texts, dates_fit, texts_in, listed}
+use Rattle.sheets.specs.Dates.{program_dates, status_texts, listed}
 use Rattle.sheets.specs.Tables.DatesTable.{programs, program-fits}
 use Rattle.sheets.specs.declared.dates.Dates.{Dates}
-use Rattle.rules.specs.Rules.{Rule, budget, rules, order, class_a, class_of, test_of, field_of, keeps, keeps_all, first_not}
-use Rattle.rules.specs.Verdicts.{class_name, broken_rule, check_tests, checked}
+use Rattle.rules.specs.Rules.{budget, rules, order, class_a, test_of, field_of, keeps, keeps_all, first_not}
+use Rattle.rules.specs.Verdicts.{check_tests, checked}
 use Rattle.rules.specs.Requests.Before.{first_by}
-use Rattle.rules.specs.Requests.R7.{statuses_before, treasury_before, rule10_before, rule19_before, rules_before, keeps_before, tests_before, checked_before, AsBefore}
+use Rattle.rules.specs.Requests.R7.{statuses_before, treasury_before, rule10_before, rules_before, keeps_before, tests_before, checked_before, AsBefore}
 
 -- ---- two tests that agree up to a number, and behind it if they pass there
 

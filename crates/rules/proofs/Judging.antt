@@ -2,13 +2,12 @@
 use mathlib.Core.Path.{◌≡◌, refl, ap, sym, ◌∙◌, fun_ext}
 use mathlib.Core.Bool.{Bool, true, false, not, cond, ◌&&◌, ◌||◌, false≢true}
 use mathlib.Core.List.{List, [], ◌∷◌, ◌++◌, map}
-use Prim.Native.Nat.{ℕ, zero, suc, ◌+◌, ◌≤◌, ◌<◌}
-use native.Mathlib.Numerals.{add-one}
+use Prim.Native.Nat.{ℕ, zero, suc}
 use native.Mathlib.Omega.{arith}
-use borrow.Author.Tests.{eqb-true, not-true, not-false}
+use borrow.Author.Tests.{eqb-true, not-false}
 use lib.Dec.{eqb}
-use lib.ListN.{length, get_or, set, drop, drop_of_length-le}
-use lib.Seq.{drop-cons, get_or-set_other}
+use lib.ListN.{length, get_or, set}
+use lib.Seq.{get_or-set_other}
 use Rattle.std.specs.Prelude.{Option, None, Some, Result, find}
 use Rattle.std.specs.Option.{option_map, MatchOption}
 use Rattle.texts.specs.Texts.{every, any, are, among, blank}
@@ -17,11 +16,10 @@ use Rattle.texts.proofs.Bools.{both}
 use Rattle.texts.proofs.Refusals.{Way, way_out, tested}
 use Rattle.texts.proofs.Every.{every_append, every-same}
 use Rattle.sheets.specs.Sheet.{slots, sheet_size, slot_ok, well_formed, field_in, slot_of, Sheet, given, ◌⟨◌⟩}
-use Rattle.sheets.specs.Dates.{dates_fit}
 use Rattle.sheets.specs.declared.dates.Dates.{Dates}
 use Rattle.sheets.proofs.InForce.{dated, in-force}
 use Rattle.rules.specs.Rules.{Rule, class_a, class_b, budget, test_of, keeps_all, first_blank, rules, order, basic, ahead, field_of, keeps, first_not, first_broken, rule_named, class_of}
-use Rattle.sheets.specs.Working.Facts.{account_of, facts_by, facts_of, general_of, standing_of, Read}
+use Rattle.sheets.specs.Working.Facts.{account_of, facts_by, general_of, standing_of, Read}
 use Rattle.rules.specs.Working.Tests.{ordinary, class_on, kept, holds, first_of, all_true, general_on, outcomes_on, judged_on}
 use Rattle.rules.specs.Working.Groups.{fixed_rules, status_rules, basis_rules, document_rules, day_rules, grouped}
 use Rattle.rules.specs.Verdicts.{class_name, verdict_answer, check_tests, checked}

@@ -47,6 +47,7 @@ const BASIC: [u8; 3] = [1, 2, 3];
 const AHEAD: [u8; 12] = [5, 6, 7, 8, 9, 11, 12, 13, 14, 16, 22, 28];
 
 // Whether a rule is kept, by the outcomes of rules at their numbers; one past the end is.
+#[tactic(auto, using(std::proofs::lemmas::Option::gets), unfolding(crate::specs::Working::Tests::kept))]
 fn is_kept(outcomes: &[bool], n: u8) -> bool
     ensures { result ≡ kept outcomes.now n }
 {
@@ -72,7 +73,7 @@ pub fn broken_basic(f: Facts) -> Option<RuleNumber>
     first_broken(&general_outcomes(f), &BASIC)
 }
 
-// The outcomes of all rules, at their numbers. Both callers have it compiled in: with a call in its place a check takes longer.
+// The outcomes of all rules, at their numbers. It is compiled into both of its callers: with a call in its place a check takes longer.
 #[inline(always)]
 pub(crate) fn outcomes(f: Facts) -> [bool; 36]
     ensures { result ≡ outcomes_on f }
@@ -148,7 +149,8 @@ pub fn broken(f: Facts) -> Option<RuleNumber>
     first_broken(&outcomes(f), &ORDER)
 }
 
-// "A well-formed sheet is accepted exactly when it keeps the rules; else the answer is the first broken rule and its field."
+// "A well-formed sheet is accepted exactly when it keeps the rules; else the answer is the first broken rule and its field." It is
+// compiled into each of its callers, as `outcomes` is.
 #[inline(always)]
 pub fn check(sheet: &[u8], dates: Dates) -> Result<Class, Rejection>
     ensures { Checked dates sheet.now result }

@@ -30,7 +30,7 @@ pub(crate) fn class_of(f: Facts) -> Class
 pub(crate) fn is_ordinary(f: Facts) -> bool
     ensures { result ≡ ordinary f }
 {
-    !(f.banking.account.a | f.banking.account.b)
+    !is_budget(f)
 }
 
 pub fn is_budget(f: Facts) -> bool

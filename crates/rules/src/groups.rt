@@ -1,4 +1,6 @@
 // The rules in groups: each by the last of 101, 106, 108, 109 that it reads, or that it reads none of them.
+#![tactic(auto, unfolding(crate::specs::Working::Tests::holds))]
+
 ghost use Rattle.std.specs.Prelude.{◌≡◌, true, map};
 ghost use Rattle.texts.specs.Texts.{every};
 ghost use Rattle.sheets.specs.Sheet.{Sheet};

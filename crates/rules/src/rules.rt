@@ -22,6 +22,7 @@ const RULE_FIELDS: [u8; 36] = [
 
 const NEEDED: [u8; 12] = [3, 4, 5, 6, 7, 8, 9, 10, 11, 12, 13, 14];
 
+#[tactic(auto, unfolding(crate::specs::Working::Tests::suits))]
 fn is_suited(w: Wanted, p: Payer) -> bool
     ensures { result ≡ suits w p }
 {

@@ -3,7 +3,7 @@ use mathlib.Core.Path.{◌≡◌, refl, sym, ap, ◌∙◌}
 use mathlib.Core.Bool.{Bool, true, false, not, cond}
 use mathlib.Core.List.{List, [], ◌∷◌, ◌++◌, append_assoc}
 use Rattle.std.proofs.lemmas.List.{append-nil}
-use Rattle.std.specs.Prelude.{Result, Ok, Err, None}
+use Rattle.std.specs.Prelude.{Result, Ok, Err}
 use denote.Ref.{Bor}
 use Prim.Native.Nat.{ℕ, zero, suc, ◌+◌, ◌<◌, ◌≤◌}
 use native.Mathlib.Numerals.{add-one}
@@ -20,7 +20,7 @@ use Rattle.texts.specs.Refusals.{refusal_number}
 use Rattle.texts.specs.declared.answers.Refusal.TheVariants.{WrongSize, NotLines}
 use Rattle.texts.specs.Answers.{success, refusal, passes, ◌refuses◌}
 use Rattle.texts.proofs.Bools.{and2}
-use Rattle.texts.proofs.Puts.{put-fits, put-put, length-put, mid-put, drop-put, wrote_as, wrote_then}
+use Rattle.texts.proofs.Puts.{put-fits, length-put, mid-put, drop-put, wrote_as, wrote_then}
 use Rattle.texts.proofs.Refusals.{NoneOf, no-success, none_of, succeeds, succeeded, refused, unchanged, Way, way_out}
 use Rattle.sheets.specs.Sheet.{Sheet, text_max, short, well_formed, slot_of, text_of, ◌⟨◌⟩}
 use Rattle.sheets.specs.Dates.{dates_fit, listed, status_texts}

@@ -1,10 +1,10 @@
 -- What checking a sheet answered before a request: by other rules, or in another order of testing.
-use Rattle.std.specs.Prelude.{◌≡◌, refl, not, cond, Bool, List, [], ◌∷◌, ◌++◌, map, ℕ, eqb}
+use Rattle.std.specs.Prelude.{◌≡◌, refl, not, cond, Bool, List, [], ◌∷◌, ℕ, eqb}
 use Rattle.texts.specs.Answers.{Answer, refusal, Test, ◌refuses◌, answer_by}
 use Rattle.sheets.specs.Sheet.{Sheet, well_formed}
 use Rattle.sheets.specs.Dates.{dates_fit}
 use Rattle.sheets.specs.declared.dates.Dates.{Dates}
-use Rattle.rules.specs.Rules.{Rule, class_of, rules, order, test_of, field_of, keeps, first_not}
+use Rattle.rules.specs.Rules.{Rule, class_of, rules, order, test_of, keeps, first_not}
 use Rattle.rules.specs.Verdicts.{class_name, broken_rule, check_tests, checked}
 
 -- the answer that names a field and the rule that is broken

@@ -1,6 +1,6 @@
 -- All broken rules of some sheets as one table, shown true of the definitions by one computation.
 use Rattle.std.specs.Prelude.{◌≡◌, refl, List, [], ◌∷◌, map, ℕ}
-use Rattle.texts.specs.Answers.{Answer, success, refusal}
+use Rattle.texts.specs.Answers.{success, refusal}
 use Rattle.sheets.specs.Dates.{program_dates}
 use Rattle.sheets.specs.declared.dates.Dates.{Dates}
 use Rattle.rules.specs.AllBroken.{bits_of, broken_set, break_tests, breaking}

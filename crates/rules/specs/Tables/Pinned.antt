@@ -4,7 +4,7 @@
 -- shown true of the definitions by computation.
 use Rattle.std.specs.Prelude.{◌≡◌, refl, Bool, true, false, cond, List, [], ◌∷◌, ◌++◌, map, ℕ, ◌+◌, ◌*◌, eqb, length, set, take}
 use Prim.Native.String.{String}
-use Rattle.texts.specs.Quoted.{Text, bytes, words}
+use Rattle.texts.specs.Quoted.{bytes}
 use Rattle.texts.specs.Answers.{Answer, refusal}
 use Rattle.sheets.specs.Sheet.{Sheet, slots}
 use Rattle.rules.specs.Rules.{Rule, rules, order, keeps}

@@ -1,5 +1,5 @@
 -- R-1: the answers that rule 35 changes, and their neighbours, shown true of the definitions by one computation.
-use Rattle.std.specs.Prelude.{◌≡◌, refl, List, [], ◌∷◌, ◌++◌, map}
+use Rattle.std.specs.Prelude.{refl, List, [], ◌∷◌}
 use Prim.Native.String.{String}
 use Rattle.texts.specs.Answers.{Answer}
 use Rattle.rules.specs.Tables.Examples.{Change, ◌≔◌, accepted, answer, Right}

@@ -1,3 +1,4 @@
+use borrow.Author.Rules.{rules}
 use Rattle.orders.proofs.Completing.{Prepared, prepared, payable}
 use Rattle.orders.proofs.Quickening.{ready-1, ready-7, ready-12, ready-by}
 use Rattle.orders.proofs.quick.ready.Goals as goal
@@ -13,11 +14,12 @@ returns-then-not-well_formed c = ready-1 _ _ _ c.if-not-well_formed.ensures
 pub returns-then-size-ne-SHEET_SIZE : goal.returns-then-size-ne-SHEET_SIZE
 returns-then-size-ne-SHEET_SIZE c = ready-7 _ _ _ c.if-not-well_formed.ensures c.if-size-ne-SHEET_SIZE.true
 
+-- that the tests before were passed is searched for: where a wrong program makes them later, it is not there
 pub returns-then-not-are_fit : goal.returns-then-not-are_fit
-returns-then-not-are_fit c = ready-12 _ _ _ c.if-not-well_formed.ensures c.if-size-ne-SHEET_SIZE.false c.if-not-are_fit.ensures
+returns-then-not-are_fit c = ready-12 _ _ _ (search rules) (search rules) c.if-not-are_fit.ensures
 
 pub returns-in_err-facts : goal.returns-in_err-facts
-returns-in_err-facts c = ready-by _ _ _ c.if-not-well_formed.ensures c.if-size-ne-SHEET_SIZE.false c.if-not-are_fit.ensures _ (begun (goal.at.returns-in_err-facts c).After-facts_of_payment) _ c.in_err-facts.ensures _ c.from_residual.ensures.1
+returns-in_err-facts c = ready-by _ _ _ (search rules) (search rules) (search rules) _ (begun (goal.at.returns-in_err-facts c).After-facts_of_payment) _ c.in_err-facts.ensures _ c.from_residual.ensures.1
 
 pub returns : goal.returns
 returns c = payable c.if-size-ne-SHEET_SIZE.false c.if-not-are_fit.ensures (begun (goal.at.returns c).After-facts_of_payment) _ c.in_ok-facts.ensures

@@ -1,4 +1,3 @@
-use borrow.Author.Rules.{rules}
 use mathlib.Core.Path.{◌≡◌, refl, ◌∙◌}
 use Rattle.swift.specs.Lines.{sheet_with, parts_of}
 use Rattle.swift.specs.Promises.{read_answer, read_tests}
@@ -13,14 +12,6 @@ pub returns-then-not-has_marks : goal.returns-then-not-has_marks
 unfolding read_answer read_tests
 returns-then-not-has_marks c = search (reading, read_out 1)
 
-pub slice_bounds-put_bank_texts-end : goal.slice_bounds-put_bank_texts-end
-unfolding read_answer read_tests
-slice_bounds-put_bank_texts-end c = search rules
-
-pub slice_bounds-put_payee_texts-end : goal.slice_bounds-put_payee_texts-end
-unfolding read_answer read_tests
-slice_bounds-put_payee_texts-end c = search rules
-
 pub put_bank_texts-requires : goal.put_bank_texts-requires
 put_bank_texts-requires c = (refl, (is-marked-long c.args.block.now _ c.has_marks.ensures c.if-not-has_marks.false-raw).0)
 
@@ -29,19 +20,11 @@ put_payee_texts-requires c =
     let n = is-marked-long c.args.block.now _ c.has_marks.ensures c.if-not-has_marks.false-raw in
     (c.put_bank_texts.ensures, n.0, n.1)
 
-pub slice_bounds-is_fit-end : goal.slice_bounds-is_fit-end
-unfolding read_answer read_tests
-slice_bounds-is_fit-end c = search rules
-
 pub returns-then-not-is_fit : goal.returns-then-not-is_fit
 unfolding read_answer read_tests
 returns-then-not-is_fit c =
     let f = fits-as _ _ c.has_marks.ensures c.if-not-has_marks.false-raw _ c.put_payee_texts.ensures _ c.is_fit.ensures _ c.if-not-is_fit.true-raw in
     search (reading, read_out 1)
-
-pub shape_of-sheet : goal.shape_of-sheet
-unfolding read_answer read_tests
-shape_of-sheet c = search rules
 
 pub returns : goal.returns
 unfolding read_answer read_tests

@@ -1,4 +1,4 @@
-use Rattle.std.proofs.Common.{rules, arith}
+use Rattle.std.proofs.Common.{rules}
 use Rattle.swift.proofs.Writing.{put-start, put-room, put-more, put-end}
 use Rattle.swift.proofs.write.put_line.Goals as goal
 

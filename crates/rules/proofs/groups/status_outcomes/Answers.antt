@@ -1,6 +1,0 @@
-use Rattle.rules.specs.Working.Tests.{holds}
-use Rattle.rules.proofs.groups.status_outcomes.Goals as goal
-
-pub returns : goal.returns
-unfolding holds
-returns c = cc
