@@ -48,12 +48,7 @@ pub(crate) fn shares<W: Write>(bytes: &[u8], out: &mut W) -> Result<()> {
 }
 
 // `ok` or the refusal, and the twelve places, which held 7.
-fn shares_of<W: Write>(
-    amount: Kopecks,
-    year: Days,
-    periods: &[u32],
-    out: &mut W,
-) -> Result<()> {
+fn shares_of<W: Write>(amount: Kopecks, year: Days, periods: &[u32], out: &mut W) -> Result<()> {
     let mut places = [7; 12];
     match amounts::shares::shares(amount, year, periods, &mut places) {
         Ok(()) => write!(out, "ok")?,

@@ -17,7 +17,11 @@ pub(crate) fn read<W: Write>(message: &[u8], out: &mut W) -> Result<()> {
         Ok(heading) => {
             let version = heading.version.0;
             let Revision { number, party } = heading.revision;
-            write!(out, "ok {version} {} {} {number} ", party.0, heading.field.0)?;
+            write!(
+                out,
+                "ok {version} {} {} {number} ",
+                party.0, heading.field.0
+            )?;
             write_text(message_text(message), out)
         }
         Err(refusal) => write!(out, "{}", Refused(refusal)),
@@ -106,12 +110,7 @@ pub(crate) fn post<W: Write>(before: &[u8], message: &[u8], out: &mut W) -> Resu
     }
 }
 
-fn post_to<W: Write>(
-    draft: &mut [u8],
-    before: &[u8],
-    message: &[u8],
-    out: &mut W,
-) -> Result<()> {
+fn post_to<W: Write>(draft: &mut [u8], before: &[u8], message: &[u8], out: &mut W) -> Result<()> {
     put(draft, 0, before);
     match draft::post(draft, message) {
         Ok(standing) => {
@@ -135,12 +134,7 @@ pub(crate) fn copy<W: Write>(draft: &[u8], before: &[u8], out: &mut W) -> Result
     }
 }
 
-fn copy_to<W: Write>(
-    draft: &[u8],
-    sheet: &mut [u8],
-    before: &[u8],
-    out: &mut W,
-) -> Result<()> {
+fn copy_to<W: Write>(draft: &[u8], sheet: &mut [u8], before: &[u8], out: &mut W) -> Result<()> {
     put(sheet, 0, before);
     match draft::copy(draft, sheet) {
         Ok(()) => {

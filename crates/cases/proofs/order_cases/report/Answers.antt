@@ -11,4 +11,4 @@ returns g c short =
     let z : c.report-size.result - 0 ≡ c.report-size.result = omega arith in
     let whole = c.report-size.ensures.whole short (search rules) in
     subst (λ t. OnOk c.write_all.result (Appends (g.W.Write.contents c.args.out.now) (g.W.Write.contents c.write_all.new.self) t))
-        (c.part.ensures ∙ ap (λ n. take n c.report-size.new.out) z ∙ whole) c.write_all.ensures.bytes
+    (c.part.ensures ∙ ap (λ n. take n c.report-size.new.out) z ∙ whole) c.write_all.ensures.bytes
