@@ -34,7 +34,7 @@ const LEAST_L: usize = FIRST_BODY + TEXT_PLACE - 2;
 const MOST_L: usize = HEAD_MOST - 2 + TEXT_MAX;
 
 // The version of a message.
-#[derive(Clone, Copy)]
+#[derive(Clone, Copy, Debug, PartialEq, Eq)]
 pub struct Version(pub u8);
 
 impl Version {
@@ -78,7 +78,7 @@ impl Version {
 }
 
 // What a message says beside its text.
-#[derive(Clone, Copy)]
+#[derive(Clone, Copy, Debug, PartialEq, Eq)]
 pub struct Heading {
     pub version: Version,
     pub field: Field,

@@ -14,7 +14,7 @@ pub const CLIENT: u8 = 1;
 pub const ADVISER: u8 = 2;
 
 // The party that gave a revision: the client or the adviser; 0 in a slot that none was given.
-#[derive(Clone, Copy, PartialEq, Eq, PartialOrd, Ord)]
+#[derive(Clone, Copy, Debug, PartialEq, Eq, PartialOrd, Ord)]
 pub struct Party(pub u8);
 
 impl Party {
@@ -27,7 +27,7 @@ impl Party {
 
 // The revision that a message gives its field, or that a slot holds, with the party that gave it; 0 in a slot that none was given. Of two the
 // higher stands, and of two equal ones the adviser's: the order of the fields.
-#[derive(Clone, Copy, PartialEq, Eq, PartialOrd, Ord)]
+#[derive(Clone, Copy, Debug, PartialEq, Eq, PartialOrd, Ord)]
 pub struct Revision {
     pub number: u32,
     pub party: Party,
@@ -41,7 +41,7 @@ pub fn revision_number(bytes: &[u8]) -> u32
 }
 
 // How a message stands to what its slot holds.
-#[derive(Clone, Copy, PartialEq, Eq)]
+#[derive(Clone, Copy, Debug, PartialEq, Eq)]
 pub enum Standing {
     Newer,
     Same,

@@ -19,7 +19,7 @@ pub struct Filled {
 }
 
 // Why a draft is not completed: 10 with the count of all fillings; 8; 1, 7, 12 or 9.
-#[derive(Clone, Copy)]
+#[derive(Clone, Copy, Debug, PartialEq, Eq)]
 pub enum Incomplete {
     Impossible(usize),
     Broken(Field, RuleNumber),

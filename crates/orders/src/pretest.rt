@@ -14,7 +14,7 @@ use sheets::sheet::{Field, SHEET_SIZE};
 use texts::answers::Refusal;
 
 // A rule that all fillings break, with its field.
-#[derive(Clone, Copy)]
+#[derive(Clone, Copy, Debug, PartialEq, Eq)]
 pub struct Named {
     pub field: Field,
     pub rule: RuleNumber,

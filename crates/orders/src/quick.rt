@@ -15,7 +15,7 @@ use texts::answers::Refusal;
 use texts::buffers::put;
 
 // What `complete` returns; and, with a sheet or 10, how many statuses were skipped, else 0.
-#[derive(Clone, Copy)]
+#[derive(Clone, Copy, Debug, PartialEq, Eq)]
 pub struct Quickened {
     pub completed: Result<Filled, Incomplete>,
     pub skipped: usize,

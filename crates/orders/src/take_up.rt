@@ -21,7 +21,7 @@ const GREATEST: u32 = 4294967295;
 const PLACES: u8 = SLOT_COUNT + 1;
 
 // Why no value is posted: 20 with the field of a slot that can't take up its value; 1 or 7.
-#[derive(Clone, Copy)]
+#[derive(Clone, Copy, Debug, PartialEq, Eq)]
 pub enum Untaken {
     Unfit(Field),
     Refused(Refusal),

@@ -20,7 +20,7 @@ use sheets::sheet::{Field, well_formed};
 use texts::answers::Refusal;
 
 // Why a sheet is not accepted: its first broken rule, with the field that this names, which is refusal 8; or another refusal.
-#[derive(Clone, Copy)]
+#[derive(Clone, Copy, Debug, PartialEq, Eq)]
 pub enum Rejection {
     Broken(Field, RuleNumber),
     Refused(Refusal),

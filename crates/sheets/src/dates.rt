@@ -5,11 +5,11 @@ ghost use Rattle.sheets.specs.Dates.{day_number, dates_fit, force_of, program_da
 use crate::forms::is_gregorian;
 
 // A date as a number YYYYMMDD.
-#[derive(Clone, Copy)]
+#[derive(Clone, Copy, Debug, PartialEq, Eq)]
 pub struct Date(pub u32);
 
 // The order's date; and the record: the first for status 32, the first for 33, the last for 02.
-#[derive(Clone, Copy)]
+#[derive(Clone, Copy, Debug, PartialEq, Eq)]
 pub struct Dates {
     pub order: Date,
     pub first32: Date,

@@ -23,7 +23,7 @@ pub const SHEET_SIZE: usize = FIELD_COUNT * CELL_SIZE;
 const CELL_STEP: u8 = CELL_SIZE as u8;
 
 // The number of a field of the order.
-#[derive(Clone, Copy)]
+#[derive(Clone, Copy, Debug, PartialEq, Eq)]
 pub struct Field(pub u8);
 
 const FIELDS: [u8; FIELD_COUNT] = [
