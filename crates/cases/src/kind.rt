@@ -1,4 +1,5 @@
 // The kinds of cases.
+ghost use Rattle.cases.specs.Kind.{Decodes};
 
 // What a case asks for; unless said otherwise of what all its bytes are.
 #[derive(Clone, Copy, PartialEq, Eq, Debug)]
@@ -49,6 +50,8 @@ pub struct UnknownKind(pub u8);
 
 impl TryFrom<u8> for Kind {
     type Error = UnknownKind;
+
+    ghost try_from_gives = { Decodes };
 
     fn try_from(byte: u8) -> Result<Kind, UnknownKind> {
         match byte {

@@ -46,10 +46,10 @@ impl<'a> Iterator for Cases<'a> {
         if self.fields.rest.is_empty() {
             return None;
         }
-        let answered = self.answered;
-        let kind = Kind::try_from(self.fields.u8())
-            .ok()
-            .filter(|kind| answered.contains(kind));
+        let kind = match Kind::try_from(self.fields.u8()) {
+            Ok(kind) if self.answered.contains(&kind) => Some(kind),
+            _ => None,
+        };
         let size = self.fields.u16();
         let bytes = self.fields.take(usize::from(size));
         Some(Case { kind, bytes })
