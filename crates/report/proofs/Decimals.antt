@@ -1,17 +1,50 @@
 -- A number's digits: how many there are, that they are std's, and that they make the number.
 use mathlib.Core.Path.{◌≡◌, refl, sym, ap, ◌∙◌}
 use mathlib.Core.Bool.{true}
-use mathlib.Core.List.{List, [], ◌∷◌, ◌++◌}
-use Prim.Native.Nat.{ℕ, zero, suc, ◌+◌, ◌*◌, ◌^◌, ◌/◌, ◌%◌, ◌<◌, ◌≤◌}
+use mathlib.Core.List.{List, [], ◌∷◌, ◌++◌, append_assoc}
+use Prim.Native.Nat.{ℕ, zero, suc, ◌+◌, ◌-◌, ◌*◌, ◌^◌, ◌/◌, ◌%◌, ◌<◌, ◌≤◌}
 use native.Mathlib.Decide.{dec_le}
 use native.Mathlib.Omega.{arith}
 use borrow.Author.Tests.{lt-ltb, le-ltb, le-leb}
-use lib.ListN.{length, get_or, length-append}
+use lib.ListN.{length, get_or, drop, set, length-append}
 use Rattle.std.specs.Fmt.{decimal as printed}
 use Rattle.std.proofs.lemmas.Fmt.{decimal_from_appends_wide, decimal_by_steps_wide, length-decimal-le_wide}
 use Rattle.texts.specs.Texts.{every, digit, value_of, value}
 use Rattle.texts.proofs.Every.{every_append}
 use Rattle.report.specs.Lines.{decimal_in, decimal, IsDecimal}
+
+drop-set : (l : List ℕ) (k x : ℕ) → k < length l → drop k (set l k x) ≡ x ∷ drop (suc k) l
+drop-set [] k x h = absurd (omega arith)
+drop-set (y ∷ ys) zero x h = refl
+drop-set (y ∷ ys) (suc k) x h = drop-set ys k x (omega arith)
+
+small : (n : ℕ) → n < 10 → n % 10 ≡ n
+small n h = omega arith
+
+-- the digits from place f on are found, and rest is the number before them
+module _ (n rest : ℕ) (ds : List ℕ) (l : length ds ≡ 20) where
+  pub digits-all : (f : ℕ) → f ≤ 0 → decimal n ≡ decimal_in f rest ++ drop f ds → drop f ds ≡ decimal n
+  unfolding decimal_in
+  digits-all zero z e = sym e
+  digits-all (suc k) z e = absurd (omega arith)
+
+  pub digit-last : (f : ℕ) → 0 < f → f ≤ 20 → rest < 10 → decimal n ≡ decimal_in f rest ++ drop f ds → drop (f - 1) (set ds (f - 1) (48 + rest % 10)) ≡ decimal n
+  unfolding decimal_in
+  digit-last zero p q h e = absurd (omega arith)
+  digit-last (suc k) p q h e =
+      let z : suc k - 1 ≡ k = omega arith in
+      rw z (drop-set ds k (48 + rest % 10) (omega arith) ∙ rw (small rest h) (sym (e ∙ rw (lt-ltb rest 10 h))))
+
+  pub digit-more : (f : ℕ) → 0 < f → f ≤ 20 → 10 ≤ rest → decimal n ≡ decimal_in f rest ++ drop f ds
+      → decimal n ≡ decimal_in (f - 1) (rest / 10) ++ drop (f - 1) (set ds (f - 1) (48 + rest % 10))
+  unfolding decimal_in
+  digit-more zero p q h e = absurd (omega arith)
+  digit-more (suc k) p q h e =
+      let z : suc k - 1 ≡ k = omega arith in
+      e
+      ∙ rw (le-ltb rest 10 h, z)
+      (append_assoc (decimal_in k (rest / 10)) ((48 + rest % 10) ∷ []) (drop (suc k) ds)
+      ∙ ap (λ (t : List ℕ). decimal_in k (rest / 10) ++ t) (sym (drop-set ds k (48 + rest % 10) (omega arith))))
 
 -- a digit more for a number ten times as high
 short-step : (k n p : ℕ) → (10 ≤ n → length (decimal_in k (n / 10)) ≤ p) → length (decimal_in (suc k) n) ≤ suc p

@@ -1,14 +1,13 @@
 -- What is put on a page: one text behind another, and the items of a line.
 use mathlib.Core.Path.{◌≡◌, refl, sym, ap, ◌∙◌}
 use mathlib.Core.List.{List, [], ◌∷◌, ◌++◌, append_assoc, append-nil}
-use Prim.Native.Nat.{ℕ, zero, suc, ◌+◌, ◌^◌, ◌<◌, ◌≤◌}
+use Prim.Native.Nat.{ℕ, zero, suc, ◌+◌, ◌-◌, ◌<◌, ◌≤◌}
 use native.Mathlib.Nat.{add-zero}
 use native.Mathlib.Numerals.{add-one}
 use native.Mathlib.Omega.{arith}
-use lib.ListN.{length, get_or, take, length-append, take-append-drop}
+use lib.ListN.{length, get_or, take, drop, length-append, length-drop, take-append-drop}
 use Rattle.std.specs.Prelude.{map}
 use lib.Seq.{take_all}
-use Rattle.std.specs.Fmt.{decimal as printed}
 use Rattle.texts.specs.Quoted.{Text}
 use Rattle.texts.specs.Buffers.{put}
 use Rattle.texts.proofs.Puts.{length-put, wrote_as, wrote_then}
@@ -16,7 +15,6 @@ use Rattle.report.specs.declared.lines.Item.{Item}
 use Rattle.report.specs.declared.lines.Page.{Page}
 use Rattle.report.specs.Lines.{decimal, item, line, space, newline}
 use Rattle.report.specs.Working.Page.{item_text, Puts}
-use Rattle.report.proofs.Decimals.{decimal_std}
 
 -- the same text by another name; what is put behind what was put
 pub puts_as : (p q : Page) (t u : Text) → t ≡ u → Puts p t q → Puts p u q
@@ -118,14 +116,17 @@ module _ (p : Page) (t : Text) (xs : List Item) (room : p.len + length (line t (
           (append_assoc t (spaced (take i xs)) (space ∷ next) ∙ ap (λ (y : Text). t ++ y) (sym (rw add-one e)))
           (puts_then p q r (t ++ spaced (take i xs)) (space ∷ next) w n (omega (arith, w.wrote.1, v.wrote.1, u.wrote.1, whole, ap length e)))
 
--- ---- a number, in std's words
+-- ---- a number, whose digits stand from a place on
 
-module _ (p : Page) (n : ℕ) (x t : Text) (h : n < 2 ^ 64) (ex : x ≡ t) (et : t ≡ printed n) where
-  number-text : x ≡ decimal n
-  number-text = ex ∙ et ∙ sym (decimal_std n (omega arith))
+module _ (p : Page) (n : ℕ) (ds : List ℕ) (f : ℕ) (e : drop f ds ≡ decimal n) where
+  abbrev found : Text
+  found = take (length ds - f) (drop f ds)
 
-  pub number-room : p.len + length (decimal n) ≤ length p.buffer.now → p.len + length x ≤ length p.buffer.now
+  number-text : found ≡ decimal n
+  number-text = take_all (length ds - f) (drop f ds) (omega (arith, length-drop f ds)) ∙ e
+
+  pub number-room : p.len + length (decimal n) ≤ length p.buffer.now → p.len + length found ≤ length p.buffer.now
   number-room r = omega (arith, ap length number-text)
 
-  pub number_put : (q : Page) → Puts p x q → Puts p (decimal n) q
-  number_put q w = puts_as p q x (decimal n) number-text w
+  pub number_put : (q : Page) → Puts p found q → Puts p (decimal n) q
+  number_put q w = puts_as p q found (decimal n) number-text w

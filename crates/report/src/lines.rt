@@ -1,7 +1,7 @@
 // Lines of items, written into a lent buffer one behind the other.
-ghost use Rattle.std.specs.Prelude.{◌≡◌, ◌+◌, ◌<◌, ◌≤◌, length, map};
+ghost use Rattle.std.specs.Prelude.{◌≡◌, ◌+◌, ◌<◌, ◌≤◌, length, map, drop};
 ghost use Rattle.texts.specs.Refusals.{refusal_number};
-ghost use Rattle.report.specs.Lines.{line};
+ghost use Rattle.report.specs.Lines.{decimal, line};
 ghost use Rattle.report.specs.Working.Page.{item_text, Puts};
 
 use texts::answers::Refusal;
@@ -18,6 +18,30 @@ pub(crate) fn number_of(refusal: Refusal) -> usize
     ensures { (result ≡ refusal_number refusal) × (result < 256) }
 {
     usize::from(u8::from(refusal))
+}
+
+// A number in decimal: its digits stand from place `from` on.
+#[derive(Clone, Copy)]
+struct Decimal {
+    digits: [u8; 20],
+    from: usize,
+}
+
+fn decimal_of(n: usize) -> Decimal
+    ensures { (drop result.from result.digits ≡ decimal n) × (result.from ≤ length result.digits) }
+{
+    let mut digits = [0u8; 20];
+    let mut from = 20;
+    let mut rest = n;
+    while from > 0 {
+        from -= 1;
+        digits[from] = b'0' + (rest % 10) as u8;
+        if rest < 10 {
+            return Decimal { digits, from };
+        }
+        rest /= 10;
+    }
+    Decimal { digits, from }
 }
 
 // What is written so far, at the start of a buffer.
@@ -50,7 +74,10 @@ impl<'a> Page<'a> {
     {
         match item {
             Item::Word(text) => self.put(text),
-            Item::Number(n) => self.put(itoa::Buffer::new().format(n).as_bytes()),
+            Item::Number(n) => {
+                let decimal = decimal_of(n);
+                self.put(&decimal.digits[decimal.from..]);
+            }
         }
     }
 
