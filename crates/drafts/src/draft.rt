@@ -91,7 +91,8 @@ fn fits(slot: &[u8]) -> bool
 }
 
 // "Malformed: another size, a length above 25, a nonzero pad byte; in a draft also revision 0 with a text", and a party that does not fit.
-// No slot's answer ends the loop: which slots are given is hard to foretell.
+// No slot's answer ends the loop: which slots are given is hard to foretell. Completion begins by this, and has it compiled in.
+#[inline(always)]
 #[tactic(auto, using(crate::proofs::Slots::forms))]
 pub fn well_formed(draft: &[u8]) -> bool
     ensures { result ≡ draft_formed draft.now }
@@ -173,7 +174,9 @@ pub fn post(draft: &mut [u8], message: &[u8]) -> Result<Standing, Refusal>
     Ok(standing)
 }
 
-// Puts a draft's sheet into a buffer. Callers lend an array of their own, which the compiler knows not to overlap the draft.
+// Puts a draft's sheet into a buffer. Callers lend an array of their own, which the compiler knows not to overlap the draft, and have the loop
+// compiled in: it is fifteen copies of a size that is known.
+#[inline(always)]
 #[tactic(auto, using(crate::proofs::DraftPromises::sheets))]
 pub fn put_sheet(draft: &[u8], sheet: &mut [u8])
     ensures { sheet.new ≡ sheet_into draft.now sheet.old }
