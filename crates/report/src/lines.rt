@@ -31,17 +31,15 @@ fn decimal_of(n: usize) -> Decimal
     ensures { (drop result.from result.digits ≡ decimal n) × (result.from ≤ length result.digits) }
 {
     let mut digits = [0u8; 20];
-    let mut from = 20;
     let mut rest = n;
-    while from > 0 {
-        from -= 1;
+    for from in (0..20).rev() {
         digits[from] = b'0' + (rest % 10) as u8;
         if rest < 10 {
             return Decimal { digits, from };
         }
         rest /= 10;
     }
-    Decimal { digits, from }
+    Decimal { digits, from: 0 }
 }
 
 // What is written so far, at the start of a buffer.

@@ -9,6 +9,3 @@ use Rattle.report.proofs.lines.decimal_of.Given as goal
 abbrev pub invariant-loop-from : goal.invariant-loop-from
 invariant-loop-from l =
     (l.from ≤ 20) × (length l.digits ≡ 20) × (decimal l.n ≡ decimal_in l.from l.rest ++ drop l.from l.digits)
-
-abbrev pub decreases-loop-from : goal.decreases-loop-from
-decreases-loop-from l = l.from
