@@ -53,7 +53,7 @@ impl Revision {
     pub fn rank(self) -> u64
         ensures { result ≡ rank self }
     {
-        self.number as u64 * 256 + self.party.0 as u64
+        u64::from(self.number) * 256 + u64::from(self.party.0)
     }
 
     // How a message of this revision stands to a slot of the revision `had`, by whether their texts are the same.
