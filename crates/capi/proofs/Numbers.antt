@@ -47,7 +47,6 @@ use Rattle.registers.specs.Pool.{more, less, pool_tests, pooling, pool_answer, P
 use Rattle.registers.specs.declared.pool.Unpooled.{Unpooled}
 use Rattle.payments.specs.Leave.{leave_tests, leaving, leave_answer, Leaves}
 use Rattle.payments.specs.declared.leave.Debited.{Debited}
-use Rattle.registers.specs.declared.pool.Unpooled.TheVariants.{Differs}
 use Rattle.swift.specs.Promises.{read_tests as line_read_tests, read_answer as lines_read_answer, reading_lines, ReadsLines, line_tests, written_answer as lines_written_answer, writing_lines, WritesLines}
 use Rattle.texts.specs.declared.answers.Refusal.{Refusal}
 use Rattle.capi.specs.Numbers.{done_number, numbered, number_answer, check_numbers, check_of, read_numbers, read_of, write_numbers, write_of, post_numbers, word_of, post_of, complete_numbers, complete_of, take_numbers, take_of, pretest_numbers, pretest_of, charge_numbers, charge_of, part_numbers, part_of, pool_numbers, pool_of, leave_numbers, leave_of, lines_numbers, lines_from}
@@ -425,10 +424,6 @@ module _ (t : List ℕ) (a : ℕ) (o : List ℕ) (v : Result ℕ Unpooled) (x : 
     less = λ n e. at pool_numbers pool-numbers e ∙ ap differing (signed_of (negsuc n));
     refused = λ n. at pool_numbers pool-numbers;
   }
-
-pub differs-is : (d : ℤ) → differing d ≡ pool_numbers (pool_answer (Err (Differs d)))
-unfolding pool_numbers pool_answer
-differs-is d = ap differing (sym (signed_of d))
 
 module _ (b : ℕ) (ps ns ks o : List ℕ) (v : Result Debited Refusal) (x : List ℕ) (w : Leaves b ps ns ks o v x) (r : Leave) (q : r ≡ leave_numbers (leave_answer v)) where
   leave-numbers : r ≡ leave_numbers (leaving b ps ns ks)

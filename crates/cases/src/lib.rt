@@ -19,7 +19,7 @@ mod written;
 
 use crate::fields::Fields;
 pub use crate::kind::{Kind, UnknownKind};
-pub use crate::standard::{Output, read_input, zeros};
+pub use crate::standard::run;
 pub use crate::stream::{Case, Cases};
 use sheets::dates::program_dates;
 use std::io::{Result, Write};

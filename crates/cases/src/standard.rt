@@ -1,6 +1,9 @@
 // The standard input and output.
 ghost use Rattle.std.specs.Prelude.{◌≡◌, ◌≤◌, length};
 
+use crate::answer;
+use crate::kind::Kind;
+use crate::stream::Cases;
 use std::io::{Error, ErrorKind, Result, Write};
 
 // The numbers of the streams.
@@ -10,14 +13,14 @@ const STDOUT_FILENO: i32 = 1;
 
 // Zeros for the input, which a literal array of that length would be too long for. What is promised is their number alone, which is all that
 // a program asks.
-pub fn zeros<const N: usize>() -> [u8; N]
+fn zeros<const N: usize>() -> [u8; N]
     ensures { length result ≡ N }
 {
     [0; N]
 }
 
 // The standard input, as far as the buffer holds it.
-pub fn read_input(buffer: &mut [u8]) -> &[u8]
+fn read_input(buffer: &mut [u8]) -> &[u8]
     ensures { length result.now ≤ length buffer.old }
 {
     let size = io::read_full(STDIN_FILENO, buffer);
@@ -26,7 +29,7 @@ pub fn read_input(buffer: &mut [u8]) -> &[u8]
 
 // The standard output, as a writer.
 #[derive(Drop)]
-pub struct Output;
+struct Output;
 
 impl Write for Output {
     fn write(&mut self, bytes: &[u8]) -> Result<usize> {
@@ -39,5 +42,16 @@ impl Write for Output {
 
     fn flush(&mut self) -> Result<()> {
         Ok(())
+    }
+}
+
+// Runs the cases of the standard input and writes what each answers, one behind another, as far as it can be written; a case whose kind is none of
+// these is answered with a line end alone.
+pub fn run(kinds: &[Kind]) {
+    let mut buffer: [u8; 524288] = zeros();
+    for case in Cases::of(read_input(&mut buffer), kinds) {
+        if answer(case, &mut Output).is_err() {
+            return;
+        }
     }
 }

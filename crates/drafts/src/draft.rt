@@ -50,7 +50,8 @@ fn slot_revision(slot: &[u8]) -> Revision
     }
 }
 
-// The revision that a slot of a draft holds, with its party, and its text; of no slot 0, of none, and the blank.
+// The revision that a slot of a draft holds, with its party, and its text; for a number that is no slot's, revision 0 of no
+// party, and the blank text.
 pub fn revision_in(draft: &[u8], slot: u8) -> Revision
     ensures { result ≡ slot_revision (slot_in draft.now slot) }
 {

@@ -2,7 +2,7 @@
 // with what a second implementation answers as the expected output.
 #![tactic(auto)]
 
-use cases::{Cases, Kind, Output, answer, read_input, zeros};
+use cases::{Kind, run};
 
 // What it answers; to other cases with a line end alone.
 const KINDS: [Kind; 7] = [
@@ -16,10 +16,5 @@ const KINDS: [Kind; 7] = [
 ];
 
 fn main() {
-    let mut buffer: [u8; 524288] = zeros();
-    for case in Cases::of(read_input(&mut buffer), &KINDS) {
-        if answer(case, &mut Output).is_err() {
-            return;
-        }
-    }
+    run(&KINDS);
 }

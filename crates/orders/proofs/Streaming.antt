@@ -237,12 +237,6 @@ module _ (i : List ℕ) (k : ℕ) (h : k < length i) (s m : List ℕ) (es : s �
   pub some : 0 < length (drop k i)
   some = omega (arith, length-drop k i)
 
-  pub stream-within : k + length m ≤ length i
-  stream-within = omega (arith, (piece-length (drop k i) some).1, ap length first-is, length-drop k i)
-
-  pub stream-less : length i - (k + length m) < length i - k
-  stream-less = omega (arith, (piece-length (drop k i) some).0, ap length first-is)
-
 -- ---- the whole
 
 pub streamed : (D : Dates) (i b d : List ℕ) (r : Result Filled Incomplete) (t : List ℕ) → Postings (messages_of i) d → Completes D d b r t → Streams D i b r t

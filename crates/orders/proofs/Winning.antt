@@ -99,7 +99,7 @@ origin-right i ms b l =
           none (λ a q. cases (names i a) (λ t. absurd (omega (arith, bound i q, rank-above a (named i a t).0, (named i a t).2))) (λ t. t)) (s ∙ rw z) (rw z)
     ]
 
--- ---- with_message
+-- ---- note
 
 -- what a message m that is read says of its field's slot k and its rank r
 module _ (m : List ℕ) (rd : Result Heading Refusal) (R : Reads m rd) where

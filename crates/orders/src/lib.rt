@@ -1,3 +1,4 @@
+// Completing a draft, taking up part of what is proposed, and streams of messages (document 01, and R-3, R-9, R-14).
 #![tactic(auto)]
 
 pub mod complete;

@@ -26,14 +26,6 @@ pub enum Rejection {
     Refused(Refusal),
 }
 
-impl From<Refusal> for Rejection {
-    ghost from_gives = { λ refusal rejection. rejection ≡ Refused refusal };
-
-    fn from(refusal: Refusal) -> Rejection {
-        Rejection::Refused(refusal)
-    }
-}
-
 // "Tested in number order", but "22 is tested ahead of 21" (R-5).
 const ORDER: [u8; 35] = [
     1, 2, 3, 4, 5, 6, 7, 8, 9, 10, 11, 12, 13, 14, 15, 16, 17, 18, 19, 20, 22, 21, 23, 24, 25, 26,

@@ -1,6 +1,6 @@
 -- The facts of a list's entry, read off the code's tables.
 use mathlib.Core.Path.{◌≡◌, refl, ap, sym, ◌∙◌}
-use mathlib.Core.Bool.{Bool, true, false, not, cond, ◌&&◌}
+use mathlib.Core.Bool.{Bool, true, false, not, ◌&&◌}
 use mathlib.Core.List.{List, [], ◌∷◌, map}
 use Prim.Native.Nat.{ℕ, zero, suc, ◌+◌, ◌-◌, ◌/◌, ◌%◌, ◌≤◌, ◌<◌}
 use native.Mathlib.Decide.{dec_lt}
@@ -15,7 +15,7 @@ use Rattle.texts.specs.Quoted.{Text, words}
 use Rattle.texts.specs.Texts.{every, any, same, between, value_of, value, number, ◌is_one_of◌}
 use Rattle.sheets.specs.Forms.{person, document, pension, date}
 use Rattle.sheets.specs.Lists.{statuses, letter_pairs, basis_texts, zero_texts}
-use Rattle.sheets.specs.Working.Entries.{basis_count, zero_count, row_of, place_in, count_in, status_at}
+use Rattle.sheets.specs.Working.Entries.{basis_count, zero_count, row_of, place_in, count_in}
 use Rattle.sheets.specs.Working.Facts.{numbers_of, standing_by, standing_of, basis_of, document_of, day_of, facts_by, Read}
 use Rattle.sheets.specs.Dates.{force_of, texts_in, status_texts, status_count}
 use Rattle.sheets.specs.Sheet.{Sheet}
@@ -75,8 +75,6 @@ unfolding place_in
 number-made F k x y r h ex ey er = er ∙ cc (number_in F k h, one-if (leb 1 k && not F.s02), one-if (leb 21 (k + x) && not F.s32))
 
 -- status_at
-pub status-at-blank : (f : Facts) (k : ℕ) (r : Standing) → f.status.blank ≡ true → r ≡ standing_of f.force (get_or (texts_in f.force) k []) → r ≡ status_at f k
-status-at-blank f k r b e = e ∙ ap (λ (x : Bool). cond x (standing_of f.force (get_or (texts_in f.force) k [])) f.status) (sym b)
 
 -- status_count
 pub status-count : (f : Facts) (n : ℕ) → n ≡ count_in f.force → ((D : Dates) (s : Sheet) → Read D f s → n ≡ status_count D) × ((20 ≤ n) × ((n ≤ 23) × (n ≡ count_in f.force)))

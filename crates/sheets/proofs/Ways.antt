@@ -10,12 +10,12 @@ use borrow.Author.Tests.{eqb-true, eq-eqb, ne_eqb, lt-ltb, le-ltb, le-leb, lt-le
 use lib.Dec.{eqb, leb, ltb}
 use lib.ListN.{length, get_or, replicate}
 use Rattle.texts.specs.Quoted.{Text}
-use Rattle.texts.specs.Texts.{every, any, are, among, between, same, starts_with, digits, value_of, value, number, weighted, ◌is_one_of◌, ◌begins◌}
+use Rattle.texts.specs.Texts.{every, any, are, among, between, same, starts_with, digits, value_of, value, number, weighted, ◌is_one_of◌}
 use Rattle.texts.proofs.Bools.{both}
 use Rattle.texts.proofs.Codes.{same_true, is-one-of}
 use Rattle.texts.proofs.Arms.{AnyOf, arm, outside}
 use Rattle.sheets.specs.Sheet.{sheet_size, text_of}
-use Rattle.sheets.specs.Forms.{weights10, check_digit, inn10, digits10, digit_or_capital, kpp, person, snils_bound, snils_check, snils, pension, leap, month_days, gregorian, date}
+use Rattle.sheets.specs.Forms.{check_digit, digit_or_capital, kpp, person, snils_bound, snils_check, snils, pension, leap, month_days, gregorian, date}
 use Rattle.sheets.specs.Lists.{customs_group, treasury_group, courts_group, personal_group, banks_b, person_types, zero_texts}
 use Rattle.sheets.specs.Working.Facts.{numbers_of, is_b, in_set, allowed_by, groups_by, groups_of, standing_by, standing_of, wanted_by, basis_of, document_of, day_of, facts_by, facts_of, facts_in, Read}
 use Rattle.sheets.specs.declared.forms.Wanted.TheVariants.{Any, Ten}
@@ -225,5 +225,3 @@ facts-is D s h d r F a b c y t u v w eh ed er eF et ea eu eb ev ec ew ey l =
     (λ z. record { size = l; facts = e }, e ∙ rw (eq-eqb (length s) sheet_size l))
 
 -- has_ten
-pub inn-ten : (t : Text) (b : Bool) → b ≡ inn10 t → b ≡ true → true ≡ digits10 t
-inn-ten t b e h = let q = both (digits10 t && not (t begins "00")) (check_digit weights10 t) (sym e ∙ h) in sym (both (digits10 t) _ q.0).0

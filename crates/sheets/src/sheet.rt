@@ -135,7 +135,7 @@ fn cell_ok(c: &[u8]) -> bool
 }
 
 // Fifteen cells are so, the first at a place and each next a step further: a sheet's, or those in a draft. One loop tests both, so
-// that `cell_ok` is called from one place and compiled into it; those that are so are counted.
+// that `cell_ok` is called from one place and compiled into it; it ends at the first that is not so.
 pub fn cells_ok(t: &[u8], first: u8, step: u8) -> bool
     ensures { result ≡ cells_at step slot_count t.now first }
 {

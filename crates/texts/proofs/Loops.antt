@@ -3,7 +3,7 @@
 use mathlib.Core.Path.{◌≡◌, refl, ap}
 use mathlib.Core.Bool.{Bool, false, ◌&&◌, ◌||◌, and-false, and-true, and_assoc, or-false, or_assoc}
 use mathlib.Core.List.{List, [], ◌∷◌}
-use Prim.Native.Nat.{ℕ, suc, ◌+◌, ◌-◌, ◌≤◌, ◌<◌}
+use Prim.Native.Nat.{ℕ, suc, ◌+◌, ◌≤◌, ◌<◌}
 use native.Mathlib.Numerals.{add-one}
 use native.Mathlib.Omega.{arith}
 use borrow.Author.Rules.{rules}
@@ -15,12 +15,6 @@ use Rattle.texts.specs.Texts.{every, any, are, same}
 -- the loop's head: i bytes are passed, and g was found so far
 abbrev pub AllSoFar : (ℕ → Bool) → List ℕ → Bool → ℕ → Type 0
 AllSoFar p t g i = (i ≤ length t) × (every p t ≡ (g && every p (drop i t)))
-
-abbrev pub OneSoFar : (ℕ → Bool) → List ℕ → Bool → ℕ → Type 0
-OneSoFar p t g i = (i ≤ length t) × (any p t ≡ (g || any p (drop i t)))
-
-abbrev pub turns_left : List ℕ → ℕ → ℕ
-turns_left t i = length t - i
 
 module _ (p : ℕ → Bool) (t : List ℕ) (i : ℕ) (g : Bool) where
   pub every_more : (b : Bool) → every p t ≡ (g && every p (drop i t)) → i < length t → b ≡ p (get_or t i 0)

@@ -53,7 +53,7 @@ value-done t i n e l h k =
     let f : i ≡ length t = omega arith in
     (sym (e ∙ rw (drop_of_length-le t k)), subst (λ (j : ℕ). n < 10 ^ j) f l)
 
--- ---- number_2 and the like
+-- ---- number
 
 module _ (t : List ℕ) (n : ℕ) (b : Bool) (e : b ≡ digits n t) (h : not b ≡ false) where
   pub digits-sized : length t ≡ n
