@@ -1,6 +1,6 @@
 // Cases of amounts, registers and payments.
 use crate::fields::Fields;
-use crate::written::Refused;
+use crate::written::{OK, Refused};
 use amounts::amount::Kopecks;
 use amounts::charge::Rate;
 use amounts::part::{Days, Portion};
@@ -17,7 +17,7 @@ pub(crate) fn charge<W: Write>(mut fields: Fields<'_>, out: &mut W) -> Result<()
     let least = Kopecks(fields.u64());
     let greatest = Kopecks(fields.u64());
     match amounts::charge::charge(amount, rate, least, greatest) {
-        Ok(charge) => write!(out, "ok {}", charge.0),
+        Ok(charge) => write!(out, "{OK} {}", charge.0),
         Err(refusal) => write!(out, "{}", Refused(refusal)),
     }
 }
@@ -28,7 +28,7 @@ pub(crate) fn part_of_year<W: Write>(mut fields: Fields<'_>, out: &mut W) -> Res
     let days = Days(fields.u32());
     let year = Days(fields.u32());
     match amounts::part::part(amount, days, year) {
-        Ok(Portion { kopecks, remainder }) => write!(out, "ok {} {}", kopecks.0, remainder.0),
+        Ok(Portion { kopecks, remainder }) => write!(out, "{OK} {} {}", kopecks.0, remainder.0),
         Err(refusal) => write!(out, "{}", Refused(refusal)),
     }
 }
@@ -61,6 +61,8 @@ fn shares_of<W: Write>(amount: Kopecks, year: Days, periods: &[u32], out: &mut W
 }
 
 // A register is pooled, for the order's amount of eight bytes, into an output that is a byte short where the byte behind it is 1.
+// Not inlined, so that other cases need no room for the outputs.
+#[inline(never)]
 pub(crate) fn pool<W: Write>(mut fields: Fields<'_>, out: &mut W) -> Result<()> {
     let amount = Kopecks(fields.u64());
     if fields.u8() == 1 {
@@ -78,9 +80,9 @@ fn pool_into<W: Write>(
     out: &mut W,
 ) -> Result<()> {
     match registers::pool::pool(register, amount, output) {
-        Ok(lines) => write!(out, "ok {lines}")?,
+        Ok(lines) => write!(out, "{OK} {lines}")?,
         Err(Unpooled::Differs(difference)) => {
-            write!(out, "{} {}", Refused(Refusal::Differs), shown(difference))?;
+            write!(out, "{}{}", Refused(Refusal::Differs), shown(difference))?;
         }
         Err(Unpooled::Refused(refusal)) => write!(out, "{}", Refused(refusal))?,
     }
@@ -90,13 +92,13 @@ fn pool_into<W: Write>(
     write_line(part(output, 9980, 10000), out)
 }
 
-// A difference: 1 and -1 as they are, of others which sum is more.
+// A difference, behind a space: 1 and -1 as they are, of others which sum is more.
 fn shown(difference: i64) -> &'static str {
     match difference {
-        1 => "1",
-        -1 => "-1",
-        d if d < 0 => "less",
-        _ => "more",
+        1 => " 1",
+        -1 => " -1",
+        d if d < 0 => " less",
+        _ => " more",
     }
 }
 
@@ -132,7 +134,7 @@ fn leave_of<W: Write>(
 ) -> Result<()> {
     let mut places = [7; 64];
     match payments::leave::leave(balance, priorities, arrivals, amounts, &mut places) {
-        Ok(Debited { paid, sum, left }) => write!(out, "ok {paid} {} {}", sum.0, left.0)?,
+        Ok(Debited { paid, sum, left }) => write!(out, "{OK} {paid} {} {}", sum.0, left.0)?,
         Err(refusal) => write!(out, "{}", Refused(refusal))?,
     }
     for place in &places[..6] {

@@ -1,6 +1,6 @@
 // Cases of messages and drafts.
 use crate::fields::Fields;
-use crate::written::{Refused, write_refused, write_slots, write_text};
+use crate::written::{OK, Refused, write_refused, write_slots, write_text};
 use drafts::draft::{DRAFT_SIZE, revision_in, text_in};
 use drafts::message::{Heading, Version, message_text};
 use drafts::revision::{Party, Revision, Standing};
@@ -59,7 +59,7 @@ fn write_into<W: Write>(
     match message::write(heading, text, buffer) {
         Ok(size) => {
             let head = heading.version.head_size();
-            write!(out, "ok {size}")?;
+            write!(out, "{OK} {size}")?;
             for b in part(buffer, 0, head) {
                 write!(out, " {b}")?;
             }

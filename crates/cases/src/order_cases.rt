@@ -4,7 +4,7 @@ ghost use Rattle.std.specs.Io.KnownBytes.{Appends};
 ghost use Rattle.report.specs.Report.{report_of};
 
 use crate::fields::Fields;
-use crate::written::{Broken, Refused, Rejected, write_text};
+use crate::written::{Broken, OK, Refused, Rejected, write_text};
 use orders::complete::{Filled, Incomplete};
 use orders::pretest::Named;
 use orders::quick::quick;
@@ -29,7 +29,7 @@ fn complete_draft<W: Write>(
     let answer = quick(draft, &mut sheet, dates);
     match answer.completed {
         Ok(Filled { count, set, ones }) => {
-            write!(out, "ok {count} {set} {ones} ")?;
+            write!(out, "{OK} {count} {set} {ones} ")?;
             write_text(text(&sheet, 6), out)?;
         }
         Err(Incomplete::Impossible(count)) => {
@@ -75,7 +75,7 @@ pub(crate) fn take_up_set<W: Write>(mut fields: Fields<'_>, out: &mut W) -> Resu
 // A draft is tested ahead of completion.
 pub(crate) fn pretest<W: Write>(draft: &[u8], out: &mut W) -> Result<()> {
     match pretest::pretest(draft) {
-        Ok(Some(Named { field, rule })) => write!(out, "ok {} {}", field.0, rule.0),
+        Ok(Some(Named { field, rule })) => write!(out, "{OK} {} {}", field.0, rule.0),
         Ok(None) => write!(out, "ok none"),
         Err(rejection) => write!(out, "{}", Rejected(rejection)),
     }
@@ -87,7 +87,7 @@ pub(crate) fn entry<W: Write>(mut fields: Fields<'_>, out: &mut W) -> Result<()>
     let place = usize::from(fields.u16());
     let field = Field(fields.u8());
     match entry::entry(field, place, dates) {
-        Ok(Some(row)) => write!(out, "ok {} {} {}", row.length, row.first, row.second),
+        Ok(Some(row)) => write!(out, "{OK} {} {} {}", row.length, row.first, row.second),
         Ok(None) => write!(out, "ok none"),
         Err(refusal) => write!(out, "{}", Refused(refusal)),
     }
@@ -102,7 +102,8 @@ pub(crate) fn origins<W: Write>(input: &[u8], out: &mut W) -> Result<()> {
     Ok(())
 }
 
-// The report of an input of the program budgetorder, with all its lines.
+// The report of an input of the program budgetorder, with all its lines. Not inlined, so that other cases need no room for it.
+#[inline(never)]
 pub(crate) fn report<W: Write>(input: &[u8], out: &mut W) -> Result<()>
     ensures { length input.now ≤ 32768 → OnOk result (Appends (W.contents out.old) (W.contents out.new) (report_of input.now)) }
 {

@@ -1,6 +1,7 @@
 // Cases of sheets and of their lines.
-use crate::written::{Refused, Rejected, write_slots};
+use crate::written::{OK, Refused, Rejected, write_slots};
 use rules::all_broken;
+use rules::check::Rejection;
 use rules::class::Class;
 use sheets::dates::Dates;
 use sheets::sheet::SHEET_SIZE;
@@ -8,20 +9,21 @@ use std::io::{Result, Write};
 use swift::{read, write};
 use texts::parts::part;
 
-// The class of a sheet.
+// The class of a sheet, or a broken rule behind 8 and the field that it names, the 8 and its space at one time.
 pub(crate) fn check<W: Write>(sheet: &[u8], dates: Dates, out: &mut W) -> Result<()> {
     match rules::check::check(sheet, dates) {
         Ok(Class::A) => write!(out, "ok A"),
         Ok(Class::B) => write!(out, "ok B"),
         Ok(Class::O) => write!(out, "ok O"),
-        Err(rejection) => write!(out, "{}", Rejected(rejection)),
+        Err(Rejection::Broken(field, rule)) => write!(out, "8 {} {}", field.0, rule.0),
+        Err(Rejection::Refused(refusal)) => write!(out, "{}", Refused(refusal)),
     }
 }
 
 // All rules that a sheet breaks.
 pub(crate) fn broken_rules<W: Write>(sheet: &[u8], dates: Dates, out: &mut W) -> Result<()> {
     match all_broken::broken_rules(sheet, dates) {
-        Ok(set) => write!(out, "ok {set}"),
+        Ok(set) => write!(out, "{OK} {set}"),
         Err(refusal) => write!(out, "{}", Refused(refusal)),
     }
 }
@@ -35,7 +37,7 @@ pub(crate) fn write_lines<W: Write>(
 ) -> Result<()> {
     match write::write_lines(sheet, dates, buffer) {
         Ok(size) => {
-            writeln!(out, "ok {size}")?;
+            writeln!(out, "{OK} {size}")?;
             out.write_all(part(buffer, 0, size))
         }
         Err(rejection) => write!(out, "{}", Rejected(rejection)),

@@ -1,10 +1,10 @@
-// The standard input and output.
+// The standard input and output. Assumes the contracts of libc's read and write.
 ghost use Rattle.std.specs.Prelude.{◌≡◌, ◌≤◌, length};
 
 use crate::answer;
 use crate::kind::Kind;
 use crate::stream::Cases;
-use std::io::{Error, ErrorKind, Result, Write};
+use std::io::{Result, Write};
 
 // The numbers of the streams.
 const STDIN_FILENO: i32 = 0;
@@ -27,17 +27,20 @@ fn read_input(buffer: &mut [u8]) -> &[u8]
     &buffer[..size]
 }
 
-// The standard output, as a writer.
+// The standard output, as a writer. What can't be written is left out, and the next is tried.
 #[derive(Drop)]
 struct Output;
 
 impl Write for Output {
     fn write(&mut self, bytes: &[u8]) -> Result<usize> {
-        if io::write_all(STDOUT_FILENO, bytes) {
-            Ok(bytes.len())
-        } else {
-            Err(Error::from(ErrorKind::WriteZero))
-        }
+        io::write_all(STDOUT_FILENO, bytes);
+        Ok(bytes.len())
+    }
+
+    // In one call, since `write` takes all of them.
+    fn write_all(&mut self, bytes: &[u8]) -> Result<()> {
+        self.write(bytes)?;
+        Ok(())
     }
 
     fn flush(&mut self) -> Result<()> {
@@ -45,13 +48,11 @@ impl Write for Output {
     }
 }
 
-// Runs the cases of the standard input and writes what each answers, one behind another, as far as it can be written; a case whose kind is none of
-// these is answered with a line end alone.
+// Runs the cases of the standard input and writes what each answers, one behind another; a case whose kind is none of these is answered with
+// a line end alone.
 pub fn run(kinds: &[Kind]) {
     let mut buffer: [u8; 524288] = zeros();
     for case in Cases::of(read_input(&mut buffer), kinds) {
-        if answer(case, &mut Output).is_err() {
-            return;
-        }
+        let _ = answer(case, &mut Output);
     }
 }

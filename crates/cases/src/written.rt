@@ -6,6 +6,10 @@ use std::fmt;
 use std::io::{Result, Write};
 use texts::answers::Refusal;
 
+// What an answer that is no refusal begins with. As a hole of a format it is written apart from the text behind it, and what the standard output
+// does not take is left out by what is written at one time.
+pub(crate) const OK: &str = "ok";
+
 // A refusal, by its number.
 #[derive(Clone, Copy, Drop)]
 pub(crate) struct Refused(pub(crate) Refusal);
@@ -62,6 +66,6 @@ pub(crate) fn write_slots<W: Write>(sheet: &[u8], out: &mut W) -> Result<()> {
 
 // A refusal, and whether the lent buffer is as it was.
 pub(crate) fn write_refused<W: Write>(refusal: Refusal, kept: bool, out: &mut W) -> Result<()> {
-    let state = if kept { "kept" } else { "changed" };
-    write!(out, "{} {state}", Refused(refusal))
+    let state = if kept { " kept" } else { " changed" };
+    write!(out, "{}{state}", Refused(refusal))
 }

@@ -4,19 +4,18 @@ use mathlib.Core.Bool.{Bool, true, false, not}
 use mathlib.Core.List.{List, [], ◌∷◌}
 use Prim.Native.Nat.{ℕ, ◌+◌, ◌-◌, ◌≤◌, ◌<◌}
 use native.Mathlib.Omega.{arith}
-use borrow.Author.Tests.{ltb-false}
+use borrow.Author.Tests.{ne_eqb, ltb-false}
 use borrow.Author.Rules.{rules}
 use Rattle.std.specs.Prelude.{Result, Ok, Err}
 use mir.Syntax.{w8, w32, w64}
 use mir.Val.{Fits}
 use lib.Dec.{eqb, ltb}
-use lib.ListN.{length, take, drop, get_or, replicate, length-drop}
+use lib.ListN.{length, take, drop, get_or, length-drop}
 use lib.Seq.{take_all, get_or-take, get_or-drop}
 use Rattle.texts.specs.Answers.{success}
 use Rattle.texts.specs.Texts.{between}
 use Rattle.texts.specs.Numbers.{big, bytes_of, bytes_at}
 use Rattle.texts.specs.Buffers.{put}
-use Rattle.texts.proofs.Bools.{cases}
 use Rattle.texts.specs.Working.Writing.{put_at}
 use Rattle.texts.proofs.Puts.{put-fits, put_next, mid-put, drop-put}
 use Rattle.texts.proofs.Refusals.{no-success, succeeds, succeeded, unchanged, Way, way_out, tested}
@@ -194,14 +193,15 @@ writes-by g t b r e h p q = record {
           ap (drop n) u ∙ drop-put b 0 (message_of w f v t) n (omega arith) (omega (arith, W.room)),
         )
 
--- the head: in version 1 the field is put over the party
-pub head-made : (w f n : ℕ) (v : Revision) (d x y z : List ℕ) (l k : ℕ) → d ≡ bytes_of revision_size v.number → k ≡ body_place w → l ≡ n + least_l w
-    → x ≡ put_at (replicate 9 0) 0 (0 ∷ l ∷ w ∷ v.party.0 ∷ [])
-    → y ≡ put_at x k (f ∷ [])
-    → z ≡ put_at y (k + revision_place) d
-    → take (head_size w) z ≡ head_bytes w f v n
-unfolding head_bytes opening put_at put
-head-made w f n v d x y z l k ed ek el ex ey ez = cases (eqb w 2) (λ t. rw (ez, ey, ex, ek, el, ed, t)) (λ t. rw (ez, ey, ex, ek, el, ed, t))
+-- the head, in either version
+module _ (w f n : ℕ) (v : Revision) (d : List ℕ) (l : ℕ) (ed : d ≡ bytes_of revision_size v.number) (el : l ≡ n + least_l w) where
+  pub head-second : w ≡ 2 → take (head_size w) (0 ∷ l ∷ w ∷ v.party.0 ∷ f ∷ get_or d 0 0 ∷ get_or d 1 0 ∷ get_or d 2 0 ∷ get_or d 3 0 ∷ []) ≡ head_bytes w f v n
+  unfolding head_bytes opening
+  head-second e = rw (el, ed, e)
+
+  pub head_first : (w ≡ 2 → ⊥) → take (head_size w) (0 ∷ l ∷ w ∷ f ∷ get_or d 0 0 ∷ get_or d 1 0 ∷ get_or d 2 0 ∷ get_or d 3 0 ∷ 0 ∷ []) ≡ head_bytes w f v n
+  unfolding head_bytes opening
+  head_first e = rw (el, ed, ne_eqb w 2 e)
 
 pub head-put : (w f : ℕ) (v : Revision) (t b d c x e : List ℕ) (s : ℕ) → s ≡ head_size w → take (head_size w) d ≡ head_bytes w f v (length t) → c ≡ between d 0 s → x ≡ put_at b 0 c → e ≡ put_at x s t
     → e ≡ put_at (put_at b 0 (head_bytes w f v (length t))) (head_size w) t
@@ -236,6 +236,6 @@ message-put w f v t b e s ee es u =
     let c = head_bytes w f v (length t) in
     ee ∙ put_next b c t (put_at b 0 c) (head_size w) (length-head w f v (length t)) (omega arith) (put-fits b 0 c (omega (arith, length-head w f v (length t))))
 
-pub ruleset heads = (rules, head-made, head-put, body_is, text-is)
+pub ruleset heads = (rules, head-second, head_first, head-put, body_is, text-is)
 
 pub ruleset writing = (rules, tested, sum_fits, known_as, allowed-as, field-as, room_as, size_is, message-put)

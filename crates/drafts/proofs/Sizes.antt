@@ -4,7 +4,7 @@ use mathlib.Core.Bool.{Bool, true, false, not, ◌||◌, false≢true}
 use mathlib.Core.List.{List}
 use Prim.Native.Nat.{ℕ, ◌+◌, ◌<◌, ◌≤◌}
 use native.Mathlib.Omega.{arith}
-use borrow.Author.Tests.{lt-ltb, le-ltb, eq-eqb, ltb-true, eqb-true}
+use borrow.Author.Tests.{lt-ltb, le-ltb, eq-eqb, ne_eqb, ltb-true, eqb-true}
 use lib.Dec.{eqb, ltb}
 use lib.ListN.{length}
 use Rattle.texts.proofs.Bools.{cases, alike}
@@ -35,6 +35,16 @@ twice false = refl
 or-none : (b : Bool) → (b || false) ≡ b
 or-none true = refl
 or-none false = refl
+
+-- `takes` of version 2, and of another
+module _ (w n : ℕ) where
+  pub takes-second : w ≡ 2 → not (eqb n (least_l 1 + 2)) ≡ takes w n
+  unfolding takes
+  takes-second e = rw e
+
+  pub takes_first : (w ≡ 2 → ⊥) → not (eqb n (most_l 2 + 2)) ≡ takes w n
+  unfolding takes
+  takes_first e = rw (ne_eqb w 2 e)
 
 -- of the sizes that one of either version may have, each takes those that it allows
 pub takes-is : (n l : ℕ) → l + 2 ≡ n → least_l 1 ≤ l → l ≤ most_l 2 → (w : ℕ) → takes w n ≡ not (disallowed w l)

@@ -3,15 +3,24 @@ use mathlib.Core.Path.{◌≡◌, refl, ap, ◌∙◌}
 use mathlib.Core.List.{List, [], ◌∷◌, ◌++◌}
 use Prim.Native.Nat.{ℕ, ◌+◌, ◌-◌, ◌≤◌}
 use native.Mathlib.Omega.{arith}
-use lib.ListN.{length, replicate}
-use Rattle.texts.specs.Numbers.{bytes_of}
+use lib.ListN.{length, get_or, replicate}
+use Rattle.texts.specs.Numbers.{big, bytes_of}
 use Rattle.texts.specs.Buffers.{put}
 use Rattle.texts.specs.Working.Writing.{put_at}
 use Rattle.texts.proofs.Puts.{put_next, put-zeros}
 use Rattle.sheets.specs.Sheet.{text_max, cell}
+use Rattle.drafts.specs.Revision.{◌by◌}
 use Rattle.drafts.specs.Message.{revision_size}
-use Rattle.drafts.specs.Draft.{cell_place, slot_size, slot_bytes}
+use Rattle.drafts.specs.Draft.{cell_place, slot_size, slot_revision, slot_bytes}
 use Rattle.drafts.specs.declared.revision.Revision.{Revision}
+use Rattle.drafts.proofs.Messages.{revision-is}
+
+-- ---- the revision of a slot
+
+pub slot_read : (s : List ℕ) (a b c d p n : ℕ) → a ≡ get_or s 0 0 → b ≡ get_or s 1 0 → c ≡ get_or s 2 0 → d ≡ get_or s 3 0 → p ≡ get_or s revision_size 0 → n ≡ big (a ∷ b ∷ c ∷ d ∷ [])
+    → record { number = n; party = record { 0 = p } } ≡ slot_revision s
+unfolding slot_revision
+slot_read s a b c d p n ea eb ec ed ep en = revision-is (n by p) _ _ (en ∙ rw (ea, eb, ec, ed)) ep
 
 -- ---- the bytes of a slot
 

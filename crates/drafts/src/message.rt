@@ -173,8 +173,7 @@ pub fn message_text(message: &[u8]) -> &[u8]
     part(body, TEXT_PLACE, body.len())
 }
 
-// The bytes before a text of n bytes, at the start of an array that has room for the longest head. The field of version 1 stands where the
-// party of version 2 does.
+// The bytes before a text of n bytes, at the start of an array that has room for the longest head.
 #[tactic(auto, using(crate::proofs::MessagePromises::heads))]
 fn head(heading: Heading, n: usize) -> [u8; HEAD_MOST]
     requires { n ≤ text_max }
@@ -185,20 +184,27 @@ fn head(heading: Heading, n: usize) -> [u8; HEAD_MOST]
         field,
         revision,
     } = heading;
-    let l = version.head_size() - 2 + n;
-    let place = version.body_place();
-    let mut head = [0u8; HEAD_MOST];
-    put(&mut head, 0, &[0, l as u8, version.0, revision.party.0]);
-    put(&mut head, place, &[field.0]);
-    put(
-        &mut head,
-        place + REVISION_PLACE,
-        &bytes_of::<4>(u64::from(revision.number)),
-    );
-    head
+    let l = (version.head_size() - 2 + n) as u8;
+    let d = bytes_of::<4>(u64::from(revision.number));
+    if version.0 == 2 {
+        [
+            0,
+            l,
+            version.0,
+            revision.party.0,
+            field.0,
+            d[0],
+            d[1],
+            d[2],
+            d[3],
+        ]
+    } else {
+        [0, l, version.0, field.0, d[0], d[1], d[2], d[3], 0]
+    }
 }
 
-// Puts a message's head and its text at the buffer's start.
+// Puts a message's head and its text at the buffer's start. It is compiled into `write`, which has the heading's parts at hand.
+#[inline(always)]
 fn put_message(heading: Heading, text: &[u8], buffer: &mut [u8])
     requires { length text.now ≤ text_max }
     ensures { buffer.new ≡ put_at (put_at buffer.old 0 (head_bytes heading.version.0 heading.field.0 heading.revision (length text.now))) (head_size heading.version.0) text.now }

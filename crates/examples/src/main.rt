@@ -1,5 +1,6 @@
 // Runs the cases of its input and writes what each answers: document 01's examples and boundary cases, with what a second
 // implementation answers as the expected output.
+// Assumes the contracts of libc's read and write.
 #![tactic(auto)]
 
 use cases::{Kind, run};

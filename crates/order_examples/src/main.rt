@@ -1,5 +1,6 @@
 // Runs the cases of its input and writes what each answers: orders completed, taken up and tested ahead, lists, origins, and whole reports,
 // with what a second implementation answers as the expected output.
+// Assumes the contracts of libc's read and write.
 #![tactic(auto)]
 
 use cases::{Kind, run};

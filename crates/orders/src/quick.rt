@@ -65,13 +65,14 @@ pub fn quick(draft: &[u8], sheet: &mut [u8], dates: Dates) -> Quickened
         None => Err(Incomplete::Impossible(found.count)),
         Some(pick) => {
             let set = filled_set(draft);
-            fill_found(&mut work, pick, dates, set);
-            put(sheet, 0, &work);
-            Ok(Filled {
+            let filled = Filled {
                 count: found.count,
                 set,
                 ones: set.count_ones(),
-            })
+            };
+            fill_found(&mut work, pick, dates, set);
+            put(sheet, 0, &work);
+            Ok(filled)
         }
     };
     Quickened {

@@ -95,46 +95,43 @@ fn walk_kept(f: Facts) -> Found
 {
     let mut count: usize = 0;
     let mut skipped: usize = 0;
+    let mut pick = None;
     let n101 = statuses_of(f);
     let n106 = width_of(blank_basis(f), BASIS_COUNT);
     let n108 = width_of(blank_document(f), ZERO_COUNT);
     let n109 = width_of(blank_day(f), ZERO_COUNT);
     let each = fillings_of(f);
-    for a in 0..n101 {
+    'statuses: for a in 0..n101 {
         let f1 = fill_status(f, a);
         let kept1 = kept_status(f1);
         let pace = pace_of(kept1, n106, each);
         count += pace.fillings;
         skipped += pace.statuses;
-        for b in 0..pace.bases {
+        'bases: for b in 0..pace.bases {
             let f2 = fill_basis(f1, f, b);
             let kept2 = kept1 & kept_basis(f2);
-            for c in 0..n108 {
+            'documents: for c in 0..n108 {
                 let f3 = fill_document(f2, f, c);
                 let kept3 = kept2 & kept_document(f3);
-                for d in 0..n109 {
+                'days: for d in 0..n109 {
                     let f4 = fill_day(f3, f, d);
                     let kept4 = kept3 & kept_day(f4);
                     count += 1;
                     if kept4 {
-                        let pick = Pick {
+                        pick = Some(Pick {
                             status: a,
                             basis: b,
                             document: c,
                             day: d,
-                        };
-                        return Found {
-                            pick: Some(pick),
-                            count,
-                            skipped,
-                        };
+                        });
+                        break 'statuses;
                     }
                 }
             }
         }
     }
     Found {
-        pick: None,
+        pick,
         count,
         skipped,
     }

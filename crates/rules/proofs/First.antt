@@ -1,12 +1,14 @@
 -- The first of some numbers that fails a test.
 use mathlib.Core.Path.{◌≡◌, refl, ap, sym, ◌∙◌}
-use mathlib.Core.Bool.{Bool, true, false, not, cond, ◌&&◌}
+use mathlib.Core.Bool.{Bool, true, false, not, cond, ◌&&◌, and_assoc, and-true}
 use mathlib.Core.List.{List, [], ◌∷◌, ◌++◌, map}
-use Prim.Native.Nat.{ℕ}
+use Prim.Native.Nat.{ℕ, suc, ◌+◌, ◌≤◌, ◌<◌}
+use native.Mathlib.Numerals.{add-one}
 use borrow.Author.Tests.{eqb-true, eqb-false, not-true}
 use lib.Dec.{eqb}
+use lib.ListN.{length, get_or, drop, drop_of_length-le}
+use lib.Seq.{drop-cons}
 use Rattle.std.specs.Prelude.{Option, None, Some}
-use Rattle.std.specs.List.{list_all}
 use Rattle.std.specs.Option.{option_map, MatchOption, IsSomeAnd}
 use Rattle.std.proofs.lemmas.Option.{none-some, same_Some}
 use Rattle.texts.specs.Texts.{every}
@@ -105,9 +107,13 @@ named-none n e = go (eqb n 0) refl e
     go true h z = eqb-true n 0 h
     go false h z = let r : RuleNumber = record { 0 = n } in absurd (none-some r z)
 
--- ---- all_true
+-- ---- all_true: those up to i, and what is left from i
 
-pub all_listed : (os : List Bool) → list_all (λ o. o) os ≡ all_true os
-unfolding all_true
-all_listed [] = refl
-all_listed (o ∷ os) = ap (λ (b : Bool). o && b) (all_listed os)
+module _ (os : List Bool) (i : ℕ) (a : Bool) (e : all_true os ≡ (a && all_true (drop i os))) where
+  pub true-more : i < length os → all_true os ≡ ((a && get_or os i false) && all_true (drop (i + 1) os))
+  unfolding all_true
+  true-more h = e ∙ rw (add-one, drop-cons os i false) (sym (and_assoc a (get_or os i false) (all_true (drop (suc i) os))))
+
+  pub true-all : length os ≤ i → a ≡ all_true os
+  unfolding all_true
+  true-all h = sym (e ∙ rw drop_of_length-le (and-true a))

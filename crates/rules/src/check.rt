@@ -131,7 +131,7 @@ pub fn broken_ahead(f: Facts) -> Option<RuleNumber>
     first_broken(&kept, &AHEAD)
 }
 
-// What check asks of a sheet's facts, in words of the sheet: the first broken rule.
+// What check and a writer of MT103 lines ask of a sheet's facts, in words of the sheet: the first broken rule.
 pub fn broken(f: Facts) -> Option<RuleNumber>
     ensures { ((D : Dates) (s : Sheet) → Read D f s → result ≡ rule_named (first_broken D s order)) × (result ≡ rule_named (first_not (kept (judged_on f)) order)) }
 {

@@ -16,7 +16,11 @@ use sheets::facts::Facts;
 fn all_true(outcomes: &[bool]) -> bool
     ensures { result ≡ all_true outcomes.now }
 {
-    outcomes.iter().all(|kept| *kept)
+    let mut all = true;
+    for kept in outcomes {
+        all = all & *kept;
+    }
+    all
 }
 
 // The outcomes of the rules for every sheet, at their numbers.

@@ -1,5 +1,6 @@
 // Runs the cases of its input and writes what each answers: sheets, messages, drafts, lines and amounts, with what a second
 // implementation answers as the expected output.
+// Assumes the contracts of libc's read and write.
 #![tactic(auto)]
 
 use cases::{Kind, run};

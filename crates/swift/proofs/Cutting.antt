@@ -1,16 +1,14 @@
 -- Lines taken apart, and put together again.
 use mathlib.Core.Path.{◌≡◌, refl, sym, ap, ◌∙◌}
 use mathlib.Core.Logic.{◌⊎◌, inl, inr}
-use mathlib.Core.Bool.{Bool, true, false, ◌&&◌}
-use mathlib.Core.List.{List, [], ◌∷◌, ◌++◌, append_assoc}
+use mathlib.Core.Bool.{Bool, true, false, ◌&&◌, and-true}
+use mathlib.Core.List.{[], ◌++◌, append_assoc}
 use Prim.Native.Nat.{ℕ, ◌+◌, ◌-◌, ◌<◌, ◌≤◌}
 use native.Mathlib.Omega.{arith}
 use borrow.Author.Tests.{leb-true, le-leb, lt-leb}
 use lib.ListN.{length, take, drop, length-append, length-drop, take-append-drop}
 use lib.Seq.{take_all, take_at, drop_at, drop-drop, drop-length}
 use Rattle.texts.specs.Quoted.{Text, bytes}
-use Rattle.std.specs.List.{list_all}
-use denote.Ref.{Bor}
 use Rattle.texts.specs.Texts.{between, same, starts_with}
 use Rattle.texts.proofs.Codes.{same_true, same_self}
 use Rattle.sheets.specs.Sheet.{text_max}
@@ -110,6 +108,10 @@ lines-again b h =
 
 -- ---- has_marks
 
+and_right : (a b c : Bool) → ((a && b) && c) ≡ (a && (b && c))
+and_right true b c = refl
+and_right false b c = refl
+
 module _ (b : Text) where
   marks-low : length b < least_lines → false ≡ marked b
   unfolding marked all_true
@@ -124,39 +126,35 @@ module _ (b : Text) where
   marks-not (inr h) = marks-high h.1
 
   -- what the code asks at a place
-  abbrev pub stands : ℕ × Bor (List ℕ) → Bool
-  stands p = starts_with (between b p.0 (length b)) p.1.now
-
-  stands-as : (o n : ℕ) (t : Bor (List ℕ)) (m : Text) → t.now ≡ m → o + length m ≡ n → stands (o, t) ≡ same (between b o n) m
+  stands-as : (o n : ℕ) (r : Bool) (m : Text) → o + length m ≡ n → r ≡ starts_with (between b o (length b)) m → r ≡ same (between b o n) m
   unfolding between
-  stands-as o n t m e k =
+  stands-as o n r m k e =
       let w : take (length b - o) (drop o b) ≡ drop o b = take_all (length b - o) (drop o b) (omega (arith, length-drop o b)) in
       let j : length m - 0 ≡ n - o = omega arith in
-      rw (e, w, j)
+      e ∙ rw (w, j)
 
-  pub marks-are : (r : Bool) (ps : List (ℕ × Bor (List ℕ))) (t0 t1 t2 t3 t4 t5 t6 t7 : Bor (List ℕ)) → least_lines ≤ length b → length b ≤ most_lines
-      → r ≡ list_all stands ps
-      → ps ≡ (0, t0) ∷ (8, t1) ∷ (27, t2) ∷ (48, t3) ∷ (74, t4) ∷ (88, t5) ∷ (101, t6) ∷ (length b - 1, t7) ∷ []
-      → t0.now ≡ bytes before_status
-      → t1.now ≡ mark_bik
-      → t2.now ≡ bytes before_bank
-      → t3.now ≡ mark_account
-      → t4.now ≡ mark_payee
-      → t5.now ≡ bytes before_kpp
-      → t6.now ≡ mark_code
-      → t7.now ≡ line_feed
-      → r ≡ marked b
+  pub marks-are : (r0 r1 r2 r3 r4 r5 r6 r7 : Bool) → least_lines ≤ length b → length b ≤ most_lines
+      → r0 ≡ starts_with (between b 0 (length b)) (bytes before_status)
+      → r1 ≡ starts_with (between b 8 (length b)) mark_bik
+      → r2 ≡ starts_with (between b 27 (length b)) (bytes before_bank)
+      → r3 ≡ starts_with (between b 48 (length b)) mark_account
+      → r4 ≡ starts_with (between b 74 (length b)) mark_payee
+      → r5 ≡ starts_with (between b 88 (length b)) (bytes before_kpp)
+      → r6 ≡ starts_with (between b 101 (length b)) mark_code
+      → r7 ≡ starts_with (between b (length b - 1) (length b)) line_feed
+      → (((((((r0 && r1) && r2) && r3) && r4) && r5) && r6) && r7) ≡ marked b
   unfolding marked all_true
-  marks-are r ps t0 t1 t2 t3 t4 t5 t6 t7 l h e q h0 h1 h2 h3 h4 h5 h6 h7 =
-      let c0 = stands-as 0 6 t0 (bytes before_status) h0 refl in
-      let c1 = stands-as 8 18 t1 mark_bik h1 refl in
-      let c2 = stands-as 27 28 t2 (bytes before_bank) h2 refl in
-      let c3 = stands-as 48 54 t3 mark_account h3 refl in
-      let c4 = stands-as 74 78 t4 mark_payee h4 refl in
-      let c5 = stands-as 88 92 t5 (bytes before_kpp) h5 refl in
-      let c6 = stands-as 101 111 t6 mark_code h6 refl in
-      let c7 = stands-as (length b - 1) (length b) t7 line_feed h7 (omega arith) in
-      e ∙ ap (list_all stands) q ∙ (λ i. c0 i && (c1 i && (c2 i && (c3 i && (c4 i && (c5 i && (c6 i && (c7 i && true)))))))) ∙ sym (rw (le-leb least_lines (length b) l, le-leb (length b) most_lines h))
+  marks-are r0 r1 r2 r3 r4 r5 r6 r7 l h h0 h1 h2 h3 h4 h5 h6 h7 =
+      let e : (((((((r0 && r1) && r2) && r3) && r4) && r5) && r6) && r7) ≡ (r0 && (r1 && (r2 && (r3 && (r4 && (r5 && (r6 && (r7 && true)))))))) = simp (and_right, and-true) in
+      let c0 = stands-as 0 6 r0 (bytes before_status) refl h0 in
+      let c1 = stands-as 8 18 r1 mark_bik refl h1 in
+      let c2 = stands-as 27 28 r2 (bytes before_bank) refl h2 in
+      let c3 = stands-as 48 54 r3 mark_account refl h3 in
+      let c4 = stands-as 74 78 r4 mark_payee refl h4 in
+      let c5 = stands-as 88 92 r5 (bytes before_kpp) refl h5 in
+      let c6 = stands-as 101 111 r6 mark_code refl h6 in
+      let c7 = stands-as (length b - 1) (length b) r7 line_feed (omega arith) h7 in
+      e ∙ (λ i. c0 i && (c1 i && (c2 i && (c3 i && (c4 i && (c5 i && (c6 i && (c7 i && true)))))))) ∙ sym (rw (le-leb least_lines (length b) l, le-leb (length b) most_lines h))
 
 pub marked-low : (b : Text) → marked b ≡ true → least_lines ≤ length b
 unfolding marked

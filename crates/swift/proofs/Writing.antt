@@ -1,15 +1,15 @@
 -- Writing: the lines put one behind the other, the promise from its equations, and the ways out.
 use mathlib.Core.Path.{◌≡◌, refl, sym, ap, ◌∙◌}
-use mathlib.Core.Bool.{Bool, true, false, not, cond}
+use mathlib.Core.Bool.{Bool, true, false, not}
 use mathlib.Core.List.{List, [], ◌∷◌, ◌++◌, append_assoc}
 use Rattle.std.proofs.lemmas.List.{append-nil}
-use Rattle.std.specs.Prelude.{Result, Ok, Err}
+use Rattle.std.specs.Prelude.{Option, Some, None, Result, Ok, Err}
 use denote.Ref.{Bor}
 use Prim.Native.Nat.{ℕ, zero, suc, ◌+◌, ◌<◌, ◌≤◌}
 use native.Mathlib.Numerals.{add-one}
 use native.Mathlib.Omega.{arith}
 use borrow.Author.Tests.{eqb-true, le-leb, lt-ltb, le-ltb, ltb-false, not-false}
-use lib.Dec.{ltb}
+use lib.Dec.{eqb}
 use lib.ListN.{length, get_or, take, drop, length-append, take-append-drop}
 use lib.Seq.{take_all}
 use Rattle.texts.specs.Quoted.{Text, bytes}
@@ -17,24 +17,24 @@ use Rattle.texts.specs.Texts.{every, among}
 use Rattle.texts.specs.Buffers.{put}
 use Rattle.texts.specs.Working.Writing.{put_at, Wrote}
 use Rattle.texts.specs.Refusals.{refusal_number}
-use Rattle.texts.specs.declared.answers.Refusal.TheVariants.{WrongSize, NotLines}
-use Rattle.texts.specs.Answers.{success, refusal, passes, ◌refuses◌}
+use Rattle.texts.specs.declared.answers.Refusal.TheVariants.{Malformed, Undated, WrongSize, NotLines}
+use Rattle.texts.specs.Answers.{success, passes}
 use Rattle.texts.proofs.Bools.{and2}
 use Rattle.texts.proofs.Puts.{put-fits, length-put, mid-put, drop-put, wrote_as, wrote_then}
-use Rattle.texts.proofs.Refusals.{NoneOf, no-success, none_of, succeeds, succeeded, refused, unchanged, Way, way_out}
-use Rattle.sheets.specs.Sheet.{Sheet, text_max, short, well_formed, slot_of, text_of, ◌⟨◌⟩}
+use Rattle.texts.proofs.Refusals.{no-success, none_of, succeeds, succeeded, unchanged, Way, way_out}
+use Rattle.sheets.specs.Sheet.{Sheet, sheet_size, text_max, short, well_formed, slot_of, text_of, ◌⟨◌⟩}
 use Rattle.sheets.specs.Dates.{dates_fit, listed, status_texts}
+use Rattle.sheets.specs.Working.Facts.{Read}
 use Rattle.sheets.specs.declared.dates.Dates.{Dates}
+use Rattle.sheets.specs.declared.facts.Facts.{Facts}
+use Rattle.sheets.specs.declared.sheet.Field.{Field}
 use Rattle.sheets.proofs.Frames.{text-short}
-use Rattle.rules.specs.Rules.{class_a, class_b, class_of, keeps, keeps_all, order}
-use Rattle.rules.specs.Verdicts.{class_name, rejection_answer, verdict_answer, check_tests, checked}
-use Rattle.rules.specs.Checked.{Checked}
-use Rattle.rules.specs.declared.class.Class.{Class}
-use Rattle.rules.specs.declared.class.Class.TheVariants.{A, B, O}
-use Rattle.rules.specs.contracts.class.Class.{the_type}
-use denote.Enum.Bare.{sameb}
+use Rattle.rules.specs.Rules.{class_a, rules, order, field_of, keeps, keeps_all, first_broken, rule_named}
+use Rattle.rules.specs.Verdicts.{rejection_answer, check_tests}
+use Rattle.rules.specs.declared.rules.RuleNumber.{RuleNumber}
 use Rattle.rules.proofs.First.{none_kept, kept-none}
 use Rattle.rules.proofs.Means.{order-numbered}
+use Rattle.rules.proofs.Judging.{facts-read, none-as, first-as, beside-as}
 use Rattle.swift.specs.Lines.{line_feed, before_status, before_bik, before_bank, before_account, before_payee, before_kpp, before_code, Seven, ended, seven_in, lines_of, slot_texts, sheet_with, any_status, fits_in, fits}
 use Rattle.swift.specs.Working.Places.{least_lines, joined, lines_size}
 use Rattle.swift.specs.Promises.{written_answer, line_tests, writing_lines, lines_into, WritesLines}
@@ -223,69 +223,65 @@ pub write-out : (k : ℕ) (D : Dates) (s : Sheet) (o : List ℕ) (r : Result ℕ
 unfolding writing_lines lines_into
 write-out k D s o r e = way_out _ _ _ _ _ _ k (line_tests D s o) (λ p q. writes-by D s o r e p q)
 
--- ---- write_lines: what the check of the sheet answered
+-- ---- write_lines: its tests, one behind another
 
--- what a sheet of class A is, and one of another
-same_a : Class → Bool
-same_a c = sameb the_type c A
+module _ (D : Dates) (s : Sheet) (o : List ℕ) (w : Bool) (ew : w ≡ well_formed s) where
+  pub not-formed : w ≡ false → WritesLines D s o (Err (Refused Malformed)) o
+  unfolding check_tests line_tests written_answer rejection_answer
+  not-formed n = write-out 0 D s o _ o (ap not (sym ew ∙ n)) refl refl
 
-a-only : (a b : Bool) → same_a (cond a A (cond b B O)) ≡ a
-unfolding same_a
-a-only true b = refl
-a-only false true = refl
-a-only false false = refl
+  module _ (nw : w ≡ true) (v : Bool) (ev : v ≡ dates_fit D) where
+    formed : not (well_formed s) ≡ false
+    formed = ap not (sym ew ∙ nw)
 
-module _ (D : Dates) (s : Sheet) (o : List ℕ) (v : Result Class Rejection) (C : Checked D s v) where
-  -- a rejection is handed on
-  handed_on : (n : ℕ) (us : List ℕ) (r : Result ℕ Rejection) → verdict_answer v ≡ refusal n us → written_answer r ≡ refusal n us → WritesLines D s o r o
-  unfolding checked writing_lines lines_into line_tests
-  handed_on n us r e w =
-      let ls = length (lines_of (seven_in s)) in
-      let q = refused (class_name (class_of s)) (ls ∷ []) n us (check_tests D s) ((not (class_a s) refuses 11) ∷ (ltb (length o) ls refuses 7) ∷ []) (sym e ∙ C.answer) in
-      writes-by D s o r o (w ∙ q.1) (sym (unchanged (ls ∷ []) _ o (line_tests D s o) (λ z. no-success n us _ (q.1 ∙ z))))
+    pub not-dated : v ≡ false → WritesLines D s o (Err (Refused Undated)) o
+    unfolding check_tests line_tests written_answer rejection_answer
+    not-dated n = write-out 1 D s o _ o formed (ap not (sym ev ∙ n)) refl refl
 
-  pub rejects : (x : Rejection) (r : Result ℕ Rejection) → v ≡ Err x → r ≡ Err x → WritesLines D s o r o
-  unfolding verdict_answer written_answer rejection_answer
-  rejects (Broken f g) r z y = handed_on 8 (f.0 ∷ g.0 ∷ []) r (ap verdict_answer z) (ap written_answer y)
-  rejects (Refused k) r z y = handed_on (refusal_number k) [] r (ap verdict_answer z) (ap written_answer y)
+    -- what was read of the sheet, and its first broken rule
+    module _ (nv : v ≡ true) (x : Facts) (hx : length s ≡ sheet_size → Read D x s) (r : Option RuleNumber) (hr : (E : Dates) (t : Sheet) → Read E x t → r ≡ rule_named (first_broken E t order)) where
+      dated : not (dates_fit D) ≡ false
+      dated = ap not (sym ev ∙ nv)
 
-  module _ (c : Class) (z : v ≡ Ok c) where
-    accepted : NoneOf (check_tests D s)
-    unfolding checked verdict_answer
-    accepted = none_of (check_tests D s) (succeeded (class_name (class_of s)) (class_name c) (check_tests D s) (sym (ap verdict_answer z) ∙ C.answer)).0
+      facts : Read D x s
+      facts = facts-read D s w x ew (ap not nw) hx
 
-    kept : keeps_all D s ≡ true
-    unfolding check_tests keeps_all
-    kept = none_kept (keeps D s) order order-numbered (eqb-true _ _ (not-false _ accepted.1.1.0))
-
-    in_class_a : same_a c ≡ class_a s
-    unfolding check_tests class_of
-    in_class_a =
-        let e : v ≡ Ok (class_of s) = (C.accepted (not-false _ accepted.0) (not-false _ accepted.1.0)).1 kept in
-        let f : c ≡ class_of s = cc in
-        ap same_a f ∙ a-only (class_a s) (class_b s)
-
-    pub other-class : not (sameb the_type c A) ≡ true → WritesLines D s o (Err (Refused NotLines)) o
-    unfolding check_tests line_tests written_answer rejection_answer same_a
-    other-class n = write-out 3 D s o _ o accepted.0 accepted.1.0 accepted.1.1.0 (ap not (sym in_class_a) ∙ n) refl refl
-
-    -- the room that an accepted sheet of class A asks for
-    module _ (n : not (sameb the_type c A) ≡ false) (t : Text) (et : t ≡ text_of s 3) where
-      of_class_a : not (class_a s) ≡ false
-      unfolding same_a
-      of_class_a = ap not (sym in_class_a) ∙ n
-
-      sized : (lines_size s ≡ least_lines + length t) × (length (lines_of (seven_in s)) ≡ least_lines + length t)
-      sized = rw et (sizes s (fits-once D s kept (not-false _ of_class_a)))
-
-      pub too-short : length o < least_lines + length t → WritesLines D s o (Err (Refused WrongSize)) o
+      pub not-kept : (g : RuleNumber) → r ≡ Some g → (f : Field) → f.0 ≡ field_of rules g.0 s → WritesLines D s o (Err (Broken f g)) o
       unfolding check_tests line_tests written_answer rejection_answer
-      too-short h = write-out 4 D s o _ o accepted.0 accepted.1.0 accepted.1.1.0 of_class_a (rw sized.1 (lt-ltb (length o) (least_lines + length t) h)) refl refl
+      not-kept g e f h =
+          let n : Some g ≡ rule_named (first_broken D s order) = sym e ∙ hr D s facts in
+          write-out 2 D s o _ o formed dated (first-as D s g n) (beside-as D s g n f h) refl
 
-      pub room_for : least_lines + length t ≤ length o → lines_size s ≤ length o
-      room_for h = rw sized.0 h
+      module _ (e : r ≡ None) (a : Bool) (ha : (E : Dates) (t : Sheet) → Read E x t → a ≡ class_a t) where
+        none_broken : not (eqb (first_broken D s order) 0) ≡ false
+        none_broken = none-as D s (sym e ∙ hr D s facts)
 
-      pub write-whole : least_lines + length t ≤ length o → (r : ℕ) (x : List ℕ) → Wrote o 0 (lines_of (seven_in s)) r x → WritesLines D s o (Ok r) x
-      unfolding check_tests line_tests written_answer
-      write-whole h r x y =
-          write-out 5 D s o (Ok r) x accepted.0 accepted.1.0 accepted.1.1.0 of_class_a (rw sized.1 (le-ltb (length o) (least_lines + length t) h)) (ap (λ (k : ℕ). success (k ∷ [])) (y.1 ∙ omega arith)) y.0
+        in_class_a : a ≡ class_a s
+        in_class_a = ha D s facts
+
+        pub other-class : a ≡ false → WritesLines D s o (Err (Refused NotLines)) o
+        unfolding check_tests line_tests written_answer rejection_answer
+        other-class n = write-out 3 D s o _ o formed dated none_broken (ap not (sym in_class_a ∙ n)) refl refl
+
+        -- the room that an accepted sheet of class A asks for
+        module _ (na : a ≡ true) (t : Text) (et : t ≡ text_of s 3) where
+          of_class_a : class_a s ≡ true
+          of_class_a = sym in_class_a ∙ na
+
+          sized : (lines_size s ≡ least_lines + length t) × (length (lines_of (seven_in s)) ≡ least_lines + length t)
+          unfolding keeps_all
+          sized =
+              let k : keeps_all D s ≡ true = none_kept (keeps D s) order order-numbered (eqb-true _ _ (not-false _ none_broken)) in
+              rw et (sizes s (fits-once D s k of_class_a))
+
+          pub too-short : length o < least_lines + length t → WritesLines D s o (Err (Refused WrongSize)) o
+          unfolding check_tests line_tests written_answer rejection_answer
+          too-short h = write-out 4 D s o _ o formed dated none_broken (ap not of_class_a) (rw sized.1 (lt-ltb (length o) (least_lines + length t) h)) refl refl
+
+          pub room_for : least_lines + length t ≤ length o → lines_size s ≤ length o
+          room_for h = rw sized.0 h
+
+          pub write-whole : least_lines + length t ≤ length o → (k : ℕ) (y : List ℕ) → Wrote o 0 (lines_of (seven_in s)) k y → WritesLines D s o (Ok k) y
+          unfolding check_tests line_tests written_answer
+          write-whole h k y z =
+              write-out 5 D s o (Ok k) y formed dated none_broken (ap not of_class_a) (rw sized.1 (le-ltb (length o) (least_lines + length t) h)) (ap (λ (m : ℕ). success (m ∷ [])) (z.1 ∙ omega arith)) z.0

@@ -29,13 +29,14 @@ fn any_status() -> Dates
 }
 
 // A fixed string stands at a place.
-fn has_mark(block: &[u8], at: usize, mark: &[u8]) -> bool
+fn has_mark<const N: usize>(block: &[u8], at: usize, mark: &[u8; N]) -> bool
     ensures { result ≡ starts_with (between block.now at (length block.now)) mark.now }
 {
-    part(block, at, block.len()).starts_with(mark)
+    part(block, at, block.len()).first_chunk() == Some(mark)
 }
 
-// The block has a length that lines can have, and the fixed strings at their places.
+// The block has a length that lines can have, and the fixed strings at their places. By `&` and not `&&`, so that the compiler makes a few
+// comparisons of all of them.
 fn has_marks(block: &[u8]) -> bool
     ensures { result ≡ marked block.now }
 {
@@ -43,17 +44,14 @@ fn has_marks(block: &[u8]) -> bool
     if n < 112 || 137 < n {
         return false;
     }
-    let marks: [(usize, &[u8]); 8] = [
-        (0, b":26T:S"),
-        (8, b"\n:57D://RU"),
-        (27, b"."),
-        (48, b"\n:59:/"),
-        (74, b"\nINN"),
-        (88, b".KPP"),
-        (101, b"\n:72:/UIP/"),
-        (n - 1, b"\n"),
-    ];
-    marks.iter().all(|(at, mark)| has_mark(block, *at, mark))
+    has_mark(block, 0, b":26T:S")
+        & has_mark(block, 8, b"\n:57D://RU")
+        & has_mark(block, 27, b".")
+        & has_mark(block, 48, b"\n:59:/")
+        & has_mark(block, 74, b"\nINN")
+        & has_mark(block, 88, b".KPP")
+        & has_mark(block, 101, b"\n:72:/UIP/")
+        & has_mark(block, n - 1, b"\n")
 }
 
 // The cell of a text.

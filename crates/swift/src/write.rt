@@ -5,10 +5,12 @@ ghost use Rattle.swift.specs.Lines.{ended, seven_in, lines_of};
 ghost use Rattle.swift.specs.Working.Places.{joined, lines_size};
 ghost use Rattle.swift.specs.Promises.{WritesLines};
 
-use rules::check::{Rejection, check};
-use rules::class::Class;
-use sheets::dates::Dates;
-use sheets::sheet::text;
+use rules::check::{Rejection, broken};
+use rules::class::is_class_a;
+use rules::rules::field_of;
+use sheets::dates::{Dates, are_fit};
+use sheets::facts::facts_of;
+use sheets::sheet::{text, well_formed};
 use texts::answers::Refusal;
 use texts::buffers::put;
 
@@ -50,11 +52,21 @@ fn put_lines(out: &mut [u8], sheet: &[u8]) -> usize
     put_line(out, fifth, &[b":72:/UIP/", text(sheet, 3)])
 }
 
-// "For an accepted class A sheet".
+// "For an accepted class A sheet". It asks what `check` asks, and does not call it.
 pub fn write_lines(sheet: &[u8], dates: Dates, buffer: &mut [u8]) -> Result<usize, Rejection>
     ensures { WritesLines dates sheet.now buffer.old result buffer.new }
 {
-    if check(sheet, dates)? != Class::A {
+    if !well_formed(sheet) {
+        return Err(Rejection::Refused(Refusal::Malformed));
+    }
+    if !are_fit(dates) {
+        return Err(Rejection::Refused(Refusal::Undated));
+    }
+    let facts = facts_of(sheet, dates);
+    if let Some(rule) = broken(facts) {
+        return Err(Rejection::Broken(field_of(rule, sheet), rule));
+    }
+    if !is_class_a(facts) {
         return Err(Rejection::Refused(Refusal::NotLines));
     }
     if buffer.len() < SIZE_WITHOUT_CODE + text(sheet, 3).len() {

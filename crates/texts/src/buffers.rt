@@ -7,7 +7,9 @@ pub fn put(dst: &mut [u8], at: usize, src: &[u8])
     ensures { dst.new ≡ put_at dst.old at src.now }
 {
     if at <= dst.len() && src.len() <= dst.len() - at {
-        dst[at..at + src.len()].copy_from_slice(src);
+        for j in 0..src.len() {
+            dst[at + j] = src[j];
+        }
     }
 }
 
