@@ -1,5 +1,5 @@
 -- The promises of `read` and `write`, and their ways out.
-use mathlib.Core.Path.{◌≡◌, sym, ap, ◌∙◌}
+use mathlib.Core.Path.{◌≡◌, refl, sym, ap, ◌∙◌}
 use mathlib.Core.Bool.{Bool, true, false, not}
 use mathlib.Core.List.{List, [], ◌∷◌}
 use Prim.Native.Nat.{ℕ, ◌+◌, ◌-◌, ◌≤◌, ◌<◌}
@@ -17,8 +17,9 @@ use Rattle.texts.specs.Texts.{between}
 use Rattle.texts.specs.Numbers.{big, bytes_of, bytes_at}
 use Rattle.texts.specs.Buffers.{put}
 use Rattle.texts.specs.Working.Writing.{put_at}
-use Rattle.texts.proofs.Puts.{put-fits, put_next, mid-put, drop-put}
+use Rattle.texts.proofs.Puts.{put-fits, put-not, put_next, length-put, mid-put, drop-put}
 use Rattle.texts.proofs.Refusals.{no-success, succeeds, succeeded, unchanged, Way, way_out, tested}
+use Rattle.texts.proofs.Bools.{cases}
 use Rattle.sheets.specs.Sheet.{slot_count, slot_of, text_max}
 use Rattle.drafts.specs.Revision.{known_party}
 use Rattle.drafts.specs.Message.{known_version, opening, body_place, revision_place, revision_size, text_place, head_size, least_l, IsMessage, length_of, version_of, party_of, message_body, message_field, revision_of, message_text, misframed, disallowed, read_tests, read_values, reading_of, read_answer, head_bytes, message_of, allowed, write_tests, writing_of, written_of, write_answer}
@@ -193,7 +194,7 @@ writes-by g t b r e h p q = record {
           ap (drop n) u ∙ drop-put b 0 (message_of w f v t) n (omega arith) (omega (arith, W.room)),
         )
 
--- the head, in either version
+-- the bytes of the head, in either version
 module _ (w f n : ℕ) (v : Revision) (d : List ℕ) (l : ℕ) (ed : d ≡ bytes_of revision_size v.number) (el : l ≡ n + least_l w) where
   pub head-second : w ≡ 2 → take (head_size w) (0 ∷ l ∷ w ∷ v.party.0 ∷ f ∷ get_or d 0 0 ∷ get_or d 1 0 ∷ get_or d 2 0 ∷ get_or d 3 0 ∷ []) ≡ head_bytes w f v n
   unfolding head_bytes opening
@@ -203,13 +204,36 @@ module _ (w f n : ℕ) (v : Revision) (d : List ℕ) (l : ℕ) (ed : d ≡ bytes
   unfolding head_bytes opening
   head_first e = rw (el, ed, ne_eqb w 2 e)
 
-pub head-put : (w f : ℕ) (v : Revision) (t b d c x e : List ℕ) (s : ℕ) → s ≡ head_size w → take (head_size w) d ≡ head_bytes w f v (length t) → c ≡ between d 0 s → x ≡ put_at b 0 c → e ≡ put_at x s t
-    → e ≡ put_at (put_at b 0 (head_bytes w f v (length t))) (head_size w) t
-unfolding between
-head-put w f v t b d c x e s es ed ec ex ee =
-    let z : s - 0 ≡ head_size w = omega arith in
-    let k : c ≡ head_bytes w f v (length t) = ec ∙ rw z ed in
-    ee ∙ rw (ex, k, es)
+-- the head, put where there is room for it: in version 1 the field goes over the party
+pub head-made : (w f n : ℕ) (v : Revision) (b d x y z : List ℕ) (l k s : ℕ) → s ≡ head_size w → s ≤ length b → d ≡ bytes_of revision_size v.number → k ≡ body_place w → l ≡ n + least_l w
+    → x ≡ put_at b 0 (0 ∷ l ∷ w ∷ v.party.0 ∷ [])
+    → y ≡ put_at x k (f ∷ [])
+    → z ≡ put_at y (k + revision_place) d
+    → z ≡ put_at b 0 (head_bytes w f v n)
+unfolding head_bytes opening put
+head-made w f n v b d x y z l k s es u ed ek el ex ey ez = ez ∙ cases (eqb w 2) second first ∙ sym (put-fits b 0 (head_bytes w f v n) (omega (arith, length-head w f v n)))
+  where
+    begun : x ≡ put b 0 (0 ∷ l ∷ w ∷ v.party.0 ∷ [])
+    begun = ex ∙ put-fits b 0 (0 ∷ l ∷ w ∷ v.party.0 ∷ []) (omega (arith, placed w))
+
+    long : length d ≡ revision_size
+    long = ap length ed
+
+    second : eqb w 2 ≡ true → put_at y (k + revision_place) d ≡ put b 0 (head_bytes w f v n)
+    second q =
+        let m : body_place w ≡ 4 = rw q in
+        let g : y ≡ put b 0 (0 ∷ l ∷ w ∷ v.party.0 ∷ f ∷ []) = ey ∙ rw (ek, m) (put_next b (0 ∷ l ∷ w ∷ v.party.0 ∷ []) (f ∷ []) x 4 refl (omega arith) begun) in
+        rw (ek, ← el, ← ed, q) (put_next b (0 ∷ l ∷ w ∷ v.party.0 ∷ f ∷ []) d y 5 refl (omega (arith, long)) g)
+
+    first : eqb w 2 ≡ false → put_at y (k + revision_place) d ≡ put b 0 (head_bytes w f v n)
+    first q =
+        let m : body_place w ≡ 3 = rw q in
+        let o : length x ≡ length b = ap length begun ∙ length-put b 0 (0 ∷ l ∷ w ∷ v.party.0 ∷ []) (omega arith) in
+        let g : y ≡ put b 0 (0 ∷ l ∷ w ∷ f ∷ []) = ey ∙ rw (ek, m) (put-fits x 3 (f ∷ []) (omega arith) ∙ rw begun) in
+        rw (ek, ← el, ← ed, q) (put_next b (0 ∷ l ∷ w ∷ f ∷ []) d y 4 refl (omega (arith, long)) g)
+
+pub head-short : (w f n : ℕ) (v : Revision) (b : List ℕ) (s : ℕ) → s ≡ head_size w → length b < s → b ≡ put_at b 0 (head_bytes w f v n)
+head-short w f n v b s es u = sym (put-not b 0 (head_bytes w f v n) (omega (arith, length-head w f v n)))
 
 -- the ways out of `write`
 pub write-out : (k : ℕ) (g : Heading) (t b : List ℕ) (r : Result ℕ Refusal) (e : List ℕ) → Fits w32 g.revision.number
@@ -236,6 +260,6 @@ message-put w f v t b e s ee es u =
     let c = head_bytes w f v (length t) in
     ee ∙ put_next b c t (put_at b 0 c) (head_size w) (length-head w f v (length t)) (omega arith) (put-fits b 0 c (omega (arith, length-head w f v (length t))))
 
-pub ruleset heads = (rules, head-second, head_first, head-put, body_is, text-is)
+pub ruleset heads = (rules, head-made, head-short, body_is, text-is)
 
 pub ruleset writing = (rules, tested, sum_fits, known_as, allowed-as, field-as, room_as, size_is, message-put)

@@ -173,33 +173,30 @@ pub fn message_text(message: &[u8]) -> &[u8]
     part(body, TEXT_PLACE, body.len())
 }
 
-// The bytes before a text of n bytes, at the start of an array that has room for the longest head.
+// Puts the bytes before a text of n bytes at the buffer's start, where they fit. The field of version 1 stands where the party of version 2
+// does.
+#[inline(always)]
 #[tactic(auto, using(crate::proofs::MessagePromises::heads))]
-fn head(heading: Heading, n: usize) -> [u8; HEAD_MOST]
+fn put_head(heading: Heading, n: usize, buffer: &mut [u8])
     requires { n ≤ text_max }
-    ensures { take (head_size heading.version.0) result ≡ head_bytes heading.version.0 heading.field.0 heading.revision n }
+    ensures { buffer.new ≡ put_at buffer.old 0 (head_bytes heading.version.0 heading.field.0 heading.revision n) }
 {
     let Heading {
         version,
         field,
         revision,
     } = heading;
-    let l = (version.head_size() - 2 + n) as u8;
-    let d = bytes_of::<4>(u64::from(revision.number));
-    if version.0 == 2 {
-        [
-            0,
-            l,
-            version.0,
-            revision.party.0,
-            field.0,
-            d[0],
-            d[1],
-            d[2],
-            d[3],
-        ]
-    } else {
-        [0, l, version.0, field.0, d[0], d[1], d[2], d[3], 0]
+    let size = version.head_size();
+    if size <= buffer.len() {
+        let l = size - 2 + n;
+        let place = version.body_place();
+        put(buffer, 0, &[0, l as u8, version.0, revision.party.0]);
+        put(buffer, place, &[field.0]);
+        put(
+            buffer,
+            place + REVISION_PLACE,
+            &bytes_of::<4>(u64::from(revision.number)),
+        );
     }
 }
 
@@ -210,8 +207,7 @@ fn put_message(heading: Heading, text: &[u8], buffer: &mut [u8])
     ensures { buffer.new ≡ put_at (put_at buffer.old 0 (head_bytes heading.version.0 heading.field.0 heading.revision (length text.now))) (head_size heading.version.0) text.now }
 {
     let size = heading.version.head_size();
-    let h = head(heading, text.len());
-    put(buffer, 0, part(&h, 0, size));
+    put_head(heading, text.len(), buffer);
     put(buffer, size, text);
 }
 
