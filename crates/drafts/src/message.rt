@@ -174,7 +174,7 @@ pub fn message_text(message: &[u8]) -> &[u8]
 }
 
 // Puts the bytes before a text of n bytes at the buffer's start, where they fit. The field of version 1 stands where the party of version 2
-// does.
+// does. It is compiled into `put_message`, and that into `write`, which has the heading's parts at hand.
 #[inline(always)]
 #[tactic(auto, using(crate::proofs::MessagePromises::heads))]
 fn put_head(heading: Heading, n: usize, buffer: &mut [u8])
@@ -200,7 +200,7 @@ fn put_head(heading: Heading, n: usize, buffer: &mut [u8])
     }
 }
 
-// Puts a message's head and its text at the buffer's start. It is compiled into `write`, which has the heading's parts at hand.
+// Puts a message's head and its text at the buffer's start.
 #[inline(always)]
 fn put_message(heading: Heading, text: &[u8], buffer: &mut [u8])
     requires { length text.now ≤ text_max }
